@@ -1,0 +1,6 @@
+pub mod Words
+pub mod Numbers
+pub mod Outputs
+pub mod Copy
+pub mod Same
+pub mod Rules

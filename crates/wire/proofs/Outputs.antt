@@ -1,0 +1,193 @@
+-- Laws of a lent output: l is the output at entry, at the place, bs what is laid there.
+use mathlib.Core.Path.{_≡_, refl, ap, sym, _∙_}
+use mathlib.Core.List.{List, [], _∷_, _++_, append-assoc, append-nil}
+use mathlib.Core.Bool.{Bool, true, false}
+use Prim.Native.Nat.{ℕ, zero, suc, _+_, _*_, _/_, _%_, _-_, _^_, _≤_, _<_}
+use native.Mathlib.Omega.{arith}
+use native.Mathlib.Numerals.{towards-suc}
+use native.Mathlib.Nat.{add-zero}
+use lib.ListN.{length, getD, take, drop, set, length-append, length-take, length-drop, take-append-drop}
+use lib.Seq.{take-at, drop-at, drop-append-add, drop-drop, length-take-le, sets, sets-eq}
+use lib.Dec.{leb, eqb}
+use borrow.Author.Tests.{le-leb, lt-leb, leb-true, leb-false, eq-eqb, ne-eqb}
+use Rattle.wire.specs.Choice.{if_then_else_}
+use Rattle.wire.specs.Refusals.{outputShort}
+use Rattle.wire.specs.Words.{Words, says, refuses}
+use Rattle.wire.specs.Bytes.{number, bytes}
+use Rattle.wire.specs.declared.output.Written.{Written}
+use Rattle.wire.specs.declared.output.Written.the-variants.{Wrote, Refused}
+use Rattle.wire.specs.Output.{Writing, wrote, writtenWords, put, writeRefusal, writeAnswer, writeOutput, layAnswer, Outside, ReadsBack, AdjacentAreOne, OnlyItsBytes, TellsApart}
+use Rattle.wire.proofs.Words.{which-of, refusal-of, values-of}
+use Rattle.wire.proofs.Numbers.{length-bytes, number-bytes}
+
+-- ---- `put` by itself
+
+pub put-room : (l : List ℕ) (at : ℕ) (bs : List ℕ) → at + length bs ≤ length l → put l at bs ≡ take at l ++ bs ++ drop (at + length bs) l
+unfolding put
+put-room l at bs h = rw (le-leb _ _ h)
+
+pub put-none : (l : List ℕ) (at : ℕ) (bs : List ℕ) → length l < at + length bs → put l at bs ≡ l
+unfolding put
+put-none l at bs h = rw (lt-leb _ _ h)
+
+put-length-room : (l : List ℕ) (at : ℕ) (bs : List ℕ) → at + length bs ≤ length l → length (put l at bs) ≡ length l
+put-length-room l at bs h =
+    omega (arith, ap length (put-room l at bs h), length-append (take at l ++ bs) (drop (at + length bs) l), length-append (take at l) bs, length-take at l, length-drop (at + length bs) l)
+
+-- a fact of `put` that holds with room and without it
+module _ (l : List ℕ) (at : ℕ) (bs : List ℕ) where
+  either : (P : Type 0) → (at + length bs ≤ length l → P) → (length l < at + length bs → P) → P
+  either P f g = go (leb (at + length bs) (length l)) refl
+    where
+      go : (b : Bool) → leb (at + length bs) (length l) ≡ b → P
+      go true e = f (leb-true _ _ e)
+      go false e = g (leb-false _ _ e)
+
+pub length-put : (l : List ℕ) (at : ℕ) (bs : List ℕ) → length (put l at bs) ≡ length l
+length-put l at bs = either l at bs _ (put-length-room l at bs) (λ h. ap length (put-none l at bs h))
+
+-- what stands before the place, with what was laid there
+take-laid : (l : List ℕ) (at : ℕ) (bs : List ℕ) → at + length bs ≤ length l → length (take at l ++ bs) ≡ at + length bs
+take-laid l at bs h = omega (arith, length-append (take at l) bs, length-take at l)
+
+-- a write changes nothing outside its bytes
+pub only-its-bytes : OnlyItsBytes
+only-its-bytes l at bs = either l at bs _ room none
+  where
+    room : at + length bs ≤ length l → Outside l (put l at bs) at (at + length bs)
+    room h =
+        let e = put-room l at bs h in
+        let k : length (take at l) ≡ at = length-take-le at l (omega arith) in
+        record {
+          size = length-put l at bs;
+          before = rw (e, append-assoc (take at l) bs (drop (at + length bs) l)) (take-at (take at l) (bs ++ drop (at + length bs) l) at k);
+          behind = rw e (drop-at (take at l ++ bs) (drop (at + length bs) l) (at + length bs) (take-laid l at bs h));
+        }
+
+    none : length l < at + length bs → Outside l (put l at bs) at (at + length bs)
+    none h =
+        let e = put-none l at bs h in
+        record { size = length-put l at bs; before = ap (take at) e; behind = ap (drop (at + length bs)) e }
+
+-- two adjacent writes are one
+pub put-put : AdjacentAreOne
+put-put l at a b h =
+    let h₁ : at + length a ≤ length l = omega arith in
+    let e₁ = put-room l at a h₁ in
+    let n₁ = length-put l at a in
+    let e₂ = put-room (put l at a) (at + length a) b (omega arith) in
+    let n = length-append a b in
+    let e₃ = put-room l at (a ++ b) (omega arith) in
+    let q = take-laid l at a h₁ in
+    let t : take (at + length a) (put l at a) ≡ take at l ++ a = rw e₁ (take-at (take at l ++ a) (drop (at + length a) l) (at + length a) q) in
+    let d : drop (at + length a + length b) (put l at a) ≡ drop (at + length a + length b) l =
+    rw (e₁, ← q) (drop-append-add (take at l ++ a) (drop (length (take at l ++ a)) l) (length b) ∙ drop-drop (length b) (length (take at l ++ a)) l) in
+    let m : at + length (a ++ b) ≡ at + length a + length b = omega arith in
+    rw (e₂, t, d, e₃, m) (simp append-assoc)
+
+-- no bytes change nothing
+pub put-empty : (l : List ℕ) (at : ℕ) → put l at [] ≡ l
+put-empty l at = either l at [] _ (λ h. put-room l at [] h ∙ rw (append-nil (take at l), add-zero at) (take-append-drop at l)) (put-none l at [])
+
+-- what is written reads back
+pub reads-back : ReadsBack
+reads-back n v l at small h =
+    let e = length-bytes n v in
+    let g = length-take-le at l (omega arith) in
+    rw (put-room l at (bytes n v) (omega arith)) (simp append-assoc (rw g at (number-bytes n v small (take at l) (drop (at + length (bytes n v)) l))))
+
+-- ---- every writer
+
+module _ (l : List ℕ) (at : ℕ) (bs : List ℕ) where
+  refusal-ground : (g : ℕ) → (g ≡ 0 → ⊥) → writeRefusal g l at bs ≡ g
+  unfolding writeRefusal
+  refusal-ground g z = simp (ne-eqb _ _ z)
+
+  refusal-room : at + length bs ≤ length l → writeRefusal 0 l at bs ≡ 0
+  unfolding writeRefusal
+  refusal-room h = simp (le-leb _ _ h)
+
+  refusal-short : length l < at + length bs → writeRefusal 0 l at bs ≡ outputShort
+  unfolding writeRefusal
+  refusal-short h = simp (lt-leb _ _ h)
+
+  pub answer-ground : (g : ℕ) → (g ≡ 0 → ⊥) → refuses g ≡ writeAnswer g l at bs
+  unfolding writeAnswer
+  answer-ground g z = simp (refusal-ground g z, ne-eqb _ _ z)
+
+  pub output-ground : (g : ℕ) → (g ≡ 0 → ⊥) → l ≡ writeOutput g l at bs
+  unfolding writeOutput
+  output-ground g z = simp (refusal-ground g z, ne-eqb _ _ z)
+
+  pub answer-short : length l < at + length bs → refuses outputShort ≡ writeAnswer 0 l at bs
+  unfolding writeAnswer
+  answer-short h = simp (refusal-short h)
+
+  pub output-short : length l < at + length bs → l ≡ writeOutput 0 l at bs
+  unfolding writeOutput
+  output-short h = simp (refusal-short h)
+
+  pub answer-done : at + length bs ≤ length l → says wrote (length bs ∷ []) ≡ writeAnswer 0 l at bs
+  unfolding writeAnswer
+  answer-done h = simp (refusal-room h)
+
+  pub output-done : at + length bs ≤ length l → put l at bs ≡ writeOutput 0 l at bs
+  unfolding writeOutput
+  output-done h = simp (refusal-room h)
+
+-- ---- as the code of `put16`, `put64` and `put_bytes` has them: r is the answer, i the place, n the size
+
+module _ (l : List ℕ) (at : ℕ) (bs : List ℕ) (n : ℕ) where
+  pub lay-beyond : length l < at → refuses outputShort ≡ layAnswer l at bs
+  lay-beyond h = answer-short l at bs (omega arith)
+
+  pub lay-none-beyond : length l < at → l ≡ put l at bs
+  lay-none-beyond h = sym (put-none l at bs (omega arith))
+
+  pub lay-over : at ≤ length l → length l - at < n → n ≡ length bs → refuses outputShort ≡ layAnswer l at bs
+  lay-over f h e = answer-short l at bs (omega arith)
+
+  pub lay-none-over : at ≤ length l → length l - at < n → n ≡ length bs → l ≡ put l at bs
+  lay-none-over f h e = sym (put-none l at bs (omega arith))
+
+  pub lay-done : at ≤ length l → n ≤ length l - at → n ≡ length bs → says wrote (n ∷ []) ≡ layAnswer l at bs
+  lay-done f h e = rw e (answer-done l at bs (omega arith))
+
+pub size-bytes : (n v : ℕ) → n ≡ length (bytes n v)
+size-bytes n v = sym (length-bytes n v)
+
+-- the words of an answer, from the answer
+pub words-refused : (r : ℕ) (w : Words Writing) → refuses r ≡ w → writtenWords (Refused (record { number = r })) ≡ w
+unfolding writtenWords
+words-refused r w e = e
+
+pub words-wrote : (n : ℕ) (w : Words Writing) → says wrote (n ∷ []) ≡ w → writtenWords (Wrote n) ≡ w
+unfolding writtenWords
+words-wrote n w e = e
+
+-- stores one after the other are a `put`, where there is room
+sets-put : (bs l : List ℕ) (at : ℕ) → at + length bs ≤ length l → sets l at bs ≡ put l at bs
+sets-put bs l at h = sets-eq bs l at h ∙ sym (put-room l at bs h)
+
+pub stores-2 : (l : List ℕ) (at v : ℕ) → at ≤ length l → 2 ≤ length l - at
+    → set (set l at (v / 256 % 256)) (at + 1) (v % 256) ≡ put l at (bytes 2 v)
+unfolding bytes
+stores-2 l at v f h = simp towards-suc (sets-put (bytes 2 v) l at (omega arith))
+
+pub stores-8 : (l : List ℕ) (at v : ℕ) → at ≤ length l → 8 ≤ length l - at
+    → set (set (set (set (set (set (set (set l at (v / 256 / 256 / 256 / 256 / 256 / 256 / 256 % 256))
+    (at + 1) (v / 256 / 256 / 256 / 256 / 256 / 256 % 256)) (at + 2) (v / 256 / 256 / 256 / 256 / 256 % 256))
+    (at + 3) (v / 256 / 256 / 256 / 256 % 256)) (at + 4) (v / 256 / 256 / 256 % 256)) (at + 5) (v / 256 / 256 % 256))
+    (at + 6) (v / 256 % 256)) (at + 7) (v % 256)
+    ≡ put l at (bytes 8 v)
+unfolding bytes
+stores-8 l at v f h = simp towards-suc (sets-put (bytes 8 v) l at (omega arith))
+
+-- ---- the words tell all answers apart
+
+pub tells-apart : TellsApart
+unfolding writtenWords
+tells-apart (Wrote n) (Wrote m) e = let v = values-of e in cc
+tells-apart (Wrote n) (Refused r) e = let w = which-of e in let z : _≡_ {A = ℕ} 0 1 = cc in absurd (omega arith)
+tells-apart (Refused r) (Wrote n) e = let w = which-of e in let z : _≡_ {A = ℕ} 0 1 = cc in absurd (omega arith)
+tells-apart (Refused r) (Refused s) e = ap (λ k. Refused (record { number = k })) (refusal-of e)

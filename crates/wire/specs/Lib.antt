@@ -1,0 +1,5 @@
+pub mod Choice
+pub mod Refusals
+pub mod Words
+pub mod Bytes
+pub mod Output

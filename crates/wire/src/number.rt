@@ -1,0 +1,63 @@
+// Big-endian numbers read from a slice, the most significant byte first. A byte past the end counts as 0, so that every
+// place of every slice has a number and no caller has to test before it reads.
+use crate::kinds::ByteOffset;
+ghost use mathlib.Core.Path.{_≡_};
+ghost use Prim.Native.Nat.{_+_, _*_};
+ghost use lib.ListN.{getD};
+ghost use Rattle.wire.specs.Bytes.{number};
+
+fn join16(a: u8, b: u8) -> u16
+    ensures { λ r. ⌜ r ≡ a * 256 + b ⌝ }
+{
+    (a as u16) * 256 + (b as u16)
+}
+
+fn join64(a: u8, b: u8, c: u8, d: u8, e: u8, f: u8, g: u8, h: u8) -> u64
+    ensures { λ r. ⌜ r ≡ ((((((a * 256 + b) * 256 + c) * 256 + d) * 256 + e) * 256 + f) * 256 + g) * 256 + h ⌝ }
+{
+    (a as u64) * 72057594037927936
+        + (b as u64) * 281474976710656
+        + (c as u64) * 1099511627776
+        + (d as u64) * 4294967296
+        + (e as u64) * 16777216
+        + (f as u64) * 65536
+        + (g as u64) * 256
+        + (h as u64)
+}
+
+fn byte(s: &[u8], at: usize) -> u8
+    ensures { λ r. ⌜ r ≡ getD (now (s .entry)) at 0 ⌝ }
+{
+    if at < s.len() { s[at] } else { 0 }
+}
+
+// The 16-bit number at a place.
+pub fn be16(s: &[u8], at: ByteOffset) -> u16
+    ensures { λ r. ⌜ r ≡ number (now (s .entry)) (at .0) 2 ⌝ }
+{
+    let i = at.0;
+    if s.len() <= i {
+        return 0;
+    }
+    join16(byte(s, i), byte(s, i + 1))
+}
+
+// The 64-bit number at a place: the one leaf that reads an eight-byte number.
+pub fn be64(s: &[u8], at: ByteOffset) -> u64
+    ensures { λ r. ⌜ r ≡ number (now (s .entry)) (at .0) 8 ⌝ }
+{
+    let i = at.0;
+    if s.len() <= i {
+        return 0;
+    }
+    join64(
+        byte(s, i),
+        byte(s, i + 1),
+        byte(s, i + 2),
+        byte(s, i + 3),
+        byte(s, i + 4),
+        byte(s, i + 5),
+        byte(s, i + 6),
+        byte(s, i + 7),
+    )
+}
