@@ -9,14 +9,14 @@ use native.Mathlib.Nat.{add-zero}
 use lib.ListN.{length, getD, take, drop, set, length-append, length-take, length-drop, take-append-drop}
 use lib.Seq.{take-at, drop-at, drop-append-add, drop-drop, length-take-le, sets, sets-eq}
 use lib.Dec.{leb, eqb}
-use borrow.Author.Tests.{le-leb, lt-leb, leb-true, leb-false, eq-eqb, ne-eqb}
+use borrow.Author.Tests.{le-leb, lt-leb, leb-true, leb-false, eq-eqb, ne-eqb, eqb-true}
 use Rattle.wire.specs.Choice.{if_then_else_}
 use Rattle.wire.specs.Refusals.{outputShort}
-use Rattle.wire.specs.Words.{Words, says, refuses}
+use Rattle.wire.specs.Words.{Words, answer, refused, says, refuses}
 use Rattle.wire.specs.Bytes.{number, bytes}
 use Rattle.wire.specs.declared.output.Written.{Written}
 use Rattle.wire.specs.declared.output.Written.the-variants.{Wrote, Refused}
-use Rattle.wire.specs.Output.{Writing, wrote, writtenWords, put, writeRefusal, writeAnswer, writeOutput, layAnswer, Outside, ReadsBack, AdjacentAreOne, OnlyItsBytes, TellsApart}
+use Rattle.wire.specs.Output.{Writing, wrote, writtenWords, put, writeRefusal, writeAnswer, writeOutput, Writes, Outside, ReadsBack, AdjacentAreOne, OnlyItsBytes, RefusalWritesNothing, TellsApart, OutputLaws}
 use Rattle.wire.proofs.Words.{which-of, refusal-of, values-of}
 use Rattle.wire.proofs.Numbers.{length-bytes, number-bytes}
 
@@ -51,7 +51,8 @@ take-laid : (l : List ℕ) (at : ℕ) (bs : List ℕ) → at + length bs ≤ len
 take-laid l at bs h = omega (arith, length-append (take at l) bs, length-take at l)
 
 -- a write changes nothing outside its bytes
-pub only-its-bytes : OnlyItsBytes
+only-its-bytes : OnlyItsBytes
+unfolding OnlyItsBytes
 only-its-bytes l at bs = either l at bs _ room none
   where
     room : at + length bs ≤ length l → Outside l (put l at bs) at (at + length bs)
@@ -70,7 +71,8 @@ only-its-bytes l at bs = either l at bs _ room none
         record { size = length-put l at bs; before = ap (take at) e; behind = ap (drop (at + length bs)) e }
 
 -- two adjacent writes are one
-pub put-put : AdjacentAreOne
+pub put-put : (l : List ℕ) (at : ℕ) (a b : List ℕ) → at + length a + length b ≤ length l
+    → put (put l at a) (at + length a) b ≡ put l at (a ++ b)
 put-put l at a b h =
     let h₁ : at + length a ≤ length l = omega arith in
     let e₁ = put-room l at a h₁ in
@@ -85,12 +87,17 @@ put-put l at a b h =
     let m : at + length (a ++ b) ≡ at + length a + length b = omega arith in
     rw (e₂, t, d, e₃, m) (simp append-assoc)
 
+adjacent-are-one : AdjacentAreOne
+unfolding AdjacentAreOne
+adjacent-are-one = put-put
+
 -- no bytes change nothing
 pub put-empty : (l : List ℕ) (at : ℕ) → put l at [] ≡ l
 put-empty l at = either l at [] _ (λ h. put-room l at [] h ∙ rw (append-nil (take at l), add-zero at) (take-append-drop at l)) (put-none l at [])
 
 -- what is written reads back
-pub reads-back : ReadsBack
+reads-back : ReadsBack
+unfolding ReadsBack
 reads-back n v l at small h =
     let e = length-bytes n v in
     let g = length-take-le at l (omega arith) in
@@ -111,59 +118,55 @@ module _ (l : List ℕ) (at : ℕ) (bs : List ℕ) where
   unfolding writeRefusal
   refusal-short h = simp (lt-leb _ _ h)
 
-  pub answer-ground : (g : ℕ) → (g ≡ 0 → ⊥) → refuses g ≡ writeAnswer g l at bs
-  unfolding writeAnswer
-  answer-ground g z = simp (refusal-ground g z, ne-eqb _ _ z)
+  -- g applies
+  pub writes-ground : (g : ℕ) → (g ≡ 0 → ⊥) → Writes (Refused (record { number = g })) l l g at bs
+  unfolding writtenWords writeAnswer
+  writes-ground g z = record { answers = simp (refusal-ground g z, ne-eqb _ _ z); leaves = simp (ne-eqb _ _ z) }
 
-  pub output-ground : (g : ℕ) → (g ≡ 0 → ⊥) → l ≡ writeOutput g l at bs
-  unfolding writeOutput
-  output-ground g z = simp (refusal-ground g z, ne-eqb _ _ z)
+  -- none applies, and there is no room
+  pub writes-short : length l < at + length bs → Writes (Refused (record { number = outputShort })) l l 0 at bs
+  unfolding writtenWords writeAnswer
+  writes-short h = record { answers = simp (refusal-short h); leaves = sym (put-none l at bs h) }
 
-  pub answer-short : length l < at + length bs → refuses outputShort ≡ writeAnswer 0 l at bs
-  unfolding writeAnswer
-  answer-short h = simp (refusal-short h)
+  -- none applies, and there is room
+  pub writes-done : (m : List ℕ) → at + length bs ≤ length l → m ≡ put l at bs → Writes (Wrote (length bs)) l m 0 at bs
+  unfolding writtenWords writeAnswer
+  writes-done m h e = record { answers = simp (refusal-room h); leaves = e }
 
-  pub output-short : length l < at + length bs → l ≡ writeOutput 0 l at bs
-  unfolding writeOutput
-  output-short h = simp (refusal-short h)
+  refusal-writes-nothing : (r : Written) (m : List ℕ) (g : ℕ) → Writes r l m g at bs → writtenWords r .which ≡ refused → m ≡ l
+  unfolding writtenWords writeAnswer
+  refusal-writes-nothing r m g w e = go (eqb g 0) refl
+    where
+      go : (b : Bool) → eqb g 0 ≡ b → m ≡ l
+      go false f = w .leaves ∙ rw f
+      go true f = either l at bs _ room (λ h. w .leaves ∙ rw f (put-none l at bs h))
+        where
+          room : at + length bs ≤ length l → m ≡ l
+          room h =
+              let z : g ≡ 0 = eqb-true _ _ f in
+              let v : writtenWords r ≡ says wrote (length bs ∷ []) = w .answers ∙ rw (z, refusal-room h) in
+              let c : answer wrote ≡ refused = sym (which-of v) ∙ e in
+              let k : _≡_ {A = ℕ} 0 1 = cc in
+              absurd (omega arith)
 
-  pub answer-done : at + length bs ≤ length l → says wrote (length bs ∷ []) ≡ writeAnswer 0 l at bs
-  unfolding writeAnswer
-  answer-done h = simp (refusal-room h)
+refusal-nothing : RefusalWritesNothing
+unfolding RefusalWritesNothing
+refusal-nothing r l m g at bs w e = refusal-writes-nothing l at bs r m g w e
 
-  pub output-done : at + length bs ≤ length l → put l at bs ≡ writeOutput 0 l at bs
-  unfolding writeOutput
-  output-done h = simp (refusal-room h)
+-- ---- as the code of `put16`, `put64` and `put_bytes` has them: n is the size
 
--- ---- as the code of `put16`, `put64` and `put_bytes` has them: r is the answer, i the place, n the size
+module _ (l : List ℕ) (at : ℕ) (bs : List ℕ) where
+  pub lay-beyond : length l < at → Writes (Refused (record { number = outputShort })) l l 0 at bs
+  lay-beyond h = writes-short l at bs (omega arith)
 
-module _ (l : List ℕ) (at : ℕ) (bs : List ℕ) (n : ℕ) where
-  pub lay-beyond : length l < at → refuses outputShort ≡ layAnswer l at bs
-  lay-beyond h = answer-short l at bs (omega arith)
+  pub lay-over : (n : ℕ) → at ≤ length l → length l - at < n → n ≡ length bs → Writes (Refused (record { number = outputShort })) l l 0 at bs
+  lay-over n f h e = writes-short l at bs (omega arith)
 
-  pub lay-none-beyond : length l < at → l ≡ put l at bs
-  lay-none-beyond h = sym (put-none l at bs (omega arith))
-
-  pub lay-over : at ≤ length l → length l - at < n → n ≡ length bs → refuses outputShort ≡ layAnswer l at bs
-  lay-over f h e = answer-short l at bs (omega arith)
-
-  pub lay-none-over : at ≤ length l → length l - at < n → n ≡ length bs → l ≡ put l at bs
-  lay-none-over f h e = sym (put-none l at bs (omega arith))
-
-  pub lay-done : at ≤ length l → n ≤ length l - at → n ≡ length bs → says wrote (n ∷ []) ≡ layAnswer l at bs
-  lay-done f h e = rw e (answer-done l at bs (omega arith))
+  pub lay-done : (n : ℕ) (m : List ℕ) → at ≤ length l → n ≤ length l - at → n ≡ length bs → m ≡ put l at bs → Writes (Wrote n) l m 0 at bs
+  lay-done n m f h e d = rw e (writes-done l at bs m (omega arith) d)
 
 pub size-bytes : (n v : ℕ) → n ≡ length (bytes n v)
 size-bytes n v = sym (length-bytes n v)
-
--- the words of an answer, from the answer
-pub words-refused : (r : ℕ) (w : Words Writing) → refuses r ≡ w → writtenWords (Refused (record { number = r })) ≡ w
-unfolding writtenWords
-words-refused r w e = e
-
-pub words-wrote : (n : ℕ) (w : Words Writing) → says wrote (n ∷ []) ≡ w → writtenWords (Wrote n) ≡ w
-unfolding writtenWords
-words-wrote n w e = e
 
 -- stores one after the other are a `put`, where there is room
 sets-put : (bs l : List ℕ) (at : ℕ) → at + length bs ≤ length l → sets l at bs ≡ put l at bs
@@ -185,9 +188,19 @@ stores-8 l at v f h = simp towards-suc (sets-put (bytes 8 v) l at (omega arith))
 
 -- ---- the words tell all answers apart
 
-pub tells-apart : TellsApart
-unfolding writtenWords
+tells-apart : TellsApart
+unfolding TellsApart writtenWords
 tells-apart (Wrote n) (Wrote m) e = let v = values-of e in cc
 tells-apart (Wrote n) (Refused r) e = let w = which-of e in let z : _≡_ {A = ℕ} 0 1 = cc in absurd (omega arith)
 tells-apart (Refused r) (Wrote n) e = let w = which-of e in let z : _≡_ {A = ℕ} 0 1 = cc in absurd (omega arith)
 tells-apart (Refused r) (Refused s) e = ap (λ k. Refused (record { number = k })) (refusal-of e)
+
+pub output-laws : OutputLaws
+output-laws =
+    record {
+      reads-back = reads-back;
+      adjacent-are-one = adjacent-are-one;
+      only-its-bytes = only-its-bytes;
+      refusal-writes-nothing = refusal-nothing;
+      tells-apart = tells-apart;
+    }

@@ -6,7 +6,7 @@ use lib.ListN.{length, take, drop}
 use lib.Dec.{leb, eqb}
 use Rattle.wire.specs.Choice.{if_then_else_}
 use Rattle.wire.specs.Refusals.{outputShort}
-use Rattle.wire.specs.Words.{Words, says, refuses, Injective}
+use Rattle.wire.specs.Words.{Words, refused, says, refuses, Injective}
 use Rattle.wire.specs.Bytes.{number, bytes}
 use Rattle.wire.specs.declared.output.Written.{Written}
 use Rattle.wire.specs.declared.output.Written.the-variants.{Wrote, Refused}
@@ -23,7 +23,7 @@ writtenWords (Refused r) = refuses (r .number)
 unfoldable pub put : List ℕ → ℕ → List ℕ → List ℕ
 put l at bs = if leb (at + length bs) (length l) then take at l ++ bs ++ drop (at + length bs) l else l
 
--- ---- every writer: g is its own ground for refusing what it was given (0: none), bs its bytes, l the output at entry
+-- ---- every writer: g is its own ground for refusing what it was given (0: none), at the place, bs its bytes
 
 -- 41 comes after every other ground
 unfoldable pub writeRefusal : ℕ → List ℕ → ℕ → List ℕ → ℕ
@@ -34,22 +34,22 @@ writeAnswer g l at bs =
     if eqb (writeRefusal g l at bs) 0 then says wrote (length bs ∷ [])
     else refuses (writeRefusal g l at bs)
 
--- a refusal leaves the output as it was
-unfoldable pub writeOutput : ℕ → List ℕ → ℕ → List ℕ → List ℕ
-writeOutput g l at bs = if eqb (writeRefusal g l at bs) 0 then put l at bs else l
+abbrev pub writeOutput : ℕ → List ℕ → ℕ → List ℕ → List ℕ
+writeOutput g l at bs = if eqb g 0 then put l at bs else l
 
--- a leaf has no ground but 41
-abbrev pub layAnswer : List ℕ → ℕ → List ℕ → Words Writing
-layAnswer l at bs = writeAnswer 0 l at bs
+-- the promise of a writer that answers r and turns the output l into m
+pub record Writes (r : Written) (l m : List ℕ) (g at : ℕ) (bs : List ℕ) : Type 0 where
+  pub answers : writtenWords r ≡ writeAnswer g l at bs
+  pub leaves : m ≡ writeOutput g l at bs
 
 -- ---- what is promised of every output, over the width
 
 -- what is written reads back
-abbrev pub ReadsBack : Type 0
+unfoldable pub ReadsBack : Type 0
 ReadsBack = (n v : ℕ) (l : List ℕ) (at : ℕ) → v < 256 ^ n → at + n ≤ length l → number (put l at (bytes n v)) at n ≡ v
 
 -- two adjacent writes are one
-abbrev pub AdjacentAreOne : Type 0
+unfoldable pub AdjacentAreOne : Type 0
 AdjacentAreOne = (l : List ℕ) (at : ℕ) (a b : List ℕ) → at + length a + length b ≤ length l
     → put (put l at a) (at + length a) b ≡ put l at (a ++ b)
 
@@ -59,9 +59,21 @@ pub record Outside (l m : List ℕ) (from to : ℕ) : Type 0 where
   pub before : take from m ≡ take from l
   pub behind : drop to m ≡ drop to l
 
-abbrev pub OnlyItsBytes : Type 0
+unfoldable pub OnlyItsBytes : Type 0
 OnlyItsBytes = (l : List ℕ) (at : ℕ) (bs : List ℕ) → Outside l (put l at bs) at (at + length bs)
 
+-- a refusal writes nothing
+unfoldable pub RefusalWritesNothing : Type 0
+RefusalWritesNothing = (r : Written) (l m : List ℕ) (g at : ℕ) (bs : List ℕ) → Writes r l m g at bs
+    → (writtenWords r .which ≡ refused) → m ≡ l
+
 -- the words of a writer's answer tell all answers apart
-abbrev pub TellsApart : Type 0
+unfoldable pub TellsApart : Type 0
 TellsApart = Injective writtenWords
+
+pub record OutputLaws : Type 0 where
+  pub reads-back : ReadsBack
+  pub adjacent-are-one : AdjacentAreOne
+  pub only-its-bytes : OnlyItsBytes
+  pub refusal-writes-nothing : RefusalWritesNothing
+  pub tells-apart : TellsApart

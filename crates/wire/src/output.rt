@@ -2,9 +2,8 @@
 use crate::kinds::ByteOffset;
 use crate::refusal;
 use crate::refusal::Refusal;
-ghost use mathlib.Core.Path.{_≡_};
 ghost use Rattle.wire.specs.Bytes.{bytes};
-ghost use Rattle.wire.specs.Output.{put, writtenWords, layAnswer, ReadsBack, AdjacentAreOne, OnlyItsBytes, TellsApart};
+ghost use Rattle.wire.specs.Output.{Writes, OutputLaws};
 
 // What a writer answers: how many bytes it wrote, or why it wrote none.
 pub enum Written {
@@ -14,8 +13,8 @@ pub enum Written {
 
 // Lays a 16-bit number.
 pub fn put16(out: &mut [u8], at: ByteOffset, number: u16) -> Written
-    ensures { λ r. ⌜ (writtenWords r ≡ layAnswer (now (out .entry)) (at .0) (bytes 2 number)) × (now (out .exit) ≡ put (now (out .entry)) (at .0) (bytes 2 number)) ⌝ }
-    ensures reads_back { λ _. ⌜ ReadsBack ⌝ }
+    ensures { λ r. ⌜ Writes r (now (out .entry)) (now (out .exit)) 0 (at .0) (bytes 2 number) ⌝ }
+    ensures laws { λ _. ⌜ OutputLaws ⌝ }
 {
     let i = at.0;
     if out.len() < i {
@@ -32,8 +31,8 @@ pub fn put16(out: &mut [u8], at: ByteOffset, number: u16) -> Written
 
 // Lays a 64-bit number.
 pub fn put64(out: &mut [u8], at: ByteOffset, number: u64) -> Written
-    ensures { λ r. ⌜ (writtenWords r ≡ layAnswer (now (out .entry)) (at .0) (bytes 8 number)) × (now (out .exit) ≡ put (now (out .entry)) (at .0) (bytes 8 number)) ⌝ }
-    ensures reads_back { λ _. ⌜ ReadsBack ⌝ }
+    ensures { λ r. ⌜ Writes r (now (out .entry)) (now (out .exit)) 0 (at .0) (bytes 8 number) ⌝ }
+    ensures laws { λ _. ⌜ OutputLaws ⌝ }
 {
     let i = at.0;
     if out.len() < i {
@@ -62,10 +61,8 @@ pub fn put64(out: &mut [u8], at: ByteOffset, number: u64) -> Written
 
 // Lays bytes.
 pub fn put_bytes(out: &mut [u8], at: ByteOffset, src: &[u8]) -> Written
-    ensures { λ r. ⌜ (writtenWords r ≡ layAnswer (now (out .entry)) (at .0) (now (src .entry))) × (now (out .exit) ≡ put (now (out .entry)) (at .0) (now (src .entry))) ⌝ }
-    ensures adjacent { λ _. ⌜ AdjacentAreOne ⌝ }
-    ensures only_its_bytes { λ _. ⌜ OnlyItsBytes ⌝ }
-    ensures tells_apart { λ _. ⌜ TellsApart ⌝ }
+    ensures { λ r. ⌜ Writes r (now (out .entry)) (now (out .exit)) 0 (at .0) (now (src .entry)) ⌝ }
+    ensures laws { λ _. ⌜ OutputLaws ⌝ }
 {
     let from = at.0;
     let size = src.len();

@@ -5,6 +5,9 @@ pub struct Refusal {
     pub number: u8,
 }
 
+// No refusal: what a ladder of grounds gives where none applies.
+pub const NONE: Refusal = Refusal { number: 0 };
+
 // A Mold datagram under 20 bytes.
 pub const DATAGRAM_SHORT: Refusal = Refusal { number: 11 };
 

@@ -18,7 +18,7 @@ sub-if2 : tie.Need-sub-if2 Inv-loop μ-loop
 sub-if2 c = search copies
 
 returns-2 : tie.Need-returns-2 Inv-loop μ-loop
-returns-2 c = ((search copies, search copies), (search copies, (search copies, search copies)))
+returns-2 c = search copies
 
 loop-holds : tie.Need-loop-holds Inv-loop μ-loop
 loop-holds c = search copies

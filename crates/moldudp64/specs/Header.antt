@@ -1,0 +1,33 @@
+-- The header of a downstream packet, which is also the whole of a request: session at 0 (10 bytes), sequence number at
+-- 10 (8), message count at 18 (2), each number big-endian.
+use Prim.Native.Nat.{ℕ}
+use mathlib.Core.List.{List, _++_}
+use Rattle.wire.specs.Bytes.{number, bytes}
+
+abbrev pub headerSize : ℕ
+headerSize = 20
+
+abbrev pub sessionSize : ℕ
+sessionSize = 10
+
+-- the bytes of the largest datagram
+abbrev pub largestDatagram : ℕ
+largestDatagram = 65507
+
+-- 2^64 - 1
+abbrev pub largestNumber : ℕ
+largestNumber = 18446744073709551615
+
+-- a count of 65,535 is end of session
+abbrev pub endCount : ℕ
+endCount = 65535
+
+unfoldable pub numberOf : List ℕ → ℕ
+numberOf l = number l 10 8
+
+unfoldable pub countOf : List ℕ → ℕ
+countOf l = number l 18 2
+
+-- a header as it is written
+unfoldable pub header : List ℕ → ℕ → ℕ → List ℕ
+header session n c = session ++ bytes 8 n ++ bytes 2 c

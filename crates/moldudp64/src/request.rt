@@ -1,0 +1,101 @@
+// Request packets, read and written.
+use crate::header;
+use wire::kinds::MessageCount;
+use wire::kinds::SequenceNumber;
+use wire::output::Written;
+use wire::refusal;
+use wire::refusal::Refusal;
+ghost use mathlib.Core.Path.{_≡_};
+ghost use Rattle.wire.specs.Output.{Writes};
+ghost use Rattle.moldudp64.specs.Header.{header};
+ghost use Rattle.moldudp64.specs.Request.{requestGround, requestRefusal, requestWords, requestOf, requestSession, TellsApart};
+ghost use Rattle.moldudp64.specs.RoundTrips.{RequestReadsBack, RequestWritesBack};
+
+// What a request says.
+pub enum Request {
+    // The first number wanted, and how many.
+    Wanted {
+        first: SequenceNumber,
+        count: MessageCount,
+    },
+    Refused(Refusal),
+}
+
+// The first of 13 and 48 that applies, or 0.
+fn ground(first: SequenceNumber, count: MessageCount) -> Refusal
+    ensures { λ r. ⌜ r .number ≡ requestGround (first .0) (count .0) ⌝ }
+{
+    let number = first.0;
+    let c = count.0;
+    if number == 0 {
+        return refusal::NUMBER_ZERO;
+    }
+    if c == 0 {
+        return refusal::REQUEST_COUNT;
+    }
+    if c == header::END_OF_SESSION {
+        return refusal::REQUEST_COUNT;
+    }
+    refusal::NONE
+}
+
+// The first of 47, 13 and 48 that applies, or 0.
+fn refusal_of(request: &[u8]) -> Refusal
+    ensures { λ r. ⌜ r .number ≡ requestRefusal (now (request .entry)) ⌝ }
+{
+    if request.len() != header::SIZE {
+        return refusal::REQUEST_SIZE;
+    }
+    ground(
+        header::sequence_number(request),
+        header::message_count(request),
+    )
+}
+
+// Reads a request.
+pub fn read(request: &[u8]) -> Request
+    ensures { λ r. ⌜ requestWords r ≡ requestOf (now (request .entry)) ⌝ }
+    ensures tells_apart { λ _. ⌜ TellsApart ⌝ }
+    ensures writes_back { λ _. ⌜ RequestWritesBack ⌝ }
+{
+    let refused = refusal_of(request);
+    if refused.number != 0 {
+        return Request::Refused(refused);
+    }
+    Request::Wanted {
+        first: header::sequence_number(request),
+        count: header::message_count(request),
+    }
+}
+
+// The session of a request, as a part of it; empty where the request is refused.
+pub fn session(request: &[u8]) -> &[u8]
+    ensures { λ r. ⌜ now r ≡ requestSession (now (request .entry)) ⌝ }
+{
+    let refused = refusal_of(request);
+    if refused.number != 0 {
+        return &request[..0];
+    }
+    &request[..10]
+}
+
+// Writes a request.
+pub fn write(
+    out: &mut [u8],
+    session: [u8; 10],
+    first: SequenceNumber,
+    count: MessageCount,
+) -> Written
+    ensures { λ r. ⌜ Writes r (now (out .entry)) (now (out .exit)) (requestGround (first .0) (count .0)) 0 (header session (first .0) (count .0)) ⌝ }
+    ensures reads_back { λ _. ⌜ RequestReadsBack ⌝ }
+{
+    let refused = ground(first, count);
+    if refused.number != 0 {
+        return Written::Refused(refused);
+    }
+    if out.len() < header::SIZE {
+        return Written::Refused(refusal::OUTPUT_SHORT);
+    }
+    header::put_header(out, session, first, count);
+    Written::Wrote { size: header::SIZE }
+}

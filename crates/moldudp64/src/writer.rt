@@ -1,0 +1,126 @@
+// Downstream packets, written into a lent output. A success reports its size and changes those bytes alone; a refusal
+// changes none.
+use crate::blocks;
+use crate::header;
+use wire::kinds::ByteOffset;
+use wire::kinds::MessageCount;
+use wire::kinds::SequenceNumber;
+use wire::output;
+use wire::output::Written;
+use wire::refusal;
+use wire::refusal::Refusal;
+ghost use mathlib.Core.Path.{_≡_};
+ghost use Prim.Native.Nat.{_+_, _≤_};
+ghost use lib.ListN.{length};
+ghost use lib.Dec.{eqb};
+ghost use Rattle.wire.specs.Output.{put, Writes};
+ghost use Rattle.moldudp64.specs.Blocks.{blocksOf};
+ghost use Rattle.moldudp64.specs.Writer.{total, cut, packet, packetGround, endPacket, endGround};
+ghost use Rattle.moldudp64.specs.RoundTrips.{PacketReadsBack, EndReadsBack};
+
+// The most messages of one datagram.
+pub const MOST_MESSAGES: usize = 65534;
+
+// Whether the lengths add up to the size of the data. It subtracts as it goes, so that no sum can wrap.
+fn add_up(lengths: &[u16], size: usize) -> bool
+    ensures { λ r. ⌜ r ≡ eqb (total (now (lengths .entry))) size ⌝ }
+{
+    let mut left = size;
+    let mut i: usize = 0;
+    while i < lengths.len() {
+        let length = lengths[i] as usize;
+        if left < length {
+            return false;
+        }
+        left -= length;
+        i += 1;
+    }
+    left == 0
+}
+
+// The first of 42, 44, 13, 14, 12 that applies, or 0.
+fn ground(first: SequenceNumber, lengths: &[u16], joined: &[u8]) -> Refusal
+    ensures { λ r. ⌜ r .number ≡ packetGround (first .0) (now (lengths .entry)) (now (joined .entry)) ⌝ }
+{
+    let number = first.0;
+    let count = lengths.len();
+    if MOST_MESSAGES < count {
+        return refusal::TOO_MANY_MESSAGES;
+    }
+    if !add_up(lengths, joined.len()) {
+        return refusal::LENGTHS_DIFFER;
+    }
+    if number == 0 {
+        return refusal::NUMBER_ZERO;
+    }
+    if header::LARGEST_NUMBER - number < count as u64 {
+        return refusal::NUMBERS_RUN_OUT;
+    }
+    if header::LARGEST_DATAGRAM < joined.len() {
+        return refusal::DATAGRAM_LONG;
+    }
+    if header::LARGEST_DATAGRAM < header::SIZE + blocks::LENGTH_SIZE * count + joined.len() {
+        return refusal::DATAGRAM_LONG;
+    }
+    refusal::NONE
+}
+
+// Writes the blocks after the header: each turn takes what is left of the data after a message.
+fn put_blocks(out: &mut [u8], lengths: &[u16], joined: &[u8])
+    requires { ⌜ (total (now lengths) ≡ length (now joined)) × (20 + length (blocksOf (cut (now lengths) (now joined))) ≤ length (now out)) ⌝ }
+    ensures { λ _. ⌜ now (out .exit) ≡ put (now (out .entry)) 20 (blocksOf (cut (now (lengths .entry)) (now (joined .entry)))) ⌝ }
+{
+    let mut rest = joined;
+    let mut at = header::SIZE;
+    let mut i: usize = 0;
+    while i < lengths.len() {
+        let length = lengths[i];
+        let size = length as usize;
+        output::put16(out, ByteOffset(at), length);
+        at += blocks::LENGTH_SIZE;
+        output::put_bytes(out, ByteOffset(at), &rest[..size]);
+        at += size;
+        rest = &rest[size..];
+        i += 1;
+    }
+}
+
+// Writes data from the lengths of the messages and their joined bytes; no lengths make a heartbeat.
+pub fn write_messages(
+    out: &mut [u8],
+    session: [u8; 10],
+    first: SequenceNumber,
+    lengths: &[u16],
+    joined: &[u8],
+) -> Written
+    ensures { λ r. ⌜ Writes r (now (out .entry)) (now (out .exit)) (packetGround (first .0) (now (lengths .entry)) (now (joined .entry))) 0 (packet session (first .0) (cut (now (lengths .entry)) (now (joined .entry)))) ⌝ }
+    ensures reads_back { λ _. ⌜ PacketReadsBack ⌝ }
+{
+    let refused = ground(first, lengths, joined);
+    if refused.number != 0 {
+        return Written::Refused(refused);
+    }
+    let count = lengths.len();
+    let size = header::SIZE + blocks::LENGTH_SIZE * count + joined.len();
+    if out.len() < size {
+        return Written::Refused(refusal::OUTPUT_SHORT);
+    }
+    header::put_header(out, session, first, MessageCount(count as u16));
+    put_blocks(out, lengths, joined);
+    Written::Wrote { size: size }
+}
+
+// Writes an end of session.
+pub fn write_end_of_session(out: &mut [u8], session: [u8; 10], next: SequenceNumber) -> Written
+    ensures { λ r. ⌜ Writes r (now (out .entry)) (now (out .exit)) (endGround (next .0)) 0 (endPacket session (next .0)) ⌝ }
+    ensures reads_back { λ _. ⌜ EndReadsBack ⌝ }
+{
+    if next.0 == 0 {
+        return Written::Refused(refusal::NUMBER_ZERO);
+    }
+    if out.len() < header::SIZE {
+        return Written::Refused(refusal::OUTPUT_SHORT);
+    }
+    header::put_header(out, session, next, MessageCount(header::END_OF_SESSION));
+    Written::Wrote { size: header::SIZE }
+}
