@@ -8,15 +8,19 @@ use Rattle.wire.specs.Choice.{if_then_else_}
 use Rattle.wire.specs.Refusals.{blockPastEnd, bytesAfterBlocks}
 use Rattle.wire.specs.Bytes.{number, bytes}
 
+-- the bytes of a length field
+abbrev pub lengthSize : ℕ
+lengthSize = 2
+
 -- ---- read: l is what is left of the datagram
 
 -- the data bytes that the first block says it has
 unfoldable pub lengthOf : List ℕ → ℕ
-lengthOf l = number l 0 2
+lengthOf l = number l 0 lengthSize
 
 -- the bytes of the first block, its length field with them
 abbrev pub sizeOf : List ℕ → ℕ
-sizeOf l = lengthOf l + 2
+sizeOf l = lengthOf l + lengthSize
 
 -- the first block ends within the datagram (a length field that isn't all there does not)
 unfoldable pub fits : List ℕ → Bool
@@ -39,7 +43,7 @@ afterBlocks (suc n) l = afterBlocks n (afterBlock l)
 -- the data bytes of n blocks, in order
 unfoldable pub messages : ℕ → List ℕ → List (List ℕ)
 messages zero l = []
-messages (suc n) l = take (lengthOf l) (drop 2 l) ∷ messages n (afterBlock l)
+messages (suc n) l = take (lengthOf l) (drop lengthSize l) ∷ messages n (afterBlock l)
 
 -- 15 where one of n blocks runs past the end, 16 where bytes stand after the last one
 unfoldable pub blocksRefusal : ℕ → List ℕ → ℕ
@@ -52,4 +56,4 @@ blocksRefusal n l =
 -- messages as blocks, in order
 unfoldable pub blocksOf : List (List ℕ) → List ℕ
 blocksOf [] = []
-blocksOf (m ∷ ms) = bytes 2 (length m) ++ m ++ blocksOf ms
+blocksOf (m ∷ ms) = bytes lengthSize (length m) ++ m ++ blocksOf ms

@@ -1,14 +1,15 @@
 -- Where a message is: by its place from 0, and by a cursor that moves from block to block.
 use Prim.Native.Nat.{ℕ, zero, suc, _+_, _-_}
 use mathlib.Core.List.{List, [], _∷_}
+use Rattle.wire.specs.Words.{says}
 use mathlib.Core.Bool.{true, false}
 use mathlib.Core.Path.{_≡_}
 use lib.ListN.{length, take, drop}
-use lib.Dec.{leb, ltb, eqb}
+use lib.Dec.{ltb, eqb}
 use Rattle.wire.specs.Choice.{if_then_else_}
 use Rattle.moldudp64.specs.Header.{headerSize}
-use Rattle.moldudp64.specs.Blocks.{lengthOf, fits, blocksOf}
-use Rattle.moldudp64.specs.Downstream.{messagesOf, messageOf}
+use Rattle.moldudp64.specs.Blocks.{lengthSize, lengthOf, fits, blocksOf}
+use Rattle.moldudp64.specs.Downstream.{data-packet, readOf, messagesOf, messageOf}
 use Rattle.moldudp64.specs.declared.cursor.Located.{Located}
 use Rattle.moldudp64.specs.declared.cursor.Cursor.{Cursor}
 
@@ -30,11 +31,12 @@ part l p = take (p .length) (drop (p .offset .0) l)
 unfoldable pub locateOf : List ℕ → ℕ → Located
 locateOf l i =
     if ltb i (length (messagesOf l))
-    then there (headerSize + length (blocksOf (take i (messagesOf l))) + 2) (length (messageOf l i))
+    then there (headerSize + length (blocksOf (take i (messagesOf l))) + lengthSize) (length (messageOf l i))
     else nowhere
 
 -- ---- by a cursor, any two numbers: the place of a block, and how many are left from there on
 
+-- a cursor of these two numbers
 abbrev pub cursor : ℕ → ℕ → Cursor
 cursor at left = record { at = record { 0 = at }; left = record { 0 = left } }
 
@@ -42,9 +44,10 @@ cursor at left = record { at = record { 0 = at }; left = record { 0 = left } }
 unfoldable pub locatedAt : List ℕ → ℕ → ℕ → Located
 locatedAt l at left =
     if eqb left 0 then nowhere
-    else if leb (at + (lengthOf (drop at l) + 2)) (length l) then there (at + 2) (lengthOf (drop at l))
+    else if fits (drop at l) then there (at + lengthSize) (lengthOf (drop at l))
     else nowhere
 
+-- the message at a cursor
 abbrev pub located : List ℕ → Cursor → Located
 located l c = locatedAt l (c .at .0) (c .left .0)
 
@@ -55,6 +58,7 @@ moved l c =
     then cursor (located l c .offset .0 + located l c .length) (c .left .0 - 1)
     else c
 
+-- after so many moves
 unfoldable pub movedBy : ℕ → List ℕ → Cursor → Cursor
 movedBy zero l c = c
 movedBy (suc k) l c = movedBy k l (moved l c)
@@ -63,6 +67,7 @@ movedBy (suc k) l c = movedBy k l (moved l c)
 abbrev pub firstOf : ℕ → Cursor
 firstOf n = cursor headerSize n
 
+-- the first block of a datagram
 abbrev pub startOf : List ℕ → Cursor
 startOf l = firstOf (length (messagesOf l))
 
@@ -75,3 +80,7 @@ WalksTheMessages = (l : List ℕ) (k : ℕ) → located l (movedBy k l (startOf 
 -- a message is the datagram's bytes from its offset on, as many as its length
 unfoldable pub PartIsMessage : Type 0
 PartIsMessage = (l : List ℕ) (k : ℕ) → part l (locateOf l k) ≡ messageOf l k
+
+-- the count that the reader gives with data is how many messages there are
+unfoldable pub CountIsMessages : Type 0
+CountIsMessages = (l : List ℕ) (n c : ℕ) → readOf l ≡ says data-packet (n ∷ c ∷ []) → startOf l ≡ firstOf c

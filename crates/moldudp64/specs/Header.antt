@@ -4,27 +4,23 @@ use Prim.Native.Nat.{ℕ}
 use mathlib.Core.List.{List, _++_}
 use Rattle.wire.specs.Bytes.{number, bytes}
 
+-- the bytes of a header
 abbrev pub headerSize : ℕ
 headerSize = 20
-
-abbrev pub sessionSize : ℕ
-sessionSize = 10
 
 -- the bytes of the largest datagram
 abbrev pub largestDatagram : ℕ
 largestDatagram = 65507
 
--- 2^64 - 1
-abbrev pub largestNumber : ℕ
-largestNumber = 18446744073709551615
-
 -- a count of 65,535 is end of session
 abbrev pub endCount : ℕ
 endCount = 65535
 
+-- the sequence number
 unfoldable pub numberOf : List ℕ → ℕ
 numberOf l = number l 10 8
 
+-- the message count
 unfoldable pub countOf : List ℕ → ℕ
 countOf l = number l 18 2
 

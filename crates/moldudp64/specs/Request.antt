@@ -1,13 +1,14 @@
 -- Request packets: session, first number wanted, how many.
 use Prim.Native.Nat.{ℕ}
 use mathlib.Core.List.{List, [], _∷_}
-use mathlib.Core.Bool.{not, _||_}
+use mathlib.Core.Bool.{not}
 use lib.ListN.{length, take}
 use lib.Dec.{eqb}
 use Rattle.wire.specs.Choice.{if_then_else_}
 use Rattle.wire.specs.Refusals.{numberZero, requestSize, requestCount}
-use Rattle.wire.specs.Words.{Words, says, refuses, Injective}
-use Rattle.moldudp64.specs.Header.{headerSize, sessionSize, endCount, numberOf, countOf}
+use Rattle.wire.specs.Bounds.{sessionSize}
+use Rattle.wire.specs.Words.{Words, says, refuses, refusedWords, Injective}
+use Rattle.moldudp64.specs.Header.{headerSize, endCount, numberOf, countOf}
 use Rattle.moldudp64.specs.declared.request.Request.{Request}
 use Rattle.moldudp64.specs.declared.request.Request.the-variants.{Wanted, Refused}
 
@@ -25,6 +26,7 @@ requestRefusal l =
     if not (eqb (length l) headerSize) then requestSize
     else requestGround (numberOf l) (countOf l)
 
+-- what a request can say, but for a refusal
 pub data Asking : Type 0 where
   wanted : Asking
 
@@ -37,8 +39,9 @@ requestOf l =
 -- the reader's answer in these words
 unfoldable pub requestWords : Request → Words Asking
 requestWords (Wanted first count) = says wanted (first .0 ∷ count .0 ∷ [])
-requestWords (Refused r) = refuses (r .number)
+requestWords (Refused r) = refusedWords r
 
+-- these words tell all answers apart
 unfoldable pub TellsApart : Type 0
 TellsApart = Injective requestWords
 

@@ -6,7 +6,7 @@ use crate::header;
 use wire::kinds::ByteOffset;
 use wire::kinds::MessageCount;
 ghost use mathlib.Core.Path.{_≡_};
-ghost use Rattle.moldudp64.specs.Cursor.{located, moved, movedBy, firstOf, startOf, nowhere, there, part, WalksTheMessages, PartIsMessage};
+ghost use Rattle.moldudp64.specs.Cursor.{located, moved, movedBy, firstOf, startOf, nowhere, part, WalksTheMessages, PartIsMessage, CountIsMessages};
 
 // Whether a message is there, with the offset of its first data byte in the datagram and its length. Where none is,
 // both numbers are 0.
@@ -36,6 +36,7 @@ impl Cursor {
     // The first block of a datagram with so many messages, as the reader gave their count.
     pub fn first(count: MessageCount) -> Cursor
         ensures { λ r. ⌜ r ≡ firstOf (count .0) ⌝ }
+        ensures count { λ _. ⌜ CountIsMessages ⌝ }
     {
         Cursor {
             at: ByteOffset(header::SIZE),
@@ -69,6 +70,9 @@ impl Cursor {
             return not_there();
         }
         let rest = &datagram[at..];
+        if rest.len() < blocks::LENGTH_SIZE {
+            return not_there();
+        }
         let size = blocks::block_size(rest);
         if rest.len() < size {
             return not_there();
@@ -104,13 +108,16 @@ impl Cursor {
         }
     }
 
-    // The cursor after so many moves.
+    // The cursor after so many moves. A cursor that stays is not moved on.
     pub fn skip(self, datagram: &[u8], count: MessageCount) -> Cursor
         ensures { λ r. ⌜ r ≡ movedBy (count .0) (now (datagram .entry)) self ⌝ }
     {
         let mut cursor = self;
         let mut left = count.0;
         while 0 < left {
+            if !cursor.locate(datagram).exists {
+                return cursor;
+            }
             let next = cursor.next(datagram);
             cursor = next;
             left -= 1;

@@ -3,14 +3,16 @@ use crate::blocks;
 use crate::header;
 use wire::compare;
 use wire::kinds::ByteOffset;
+use wire::kinds::LARGEST_NUMBER;
 use wire::kinds::MessageCount;
+use wire::kinds::SESSION_SIZE;
 use wire::kinds::SequenceNumber;
 use wire::refusal;
 use wire::refusal::Refusal;
 ghost use mathlib.Core.Path.{_≡_};
 ghost use Rattle.wire.specs.Bytes.{sameBytes};
 ghost use Rattle.moldudp64.specs.Downstream.{blockCount, refusalOf, downstreamWords, readOf, sessionOf, TellsApart};
-ghost use Rattle.moldudp64.specs.RoundTrips.{AcceptedWritesBack, EndWritesBack};
+ghost use Rattle.moldudp64.specs.RoundTrips.{PacketWritesBack, EndWritesBack};
 
 // What a datagram says.
 pub enum Downstream {
@@ -36,7 +38,7 @@ pub(crate) fn block_count(datagram: &[u8]) -> MessageCount
 {
     let count = header::message_count(datagram);
     let c = count.0;
-    if c == header::END_OF_SESSION {
+    if c == header::END_OF_SESSION.0 {
         return MessageCount(0);
     }
     count
@@ -59,17 +61,17 @@ pub(crate) fn refusal_of(datagram: &[u8]) -> Refusal
     }
     let count = block_count(datagram);
     let c = count.0;
-    if header::LARGEST_NUMBER - number < c as u64 {
+    if LARGEST_NUMBER.0 - number < c as u64 {
         return refusal::NUMBERS_RUN_OUT;
     }
     blocks::walk(&datagram[header::SIZE..], count)
 }
 
-// Reads a datagram. Its bytes are walked once.
+// Reads a datagram, with one walk over its blocks.
 pub fn read(datagram: &[u8]) -> Downstream
     ensures { λ r. ⌜ downstreamWords r ≡ readOf (now (datagram .entry)) ⌝ }
     ensures tells_apart { λ _. ⌜ TellsApart ⌝ }
-    ensures writes_back { λ _. ⌜ AcceptedWritesBack ⌝ }
+    ensures writes_back { λ _. ⌜ PacketWritesBack ⌝ }
     ensures end_writes_back { λ _. ⌜ EndWritesBack ⌝ }
 {
     let refused = refusal_of(datagram);
@@ -82,7 +84,7 @@ pub fn read(datagram: &[u8]) -> Downstream
     if c == 0 {
         return Downstream::Heartbeat { next: number };
     }
-    if c == header::END_OF_SESSION {
+    if c == header::END_OF_SESSION.0 {
         return Downstream::EndOfSession { next: number };
     }
     Downstream::Data {
@@ -99,11 +101,11 @@ pub fn session(datagram: &[u8]) -> &[u8]
     if refused.number != 0 {
         return &datagram[..0];
     }
-    &datagram[..10]
+    &datagram[..SESSION_SIZE]
 }
 
 // Whether the session of a datagram is the name; never where the datagram is refused.
-pub fn is_session(datagram: &[u8], name: [u8; 10]) -> bool
+pub fn is_session(datagram: &[u8], name: [u8; SESSION_SIZE]) -> bool
     ensures { λ r. ⌜ r ≡ sameBytes (sessionOf (now (datagram .entry))) name ⌝ }
 {
     compare::same_ten(session(datagram), ByteOffset(0), name)

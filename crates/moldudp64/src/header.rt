@@ -1,14 +1,18 @@
 // The 20 bytes that start a downstream packet and are the whole of a request: session, sequence number, message count.
+use wire::compare;
 use wire::kinds::ByteOffset;
 use wire::kinds::MessageCount;
+use wire::kinds::SESSION_SIZE;
 use wire::kinds::SequenceNumber;
 use wire::number;
 use wire::output;
 ghost use mathlib.Core.Path.{_≡_};
 ghost use Prim.Native.Nat.{_≤_};
-ghost use lib.ListN.{length};
+ghost use lib.ListN.{length, take};
+ghost use Rattle.wire.specs.Bounds.{sessionSize};
+ghost use Rattle.wire.specs.Bytes.{sameBytes};
 ghost use Rattle.wire.specs.Output.{put};
-ghost use Rattle.moldudp64.specs.Header.{numberOf, countOf, header};
+ghost use Rattle.moldudp64.specs.Header.{headerSize, numberOf, countOf, header};
 
 // Bytes of a header.
 pub const SIZE: usize = 20;
@@ -19,14 +23,11 @@ const NUMBER_AT: ByteOffset = ByteOffset(10);
 
 const COUNT_AT: ByteOffset = ByteOffset(18);
 
-// A count of 65,535 marks the end of the session and is followed by no blocks.
-pub const END_OF_SESSION: u16 = 65535;
+// This count marks the end of the session and is followed by no blocks.
+pub const END_OF_SESSION: MessageCount = MessageCount(65535);
 
 // Bytes of the largest datagram.
 pub const LARGEST_DATAGRAM: usize = 65507;
-
-// The largest sequence number, 2^64 - 1.
-pub const LARGEST_NUMBER: u64 = 18446744073709551615;
 
 // The number in a header. A byte past the end counts as 0.
 pub(crate) fn sequence_number(bytes: &[u8]) -> SequenceNumber
@@ -42,14 +43,22 @@ pub(crate) fn message_count(bytes: &[u8]) -> MessageCount
     MessageCount(number::be16(bytes, COUNT_AT))
 }
 
+// Whether the ten bytes at the front are the name: the session of a datagram that was read already, without another
+// walk over its blocks.
+pub fn has_session(bytes: &[u8], name: [u8; SESSION_SIZE]) -> bool
+    ensures { λ r. ⌜ r ≡ sameBytes (take sessionSize (now (bytes .entry))) name ⌝ }
+{
+    compare::same_ten(bytes, SESSION_AT, name)
+}
+
 // Writes a header at the front of an output that has room for it.
 pub(crate) fn put_header(
     out: &mut [u8],
-    session: [u8; 10],
+    session: [u8; SESSION_SIZE],
     first: SequenceNumber,
     count: MessageCount,
 )
-    requires { ⌜ 20 ≤ length (now out) ⌝ }
+    requires { ⌜ headerSize ≤ length (now out) ⌝ }
     ensures { λ _. ⌜ now (out .exit) ≡ put (now (out .entry)) 0 (header session (first .0) (count .0)) ⌝ }
 {
     output::put_bytes(out, SESSION_AT, &session);

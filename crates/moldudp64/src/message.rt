@@ -4,7 +4,7 @@ use crate::cursor::Located;
 use wire::kinds::MessageCount;
 ghost use mathlib.Core.Path.{_≡_};
 ghost use Rattle.moldudp64.specs.Downstream.{messageOf};
-ghost use Rattle.moldudp64.specs.Cursor.{locateOf};
+ghost use Rattle.moldudp64.specs.Cursor.{locateOf, PartIsMessage};
 
 // Whether the message is there, with its offset and length. In a refused datagram none is.
 pub fn locate(datagram: &[u8], place: MessageCount) -> Located
@@ -18,6 +18,7 @@ pub fn locate(datagram: &[u8], place: MessageCount) -> Located
 // The message as a part of the datagram: the data bytes of its block; empty where it isn't there.
 pub fn message(datagram: &[u8], place: MessageCount) -> &[u8]
     ensures { λ r. ⌜ now r ≡ messageOf (now (datagram .entry)) (place .0) ⌝ }
+    ensures its_place { λ _. ⌜ PartIsMessage ⌝ }
 {
     Cursor::start(datagram)
         .skip(datagram, place)

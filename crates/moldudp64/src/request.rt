@@ -1,6 +1,7 @@
 // Request packets, read and written.
 use crate::header;
 use wire::kinds::MessageCount;
+use wire::kinds::SESSION_SIZE;
 use wire::kinds::SequenceNumber;
 use wire::output::Written;
 use wire::refusal;
@@ -33,7 +34,7 @@ fn ground(first: SequenceNumber, count: MessageCount) -> Refusal
     if c == 0 {
         return refusal::REQUEST_COUNT;
     }
-    if c == header::END_OF_SESSION {
+    if c == header::END_OF_SESSION.0 {
         return refusal::REQUEST_COUNT;
     }
     refusal::NONE
@@ -76,13 +77,13 @@ pub fn session(request: &[u8]) -> &[u8]
     if refused.number != 0 {
         return &request[..0];
     }
-    &request[..10]
+    &request[..SESSION_SIZE]
 }
 
 // Writes a request.
 pub fn write(
     out: &mut [u8],
-    session: [u8; 10],
+    session: [u8; SESSION_SIZE],
     first: SequenceNumber,
     count: MessageCount,
 ) -> Written

@@ -3,7 +3,9 @@
 use crate::blocks;
 use crate::header;
 use wire::kinds::ByteOffset;
+use wire::kinds::LARGEST_NUMBER;
 use wire::kinds::MessageCount;
+use wire::kinds::SESSION_SIZE;
 use wire::kinds::SequenceNumber;
 use wire::output;
 use wire::output::Written;
@@ -12,20 +14,20 @@ use wire::refusal::Refusal;
 ghost use mathlib.Core.Path.{_≡_};
 ghost use Prim.Native.Nat.{_+_, _≤_};
 ghost use lib.ListN.{length};
-ghost use lib.Dec.{eqb};
 ghost use Rattle.wire.specs.Output.{put, Writes};
+ghost use Rattle.moldudp64.specs.Header.{headerSize};
 ghost use Rattle.moldudp64.specs.Blocks.{blocksOf};
-ghost use Rattle.moldudp64.specs.Writer.{total, cut, packet, packetGround, endPacket, endGround};
+ghost use Rattle.moldudp64.specs.Writer.{total, cut, packetOf, addUp, packetGround, endPacket, endGround};
 ghost use Rattle.moldudp64.specs.RoundTrips.{PacketReadsBack, EndReadsBack};
 
 // The most messages of one datagram.
-pub const MOST_MESSAGES: usize = 65534;
+pub const MOST_MESSAGES: MessageCount = MessageCount(65534);
 
-// Whether the lengths add up to the size of the data. It subtracts as it goes, so that no sum can wrap.
-fn add_up(lengths: &[u16], size: usize) -> bool
-    ensures { λ r. ⌜ r ≡ eqb (total (now (lengths .entry))) size ⌝ }
+// Whether the lengths add up to the data. It subtracts as it goes, so that no sum can wrap.
+fn add_up(lengths: &[u16], joined: &[u8]) -> bool
+    ensures { λ r. ⌜ r ≡ addUp (now (lengths .entry)) (now (joined .entry)) ⌝ }
 {
-    let mut left = size;
+    let mut left = joined.len();
     let mut i: usize = 0;
     while i < lengths.len() {
         let length = lengths[i] as usize;
@@ -44,18 +46,19 @@ fn ground(first: SequenceNumber, lengths: &[u16], joined: &[u8]) -> Refusal
 {
     let number = first.0;
     let count = lengths.len();
-    if MOST_MESSAGES < count {
+    if (MOST_MESSAGES.0 as usize) < count {
         return refusal::TOO_MANY_MESSAGES;
     }
-    if !add_up(lengths, joined.len()) {
+    if !add_up(lengths, joined) {
         return refusal::LENGTHS_DIFFER;
     }
     if number == 0 {
         return refusal::NUMBER_ZERO;
     }
-    if header::LARGEST_NUMBER - number < count as u64 {
+    if LARGEST_NUMBER.0 - number < count as u64 {
         return refusal::NUMBERS_RUN_OUT;
     }
+    // tested first so that the sum below can't wrap
     if header::LARGEST_DATAGRAM < joined.len() {
         return refusal::DATAGRAM_LONG;
     }
@@ -67,8 +70,8 @@ fn ground(first: SequenceNumber, lengths: &[u16], joined: &[u8]) -> Refusal
 
 // Writes the blocks after the header: each turn takes what is left of the data after a message.
 fn put_blocks(out: &mut [u8], lengths: &[u16], joined: &[u8])
-    requires { ⌜ (total (now lengths) ≡ length (now joined)) × (20 + length (blocksOf (cut (now lengths) (now joined))) ≤ length (now out)) ⌝ }
-    ensures { λ _. ⌜ now (out .exit) ≡ put (now (out .entry)) 20 (blocksOf (cut (now (lengths .entry)) (now (joined .entry)))) ⌝ }
+    requires { ⌜ (total (now lengths) ≡ length (now joined)) × (headerSize + length (blocksOf (cut (now lengths) (now joined))) ≤ length (now out)) ⌝ }
+    ensures { λ _. ⌜ now (out .exit) ≡ put (now (out .entry)) headerSize (blocksOf (cut (now (lengths .entry)) (now (joined .entry)))) ⌝ }
 {
     let mut rest = joined;
     let mut at = header::SIZE;
@@ -88,12 +91,12 @@ fn put_blocks(out: &mut [u8], lengths: &[u16], joined: &[u8])
 // Writes data from the lengths of the messages and their joined bytes; no lengths make a heartbeat.
 pub fn write_messages(
     out: &mut [u8],
-    session: [u8; 10],
+    session: [u8; SESSION_SIZE],
     first: SequenceNumber,
     lengths: &[u16],
     joined: &[u8],
 ) -> Written
-    ensures { λ r. ⌜ Writes r (now (out .entry)) (now (out .exit)) (packetGround (first .0) (now (lengths .entry)) (now (joined .entry))) 0 (packet session (first .0) (cut (now (lengths .entry)) (now (joined .entry)))) ⌝ }
+    ensures { λ r. ⌜ Writes r (now (out .entry)) (now (out .exit)) (packetGround (first .0) (now (lengths .entry)) (now (joined .entry))) 0 (packetOf session (first .0) (now (lengths .entry)) (now (joined .entry))) ⌝ }
     ensures reads_back { λ _. ⌜ PacketReadsBack ⌝ }
 {
     let refused = ground(first, lengths, joined);
@@ -111,7 +114,11 @@ pub fn write_messages(
 }
 
 // Writes an end of session.
-pub fn write_end_of_session(out: &mut [u8], session: [u8; 10], next: SequenceNumber) -> Written
+pub fn write_end_of_session(
+    out: &mut [u8],
+    session: [u8; SESSION_SIZE],
+    next: SequenceNumber,
+) -> Written
     ensures { λ r. ⌜ Writes r (now (out .entry)) (now (out .exit)) (endGround (next .0)) 0 (endPacket session (next .0)) ⌝ }
     ensures reads_back { λ _. ⌜ EndReadsBack ⌝ }
 {
@@ -121,6 +128,6 @@ pub fn write_end_of_session(out: &mut [u8], session: [u8; 10], next: SequenceNum
     if out.len() < header::SIZE {
         return Written::Refused(refusal::OUTPUT_SHORT);
     }
-    header::put_header(out, session, next, MessageCount(header::END_OF_SESSION));
+    header::put_header(out, session, next, header::END_OF_SESSION);
     Written::Wrote { size: header::SIZE }
 }

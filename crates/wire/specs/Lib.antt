@@ -1,5 +1,6 @@
 pub mod Choice
 pub mod Refusals
+pub mod Bounds
 pub mod Words
 pub mod Bytes
 pub mod Output

@@ -6,18 +6,19 @@ use lib.ListN.{length, take, drop}
 use lib.Dec.{leb, eqb}
 use Rattle.wire.specs.Choice.{if_then_else_}
 use Rattle.wire.specs.Refusals.{outputShort}
-use Rattle.wire.specs.Words.{Words, refused, says, refuses, Injective}
+use Rattle.wire.specs.Words.{Words, refused, says, refuses, refusedWords, Injective}
 use Rattle.wire.specs.Bytes.{number, bytes}
 use Rattle.wire.specs.declared.output.Written.{Written}
 use Rattle.wire.specs.declared.output.Written.the-variants.{Wrote, Refused}
 
+-- what a writer can answer, but for a refusal
 pub data Writing : Type 0 where
   wrote : Writing
 
 -- a writer's answer: how many bytes it wrote, or its refusal
 unfoldable pub writtenWords : Written → Words Writing
 writtenWords (Wrote size) = says wrote (size ∷ [])
-writtenWords (Refused r) = refuses (r .number)
+writtenWords (Refused r) = refusedWords r
 
 -- the output with bs laid over it at a place, or as it was where bs does not fit
 unfoldable pub put : List ℕ → ℕ → List ℕ → List ℕ
@@ -29,11 +30,13 @@ put l at bs = if leb (at + length bs) (length l) then take at l ++ bs ++ drop (a
 unfoldable pub writeRefusal : ℕ → List ℕ → ℕ → List ℕ → ℕ
 writeRefusal g l at bs = if eqb g 0 then (if leb (at + length bs) (length l) then 0 else outputShort) else g
 
+-- the answer: the refusal, or how many bytes were written
 unfoldable pub writeAnswer : ℕ → List ℕ → ℕ → List ℕ → Words Writing
 writeAnswer g l at bs =
     if eqb (writeRefusal g l at bs) 0 then says wrote (length bs ∷ [])
     else refuses (writeRefusal g l at bs)
 
+-- the output at exit: bs laid in it, or as it was where a ground applies or there is no room
 abbrev pub writeOutput : ℕ → List ℕ → ℕ → List ℕ → List ℕ
 writeOutput g l at bs = if eqb g 0 then put l at bs else l
 
@@ -71,6 +74,7 @@ RefusalWritesNothing = (r : Written) (l m : List ℕ) (g at : ℕ) (bs : List �
 unfoldable pub TellsApart : Type 0
 TellsApart = Injective writtenWords
 
+-- all of these
 pub record OutputLaws : Type 0 where
   pub reads-back : ReadsBack
   pub adjacent-are-one : AdjacentAreOne

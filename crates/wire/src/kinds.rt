@@ -8,3 +8,9 @@ pub struct MessageCount(pub u16);
 
 // A place in a slice of bytes, from 0.
 pub struct ByteOffset(pub usize);
+
+// The largest sequence number, 2^64 - 1.
+pub const LARGEST_NUMBER: SequenceNumber = SequenceNumber(18446744073709551615);
+
+// Bytes of a session name.
+pub const SESSION_SIZE: usize = 10;

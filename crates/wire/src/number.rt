@@ -25,10 +25,11 @@ fn join64(a: u8, b: u8, c: u8, d: u8, e: u8, f: u8, g: u8, h: u8) -> u64
         + (h as u64)
 }
 
-fn byte(s: &[u8], at: usize) -> u8
-    ensures { λ r. ⌜ r ≡ getD (now (s .entry)) at 0 ⌝ }
+fn byte(s: &[u8], at: ByteOffset) -> u8
+    ensures { λ r. ⌜ r ≡ getD (now (s .entry)) (at .0) 0 ⌝ }
 {
-    if at < s.len() { s[at] } else { 0 }
+    let i = at.0;
+    if i < s.len() { s[i] } else { 0 }
 }
 
 // The 16-bit number at a place.
@@ -39,7 +40,7 @@ pub fn be16(s: &[u8], at: ByteOffset) -> u16
     if s.len() <= i {
         return 0;
     }
-    join16(byte(s, i), byte(s, i + 1))
+    join16(byte(s, ByteOffset(i)), byte(s, ByteOffset(i + 1)))
 }
 
 // The 64-bit number at a place: the one leaf that reads an eight-byte number.
@@ -51,13 +52,13 @@ pub fn be64(s: &[u8], at: ByteOffset) -> u64
         return 0;
     }
     join64(
-        byte(s, i),
-        byte(s, i + 1),
-        byte(s, i + 2),
-        byte(s, i + 3),
-        byte(s, i + 4),
-        byte(s, i + 5),
-        byte(s, i + 6),
-        byte(s, i + 7),
+        byte(s, ByteOffset(i)),
+        byte(s, ByteOffset(i + 1)),
+        byte(s, ByteOffset(i + 2)),
+        byte(s, ByteOffset(i + 3)),
+        byte(s, ByteOffset(i + 4)),
+        byte(s, ByteOffset(i + 5)),
+        byte(s, ByteOffset(i + 6)),
+        byte(s, ByteOffset(i + 7)),
     )
 }

@@ -8,8 +8,8 @@ returns c = search numbers
 byte-requires : tie.Need-byte-requires
 byte-requires c κs = search numbers
 
-add-byte : tie.Need-add-byte
-add-byte c = search numbers
+add-t4 : tie.Need-add-t4
+add-t4 c = search numbers
 
 byte-requires-2 : tie.Need-byte-requires-2
 byte-requires-2 c κs = search numbers
@@ -22,4 +22,4 @@ returns-2 c = search numbers
 
 pub be16-spec : {M : Type 1} → statement M
 be16-spec =
-    tie.close (tie.spec returns byte-requires add-byte byte-requires-2 join16-requires returns-2)
+    tie.close (tie.spec returns byte-requires add-t4 byte-requires-2 join16-requires returns-2)

@@ -8,44 +8,44 @@ returns c = search numbers
 byte-requires : tie.Need-byte-requires
 byte-requires c κs = search numbers
 
-add-byte : tie.Need-add-byte
-add-byte c = search numbers
+add-t4 : tie.Need-add-t4
+add-t4 c = search numbers
 
 byte-requires-2 : tie.Need-byte-requires-2
 byte-requires-2 c κs = search numbers
 
-add-byte-2 : tie.Need-add-byte-2
-add-byte-2 c = search numbers
+add-t11 : tie.Need-add-t11
+add-t11 c = search numbers
 
 byte-requires-3 : tie.Need-byte-requires-3
 byte-requires-3 c κs = search numbers
 
-add-byte-3 : tie.Need-add-byte-3
-add-byte-3 c = search numbers
+add-t14 : tie.Need-add-t14
+add-t14 c = search numbers
 
 byte-requires-4 : tie.Need-byte-requires-4
 byte-requires-4 c κs = search numbers
 
-add-byte-4 : tie.Need-add-byte-4
-add-byte-4 c = search numbers
+add-t17 : tie.Need-add-t17
+add-t17 c = search numbers
 
 byte-requires-5 : tie.Need-byte-requires-5
 byte-requires-5 c κs = search numbers
 
-add-byte-5 : tie.Need-add-byte-5
-add-byte-5 c = search numbers
+add-t20 : tie.Need-add-t20
+add-t20 c = search numbers
 
 byte-requires-6 : tie.Need-byte-requires-6
 byte-requires-6 c κs = search numbers
 
-add-byte-6 : tie.Need-add-byte-6
-add-byte-6 c = search numbers
+add-t23 : tie.Need-add-t23
+add-t23 c = search numbers
 
 byte-requires-7 : tie.Need-byte-requires-7
 byte-requires-7 c κs = search numbers
 
-add-byte-7 : tie.Need-add-byte-7
-add-byte-7 c = search numbers
+add-t26 : tie.Need-add-t26
+add-t26 c = search numbers
 
 byte-requires-8 : tie.Need-byte-requires-8
 byte-requires-8 c κs = search numbers
@@ -62,19 +62,19 @@ be64-spec =
     (tie.spec
     returns
     byte-requires
-    add-byte
+    add-t4
     byte-requires-2
-    add-byte-2
+    add-t11
     byte-requires-3
-    add-byte-3
+    add-t14
     byte-requires-4
-    add-byte-4
+    add-t17
     byte-requires-5
-    add-byte-5
+    add-t20
     byte-requires-6
-    add-byte-6
+    add-t23
     byte-requires-7
-    add-byte-7
+    add-t26
     byte-requires-8
     join64-requires
     returns-2)

@@ -1,0 +1,227 @@
+-- Laws of a datagram's refusal and of what it says: r is its refusal, n its number, c its count, k its count of blocks.
+use mathlib.Core.Path.{_≡_, refl, ap, sym, _∙_}
+use mathlib.Core.List.{List, [], _∷_}
+use mathlib.Core.Bool.{Bool, true, false}
+use Prim.Native.Nat.{ℕ, zero, suc, _+_, _-_, _≤_, _<_}
+use native.Mathlib.Omega.{arith}
+use lib.ListN.{length, getD, take, drop, length-take}
+use lib.Seq.{take-all}
+use lib.Dec.{leb, ltb, eqb}
+use borrow.Author.Tests.{lt-ltb, le-ltb, eq-eqb, ne-eqb, ltb-false, eqb-true, eqb-false}
+use mir.Val.{Fits}
+use mir.Syntax.{w64}
+use Rattle.wire.specs.Choice.{if_then_else_}
+use Rattle.wire.specs.Words.{says, refuses}
+use Rattle.wire.specs.Bytes.{sameBytes}
+use Rattle.wire.specs.declared.refusal.Refusal.{Refusal}
+use Rattle.wire.specs.declared.kinds.SequenceNumber.{SequenceNumber}
+use Rattle.wire.specs.declared.kinds.MessageCount.{MessageCount}
+use Rattle.wire.proofs.Numbers.{part-to-end}
+use Rattle.wire.proofs.Words.{which-of, refusal-of, values-of}
+use Rattle.moldudp64.specs.Header.{numberOf, countOf}
+use Rattle.moldudp64.specs.Blocks.{blocksRefusal, messages}
+use Rattle.moldudp64.specs.declared.downstream.Downstream.{Downstream}
+use Rattle.moldudp64.specs.declared.downstream.Downstream.the-variants.{Data, Heartbeat, EndOfSession, Refused}
+use Rattle.moldudp64.specs.Downstream.{Kind, data-packet, heartbeat, end-of-session, kindOfCount, kindOf, blockCountOf, blockCount, valuesOf, refusalOf, readOf, downstreamWords, TellsApart, sessionOf, messagesOf}
+use Rattle.moldudp64.proofs.BlockLaws.{length-messages}
+
+-- ---- kinds and blocks
+
+pub kind-heartbeat : (c : ℕ) → c ≡ 0 → kindOfCount c ≡ heartbeat
+unfolding kindOfCount
+kind-heartbeat c z = simp z
+
+pub kind-end : (c : ℕ) → c ≡ 65535 → kindOfCount c ≡ end-of-session
+unfolding kindOfCount
+kind-end c z = simp z
+
+pub kind-data : (c : ℕ) → (c ≡ 0 → ⊥) → (c ≡ 65535 → ⊥) → kindOfCount c ≡ data-packet
+unfolding kindOfCount
+kind-data c z f = simp (ne-eqb _ _ z, ne-eqb _ _ f)
+
+pub count-end : (c : ℕ) (l : List ℕ) → c ≡ countOf l → c ≡ 65535 → 0 ≡ blockCount l
+unfolding blockCount
+count-end c l e z = rw (← e, kind-end c z)
+
+pub count-blocks : (c : ℕ) (l : List ℕ) → c ≡ countOf l → (c ≡ 65535 → ⊥) → c ≡ blockCount l
+unfolding blockCount
+count-blocks zero l e z = rw (← e, kind-heartbeat 0 refl)
+count-blocks (suc c) l e z = rw (← e, kind-data (suc c) (omega arith) z)
+
+-- ---- the ladder
+
+pub refusal-11 : (l : List ℕ) → length l < 20 → 11 ≡ refusalOf l
+unfolding refusalOf
+refusal-11 l h = simp (lt-ltb _ _ h)
+
+pub refusal-12 : (l : List ℕ) → 20 ≤ length l → 65507 < length l → 12 ≡ refusalOf l
+unfolding refusalOf
+refusal-12 l h i = simp (le-ltb _ _ h, lt-ltb _ _ i)
+
+pub refusal-13 : (l : List ℕ) (n : ℕ) → 20 ≤ length l → length l ≤ 65507 → n ≡ numberOf l → n ≡ 0 → 13 ≡ refusalOf l
+unfolding refusalOf
+refusal-13 l n h i e z = simp (le-ltb _ _ h, le-ltb _ _ i, ← e, z)
+
+pub refusal-14 : (l : List ℕ) (n k : ℕ) → 20 ≤ length l → length l ≤ 65507 → n ≡ numberOf l → (n ≡ 0 → ⊥) → k ≡ blockCount l
+    → 18446744073709551615 - n < k → 14 ≡ refusalOf l
+unfolding refusalOf
+refusal-14 l n k h i e z f j =
+    let g : 18446744073709551615 < n + k = omega arith in
+    simp (le-ltb _ _ h, le-ltb _ _ i, ← e, ne-eqb _ _ z, ← f, lt-ltb _ _ g)
+
+pub refusal-walk : (l : List ℕ) (n k r : ℕ) → 20 ≤ length l → length l ≤ 65507 → n ≡ numberOf l → (n ≡ 0 → ⊥) → Fits w64 n → k ≡ blockCount l
+    → k ≤ 18446744073709551615 - n → r ≡ blocksRefusal k (take (length l - 20) (drop 20 l)) → r ≡ refusalOf l
+unfolding refusalOf
+refusal-walk l n k r h i e z m f j w =
+    let g : n + k ≤ 18446744073709551615 = omega arith in
+    rw w (rw (part-to-end 20 l) (simp (le-ltb _ _ h, le-ltb _ _ i, ← e, ne-eqb _ _ z, ← f, le-ltb _ _ g)))
+
+-- ---- a datagram that is not refused: none of the ladder's grounds applies
+
+-- a choice that answers 0 took neither its first side nor a further refusal
+pub past-ground : (b : Bool) (x y : ℕ) → if b then x else y ≡ 0 → 0 < x → (b ≡ false) × (y ≡ 0)
+past-ground true x y e h = absurd (omega arith)
+past-ground false x y e h = (refl, e)
+
+pub record Sound (l : List ℕ) : Type 0 where
+  pub long : 20 ≤ length l
+  pub short : length l ≤ 65507
+  pub number-good : numberOf l ≡ 0 → ⊥
+  pub numbers-fit : numberOf l + blockCount l ≤ 18446744073709551615
+  pub blocks-good : blocksRefusal (blockCount l) (drop 20 l) ≡ 0
+
+pub sound : (l : List ℕ) → refusalOf l ≡ 0 → Sound l
+unfolding refusalOf
+sound l e =
+    let a = past-ground (ltb (length l) 20) _ _ e (omega arith) in
+    let b = past-ground (ltb 65507 (length l)) _ _ (a .1) (omega arith) in
+    let c = past-ground (eqb (numberOf l) 0) _ _ (b .1) (omega arith) in
+    let d = past-ground (ltb 18446744073709551615 (numberOf l + blockCount l)) _ _ (c .1) (omega arith) in
+    record {
+      long = ltb-false _ _ (a .0);
+      short = ltb-false _ _ (b .0);
+      number-good = eqb-false _ _ (c .0);
+      numbers-fit = ltb-false _ _ (d .0);
+      blocks-good = d .1;
+    }
+
+-- and where none applies, it is not refused
+pub accepted : (l : List ℕ) → Sound l → refusalOf l ≡ 0
+unfolding refusalOf
+accepted l s =
+    simp (le-ltb _ _ (s .long), le-ltb _ _ (s .short), ne-eqb _ _ (s .number-good), le-ltb _ _ (s .numbers-fit), s .blocks-good)
+
+-- ---- what the reader answers
+
+pub read-refused : (l : List ℕ) (r : Refusal) → r .number ≡ refusalOf l → (r .number ≡ 0 → ⊥) → downstreamWords (Refused r) ≡ readOf l
+unfolding readOf downstreamWords
+read-refused l r e z = simp (← e, ne-eqb _ _ z)
+
+module _ (l : List ℕ) (r : Refusal) (n : SequenceNumber) (c : MessageCount) where
+  pub read-heartbeat : r .number ≡ refusalOf l → r .number ≡ 0 → n .0 ≡ numberOf l → c .0 ≡ countOf l → c .0 ≡ 0
+      → downstreamWords (Heartbeat n) ≡ readOf l
+  unfolding readOf downstreamWords
+  read-heartbeat e z f g h = rw (← e, z, ← g, kind-heartbeat (c .0) h, f)
+
+  pub read-end : r .number ≡ refusalOf l → r .number ≡ 0 → n .0 ≡ numberOf l → c .0 ≡ countOf l → c .0 ≡ 65535
+      → downstreamWords (EndOfSession n) ≡ readOf l
+  unfolding readOf downstreamWords
+  read-end e z f g h = rw (← e, z, ← g, kind-end (c .0) h, f)
+
+  pub read-data : r .number ≡ refusalOf l → r .number ≡ 0 → n .0 ≡ numberOf l → c .0 ≡ countOf l → (c .0 ≡ 0 → ⊥) → (c .0 ≡ 65535 → ⊥)
+      → downstreamWords (Data n c) ≡ readOf l
+  unfolding readOf downstreamWords
+  read-data e z f g h i = rw (← e, z, ← g, kind-data (c .0) h i, f, g)
+
+pub tells-apart : TellsApart
+unfolding TellsApart downstreamWords
+tells-apart (Data n c) (Data m d) e =
+    let v = values-of e in
+    let p : n .0 ≡ m .0 = cc in
+    let q : c .0 ≡ d .0 = cc in
+    ap (λ k. Data (record { 0 = k }) c) p ∙ ap (λ k. Data m (record { 0 = k })) q
+tells-apart (Data n c) (Heartbeat m) e = let w = which-of e in let z : _≡_ {A = ℕ} 0 1 = cc in absurd (omega arith)
+tells-apart (Data n c) (EndOfSession m) e = let w = which-of e in let z : _≡_ {A = ℕ} 0 1 = cc in absurd (omega arith)
+tells-apart (Data n c) (Refused r) e = let w = which-of e in let z : _≡_ {A = ℕ} 0 1 = cc in absurd (omega arith)
+tells-apart (Heartbeat n) (Data m d) e = let w = which-of e in let z : _≡_ {A = ℕ} 0 1 = cc in absurd (omega arith)
+tells-apart (Heartbeat n) (Heartbeat m) e = let v = values-of e in let p : n .0 ≡ m .0 = cc in ap (λ k. Heartbeat (record { 0 = k })) p
+tells-apart (Heartbeat n) (EndOfSession m) e = let w = which-of e in let z : _≡_ {A = ℕ} 0 1 = cc in absurd (omega arith)
+tells-apart (Heartbeat n) (Refused r) e = let w = which-of e in let z : _≡_ {A = ℕ} 0 1 = cc in absurd (omega arith)
+tells-apart (EndOfSession n) (Data m d) e = let w = which-of e in let z : _≡_ {A = ℕ} 0 1 = cc in absurd (omega arith)
+tells-apart (EndOfSession n) (Heartbeat m) e = let w = which-of e in let z : _≡_ {A = ℕ} 0 1 = cc in absurd (omega arith)
+tells-apart (EndOfSession n) (EndOfSession m) e = let v = values-of e in let p : n .0 ≡ m .0 = cc in ap (λ k. EndOfSession (record { 0 = k })) p
+tells-apart (EndOfSession n) (Refused r) e = let w = which-of e in let z : _≡_ {A = ℕ} 0 1 = cc in absurd (omega arith)
+tells-apart (Refused r) (Data m d) e = let w = which-of e in let z : _≡_ {A = ℕ} 0 1 = cc in absurd (omega arith)
+tells-apart (Refused r) (Heartbeat m) e = let w = which-of e in let z : _≡_ {A = ℕ} 0 1 = cc in absurd (omega arith)
+tells-apart (Refused r) (EndOfSession m) e = let w = which-of e in let z : _≡_ {A = ℕ} 0 1 = cc in absurd (omega arith)
+tells-apart (Refused r) (Refused s) e = ap (λ k. Refused (record { number = k })) (refusal-of e)
+
+-- ---- the session and the messages
+
+pub sound-length : (l : List ℕ) (r : ℕ) → r ≡ refusalOf l → r ≡ 0 → 20 ≤ length l
+sound-length l r e z = sound l (sym e ∙ z) .long
+
+pub session-refused : (l : List ℕ) (r : ℕ) → r ≡ refusalOf l → (r ≡ 0 → ⊥) → [] ≡ sessionOf l
+unfolding sessionOf
+session-refused l r e z = simp (← e, ne-eqb _ _ z)
+
+pub session-read : (l : List ℕ) (r : ℕ) → r ≡ refusalOf l → r ≡ 0 → take 10 l ≡ sessionOf l
+unfolding sessionOf
+session-read l r e z = simp (← e, z)
+
+-- a session is at most ten bytes, so its first ten are all of it
+short-session : (l : List ℕ) → length (sessionOf l) ≤ 10
+unfolding sessionOf
+short-session l = go (eqb (refusalOf l) 0)
+  where
+    go : (b : Bool) → length (if b then take 10 l else []) ≤ 10
+    go true = omega (arith, length-take 10 l)
+    go false = omega arith
+
+pub session-ten : (l s m : List ℕ) (b : Bool) → s ≡ sessionOf l → b ≡ sameBytes (take 10 (drop 0 s)) m → b ≡ sameBytes (sessionOf l) m
+session-ten l s m b e f = f ∙ ap (λ (t : List ℕ). sameBytes t m) (take-all 10 s (let h = short-session l in omega (arith, ap length e)) ∙ e)
+
+pub messages-refused : (l : List ℕ) (r : ℕ) → r ≡ refusalOf l → (r ≡ 0 → ⊥) → messagesOf l ≡ []
+unfolding messagesOf
+messages-refused l r e z = simp (← e, ne-eqb _ _ z)
+
+pub messages-sound : (l : List ℕ) → refusalOf l ≡ 0 → messagesOf l ≡ messages (blockCount l) (drop 20 l)
+unfolding messagesOf
+messages-sound l e = simp e
+
+pub count-sound : (l : List ℕ) → refusalOf l ≡ 0 → length (messagesOf l) ≡ blockCount l
+count-sound l e = ap length (messages-sound l e) ∙ length-messages (blockCount l) (drop 20 l)
+
+-- ---- what the words say of the datagram
+
+pub record IsData (l : List ℕ) (n c : ℕ) : Type 0 where
+  pub well : refusalOf l ≡ 0
+  pub kind : kindOf l ≡ data-packet
+  pub first : n ≡ numberOf l
+  pub count : c ≡ countOf l
+  pub blocks : blockCount l ≡ c
+
+-- a refusal says no kind
+not-refused : (l : List ℕ) (k : Kind) (vs : List ℕ) → readOf l ≡ says k vs → refusalOf l ≡ 0
+unfolding readOf
+not-refused l k vs e = go (eqb (refusalOf l) 0) refl e
+  where
+    go : (b : Bool) → eqb (refusalOf l) 0 ≡ b → if b then says (kindOf l) (valuesOf (kindOf l) l) else refuses (refusalOf l) ≡ says k vs → refusalOf l ≡ 0
+    go true d f = eqb-true _ _ d
+    go false d f = let w = which-of f in let z : _≡_ {A = ℕ} 0 1 = cc in absurd (omega arith)
+
+-- what a datagram that is not refused says
+pub said : (l : List ℕ) → refusalOf l ≡ 0 → readOf l ≡ says (kindOf l) (valuesOf (kindOf l) l)
+unfolding readOf
+said l e = simp e
+
+pub data-read : (l : List ℕ) (n c : ℕ) → readOf l ≡ says data-packet (n ∷ c ∷ []) → IsData l n c
+unfolding blockCount
+data-read l n c e =
+    let w = not-refused l data-packet (n ∷ c ∷ []) e in
+    let f = sym (said l w) ∙ e in
+    let k : kindOf l ≡ data-packet = let g = which-of f in cc in
+    let v : numberOf l ∷ countOf l ∷ [] ≡ n ∷ c ∷ [] = ap (λ (x : Kind). valuesOf x l) (sym k) ∙ values-of f in
+    let p : numberOf l ≡ n = cc in
+    let q : countOf l ≡ c = cc in
+    record { well = w; kind = k; first = sym p; count = sym q; blocks = ap (λ (x : Kind). blockCountOf x (countOf l)) k ∙ q }

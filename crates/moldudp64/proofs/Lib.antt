@@ -1,0 +1,5 @@
+pub mod HeaderLaws
+pub mod BlockLaws
+pub mod DownstreamLaws
+pub mod CursorLaws
+pub mod Rules
