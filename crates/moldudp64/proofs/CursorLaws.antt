@@ -1,7 +1,7 @@
 -- Laws of the cursor: what it stands at, how it moves, and that it walks the messages.
 use mathlib.Core.Path.{_≡_, refl, ap, sym, _∙_}
 use mathlib.Core.List.{List, [], _∷_, _++_}
-use mathlib.Core.Bool.{Bool, true, false}
+use mathlib.Core.Bool.{Bool, true, false, not}
 use Prim.Native.Nat.{ℕ, zero, suc, _+_, _-_, _≤_, _<_}
 use native.Mathlib.Omega.{arith}
 use native.Mathlib.Nat.{add-zero}
@@ -9,7 +9,9 @@ use native.Mathlib.Numerals.{sub-one}
 use lib.ListN.{length, getD, take, drop, length-take, length-drop, length-append, List·getD-eq-default}
 use lib.Seq.{drop-drop}
 use lib.Dec.{leb, ltb, eqb}
-use borrow.Author.Tests.{le-leb, lt-leb, leb-true, lt-ltb, le-ltb, ltb-true, ltb-false, eq-eqb, ne-eqb, eqb-true, eqb-false}
+use mir.Val.{Fits}
+use mir.Syntax.{w64}
+use borrow.Author.Tests.{le-leb, lt-leb, leb-true, lt-ltb, le-ltb, ltb-true, ltb-false, eq-eqb, ne-eqb, eqb-true, eqb-false, not-true}
 use Rattle.wire.specs.Choice.{if_then_else_}
 use Rattle.wire.specs.Bytes.{bytes}
 use Rattle.wire.proofs.Numbers.{part-to-end, length-bytes}
@@ -31,21 +33,27 @@ at-over : (l : List ℕ) (at n : ℕ) → length l < at + sizeOf (drop at l) →
 unfolding locatedAt
 at-over l at n h = go (eqb n 0)
   where
-    not : fits (drop at l) ≡ false
-    not = fits-not (drop at l) (omega (arith, length-drop at l))
+    over : fits (drop at l) ≡ false
+    over = fits-not (drop at l) (omega (arith, length-drop at l))
+
     go : (b : Bool) → nowhere ≡ if b then nowhere else if fits (drop at l) then there (at + 2) (lengthOf (drop at l)) else nowhere
     go true = refl
-    go false = rw not
+    go false = rw over
 
 pub located-beyond : (l : List ℕ) (at n : ℕ) (r : Located) → r ≡ nowhere → length l < at → r ≡ locatedAt l at n
 located-beyond l at n r e h = e ∙ at-over l at n (omega arith)
 
-pub located-stub : (l : List ℕ) (at n : ℕ) (r : Located) → r ≡ nowhere → at ≤ length l → length l - at < 2 → r ≡ locatedAt l at n
-located-stub l at n r e f h = e ∙ at-over l at n (omega arith)
+-- the bytes of the part from the place on
+part-length : (l : List ℕ) (at : ℕ) → length (take (length l - at) (drop at l)) ≡ length l - at
+part-length l at = ap length (part-to-end at l) ∙ length-drop at l
+
+pub located-stub : (l : List ℕ) (at n : ℕ) (r : Located) → r ≡ nowhere → at ≤ length l → length (take (length l - at) (drop at l)) < 2 → r ≡ locatedAt l at n
+located-stub l at n r e f h = let g = part-length l at in e ∙ at-over l at n (omega arith)
 
 pub located-over : (l : List ℕ) (at n k : ℕ) (r : Located) → r ≡ nowhere → at ≤ length l
-    → k ≡ sizeOf (take (length l - at) (drop at l)) → length l - at < k → r ≡ locatedAt l at n
+    → k ≡ sizeOf (take (length l - at) (drop at l)) → length (take (length l - at) (drop at l)) < k → r ≡ locatedAt l at n
 located-over l at n k r e f d h =
+    let g = part-length l at in
     let m : k ≡ sizeOf (drop at l) = d ∙ ap sizeOf (part-to-end at l) in
     e ∙ at-over l at n (omega arith)
 
@@ -54,8 +62,9 @@ unfolding locatedAt
 at-there l at n z h = rw (ne-eqb _ _ z, fits-so (drop at l) (omega (arith, length-drop at l)))
 
 pub located-there : (l : List ℕ) (at n k : ℕ) → (n ≡ 0 → ⊥) → at ≤ length l
-    → k ≡ sizeOf (take (length l - at) (drop at l)) → k ≤ length l - at → there (at + 2) (k - 2) ≡ locatedAt l at n
+    → k ≡ sizeOf (take (length l - at) (drop at l)) → k ≤ length (take (length l - at) (drop at l)) → there (at + 2) (k - 2) ≡ locatedAt l at n
 located-there l at n k z f d h =
+    let q = part-length l at in
     let m : k ≡ sizeOf (drop at l) = d ∙ ap sizeOf (part-to-end at l) in
     let g : k - 2 ≡ lengthOf (drop at l) = omega arith in
     rw g (at-there l at n z (omega arith))
@@ -89,6 +98,9 @@ found l at n p e = rw e (found-at l at n)
 pub found-within : (l : List ℕ) (at n : ℕ) (p : Located) → p ≡ locatedAt l at n → p .offset .0 + p .length ≤ length l
 found-within l at n p e = found l at n p e .within
 
+pub found-fits : (l : List ℕ) (at n : ℕ) (p : Located) → Fits w64 (length l) → p ≡ locatedAt l at n → Fits w64 (p .offset .0 + p .length)
+found-fits l at n p f e = record { fits = let h = found-within l at n p e in omega arith }
+
 pub found-counted : (l : List ℕ) (at n : ℕ) (p : Located) → p ≡ locatedAt l at n → p .exists ≡ true → 1 ≤ n
 found-counted l at n p e h = found l at n p e .counted h
 
@@ -118,10 +130,10 @@ by-step zero l c d e v h f = absurd (omega arith)
 by-step (suc k) l c d e v h f = rw (sub-one, f) v
 
 -- a cursor that stays is where it would be after any moves
-pub by-stuck : (k : ℕ) (l : List ℕ) (c e : Cursor) (p : Located) → movedBy k l c ≡ e → p ≡ located l c → p .exists ≡ false → c ≡ e
+pub by-stuck : (k : ℕ) (l : List ℕ) (c e : Cursor) (p : Located) → movedBy k l c ≡ e → p ≡ located l c → not (p .exists) ≡ true → c ≡ e
 unfolding movedBy
 by-stuck zero l c e p v f h = v
-by-stuck (suc k) l c e p v f h = let s = moved-stays l c p f h in by-stuck k l c e p (rw (← s) at v) f h
+by-stuck (suc k) l c e p v f h = let s = moved-stays l c p f (not-true _ h) in by-stuck k l c e p (rw (← s) at v) f h
 
 pub by-end : (k : ℕ) (l : List ℕ) (c e : Cursor) → movedBy k l c ≡ e → k ≤ 0 → c ≡ e
 unfolding movedBy

@@ -11,7 +11,7 @@ use borrow.Author.Tests.{lt-ltb, le-ltb, eq-eqb, ne-eqb, ltb-false, eqb-true, eq
 use mir.Val.{Fits}
 use mir.Syntax.{w64}
 use Rattle.wire.specs.Choice.{if_then_else_}
-use Rattle.wire.specs.Words.{says, refuses}
+use Rattle.wire.specs.Words.{says, refuses, Injective}
 use Rattle.wire.specs.Bytes.{sameBytes}
 use Rattle.wire.specs.declared.refusal.Refusal.{Refusal}
 use Rattle.wire.specs.declared.kinds.SequenceNumber.{SequenceNumber}
@@ -22,7 +22,7 @@ use Rattle.moldudp64.specs.Header.{numberOf, countOf}
 use Rattle.moldudp64.specs.Blocks.{blocksRefusal, messages}
 use Rattle.moldudp64.specs.declared.downstream.Downstream.{Downstream}
 use Rattle.moldudp64.specs.declared.downstream.Downstream.the-variants.{Data, Heartbeat, EndOfSession, Refused}
-use Rattle.moldudp64.specs.Downstream.{Kind, data-packet, heartbeat, end-of-session, kindOfCount, kindOf, blockCountOf, blockCount, valuesOf, refusalOf, readOf, downstreamWords, TellsApart, sessionOf, messagesOf}
+use Rattle.moldudp64.specs.Downstream.{Kind, data-packet, heartbeat, end-of-session, kindOfCount, kindOf, blockCountOf, blockCount, valuesOf, refusalOf, readOf, downstreamWords, sessionOf, messagesOf}
 use Rattle.moldudp64.proofs.BlockLaws.{length-messages}
 
 -- ---- kinds and blocks
@@ -133,8 +133,8 @@ module _ (l : List ℕ) (r : Refusal) (n : SequenceNumber) (c : MessageCount) wh
   unfolding readOf downstreamWords
   read-data e z f g h i = rw (← e, z, ← g, kind-data (c .0) h i, f, g)
 
-pub tells-apart : TellsApart
-unfolding TellsApart downstreamWords
+pub tells-apart : Injective downstreamWords
+unfolding downstreamWords
 tells-apart (Data n c) (Data m d) e =
     let v = values-of e in
     let p : n .0 ≡ m .0 = cc in
@@ -225,3 +225,6 @@ data-read l n c e =
     let p : numberOf l ≡ n = cc in
     let q : countOf l ≡ c = cc in
     record { well = w; kind = k; first = sym p; count = sym q; blocks = ap (λ (x : Kind). blockCountOf x (countOf l)) k ∙ q }
+
+pub sound-ten : (l : List ℕ) (r : ℕ) → r ≡ refusalOf l → r ≡ 0 → length (take 10 l) ≡ 10
+sound-ten l r e z = let h = sound-length l r e z in omega (arith, length-take 10 l)

@@ -61,7 +61,7 @@ module _ (s : List ℕ) (n c : ℕ) (ten : length s ≡ 10) (b : List ℕ) where
 
 -- ---- what is read is what was written
 
-drop-bytes : (k : ℕ) (l : List ℕ) → AreBytes l → AreBytes (drop k l)
+pub drop-bytes : (k : ℕ) (l : List ℕ) → AreBytes l → AreBytes (drop k l)
 drop-bytes k l small i = rw (lib.Seq.getD-drop k l i 0) (small (k + i))
 
 pub header-again : (l : List ℕ) → AreBytes l → 20 ≤ length l → header (take 10 l) (numberOf l) (countOf l) ≡ take 20 l

@@ -7,7 +7,7 @@ use lib.Dec.{ltb, eqb}
 use Rattle.wire.specs.Choice.{if_then_else_}
 use Rattle.wire.specs.Refusals.{datagramShort, datagramLong, numberZero, numbersRunOut}
 use Rattle.wire.specs.Bounds.{largestNumber, sessionSize}
-use Rattle.wire.specs.Words.{Words, says, refuses, refusedWords, Injective}
+use Rattle.wire.specs.Words.{Words, says, refuses, refusedWords}
 use Rattle.moldudp64.specs.Header.{headerSize, largestDatagram, endCount, numberOf, countOf}
 use Rattle.moldudp64.specs.Blocks.{messages, blocksRefusal}
 use Rattle.moldudp64.specs.declared.downstream.Downstream.{Downstream}
@@ -68,10 +68,6 @@ downstreamWords (Data first count) = says data-packet (first .0 ∷ count .0 ∷
 downstreamWords (Heartbeat next) = says heartbeat (next .0 ∷ [])
 downstreamWords (EndOfSession next) = says end-of-session (next .0 ∷ [])
 downstreamWords (Refused r) = refusedWords r
-
--- these words tell all answers apart
-unfoldable pub TellsApart : Type 0
-TellsApart = Injective downstreamWords
 
 -- the session: no bytes where the datagram is refused
 unfoldable pub sessionOf : List ℕ → List ℕ

@@ -7,7 +7,7 @@ use lib.Dec.{eqb}
 use Rattle.wire.specs.Choice.{if_then_else_}
 use Rattle.wire.specs.Refusals.{numberZero, requestSize, requestCount}
 use Rattle.wire.specs.Bounds.{sessionSize}
-use Rattle.wire.specs.Words.{Words, says, refuses, refusedWords, Injective}
+use Rattle.wire.specs.Words.{Words, says, refuses, refusedWords}
 use Rattle.moldudp64.specs.Header.{headerSize, endCount, numberOf, countOf}
 use Rattle.moldudp64.specs.declared.request.Request.{Request}
 use Rattle.moldudp64.specs.declared.request.Request.the-variants.{Wanted, Refused}
@@ -40,10 +40,6 @@ requestOf l =
 unfoldable pub requestWords : Request → Words Asking
 requestWords (Wanted first count) = says wanted (first .0 ∷ count .0 ∷ [])
 requestWords (Refused r) = refusedWords r
-
--- these words tell all answers apart
-unfoldable pub TellsApart : Type 0
-TellsApart = Injective requestWords
 
 -- the session: no bytes where the request is refused
 unfoldable pub requestSession : List ℕ → List ℕ

@@ -5,13 +5,13 @@ use mathlib.Core.List.{List, [], _∷_}
 use mathlib.Core.Path.{_≡_}
 use lib.ListN.{length, getD, take}
 use Rattle.wire.specs.Bounds.{sessionSize}
-use Rattle.wire.specs.Words.{says}
+use Rattle.wire.specs.Words.{says, Injective}
 use Rattle.wire.specs.Bytes.{AreBytes}
 use Rattle.wire.specs.Output.{wrote, put, writeAnswer, writeOutput}
 use Rattle.moldudp64.specs.Header.{numberOf, countOf, header}
-use Rattle.moldudp64.specs.Downstream.{Kind, data-packet, heartbeat, end-of-session, kindOf, refusalOf, readOf, sessionOf, messagesOf}
+use Rattle.moldudp64.specs.Downstream.{Kind, data-packet, heartbeat, end-of-session, kindOf, refusalOf, readOf, downstreamWords, sessionOf, messagesOf}
 use Rattle.moldudp64.specs.Writer.{packetOf, cut, lengthsOf, joined, packetGround, endPacket, endGround}
-use Rattle.moldudp64.specs.Request.{wanted, requestGround, requestRefusal, requestOf, requestSession}
+use Rattle.moldudp64.specs.Request.{wanted, requestGround, requestRefusal, requestOf, requestWords, requestSession}
 
 -- the bytes p read as a datagram of this session, kind, values and messages
 pub record ReadsAs (p session : List ℕ) (kind : Kind) (values : List ℕ) (ms : List (List ℕ)) : Type 0 where
@@ -79,3 +79,14 @@ RequestReadsBack = (l session : List ℕ) (n c size : ℕ) → length session �
 unfoldable pub RequestWritesBack : Type 0
 RequestWritesBack = (l : List ℕ) → AreBytes l → requestRefusal l ≡ 0
     → WritesTo l (requestGround (numberOf l) (countOf l)) (header (requestSession l) (numberOf l) (countOf l))
+
+-- ---- what the two readers promise beside their answers
+
+pub record DownstreamPromises : Type 0 where
+  pub tells-apart : Injective downstreamWords
+  pub packet-writes-back : PacketWritesBack
+  pub end-writes-back : EndWritesBack
+
+pub record RequestPromises : Type 0 where
+  pub tells-apart : Injective requestWords
+  pub request-writes-back : RequestWritesBack

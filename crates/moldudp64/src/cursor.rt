@@ -99,13 +99,13 @@ impl Cursor {
         ensures { λ r. ⌜ r ≡ moved (now (datagram .entry)) self ⌝ }
     {
         let found = self.locate(datagram);
-        if !found.exists {
-            return self;
+        if found.exists {
+            return Cursor {
+                at: ByteOffset(found.offset.0 + found.length),
+                left: MessageCount(self.left.0 - 1),
+            };
         }
-        Cursor {
-            at: ByteOffset(found.offset.0 + found.length),
-            left: MessageCount(self.left.0 - 1),
-        }
+        self
     }
 
     // The cursor after so many moves. A cursor that stays is not moved on.

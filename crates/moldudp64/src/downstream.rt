@@ -11,8 +11,8 @@ use wire::refusal;
 use wire::refusal::Refusal;
 ghost use mathlib.Core.Path.{_≡_};
 ghost use Rattle.wire.specs.Bytes.{sameBytes};
-ghost use Rattle.moldudp64.specs.Downstream.{blockCount, refusalOf, downstreamWords, readOf, sessionOf, TellsApart};
-ghost use Rattle.moldudp64.specs.RoundTrips.{PacketWritesBack, EndWritesBack};
+ghost use Rattle.moldudp64.specs.Downstream.{blockCount, refusalOf, downstreamWords, readOf, sessionOf};
+ghost use Rattle.moldudp64.specs.RoundTrips.{DownstreamPromises};
 
 // What a datagram says.
 pub enum Downstream {
@@ -70,9 +70,7 @@ pub(crate) fn refusal_of(datagram: &[u8]) -> Refusal
 // Reads a datagram, with one walk over its blocks.
 pub fn read(datagram: &[u8]) -> Downstream
     ensures { λ r. ⌜ downstreamWords r ≡ readOf (now (datagram .entry)) ⌝ }
-    ensures tells_apart { λ _. ⌜ TellsApart ⌝ }
-    ensures writes_back { λ _. ⌜ PacketWritesBack ⌝ }
-    ensures end_writes_back { λ _. ⌜ EndWritesBack ⌝ }
+    ensures promises { λ _. ⌜ DownstreamPromises ⌝ }
 {
     let refused = refusal_of(datagram);
     if refused.number != 0 {

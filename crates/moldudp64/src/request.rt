@@ -9,8 +9,8 @@ use wire::refusal::Refusal;
 ghost use mathlib.Core.Path.{_≡_};
 ghost use Rattle.wire.specs.Output.{Writes};
 ghost use Rattle.moldudp64.specs.Header.{header};
-ghost use Rattle.moldudp64.specs.Request.{requestGround, requestRefusal, requestWords, requestOf, requestSession, TellsApart};
-ghost use Rattle.moldudp64.specs.RoundTrips.{RequestReadsBack, RequestWritesBack};
+ghost use Rattle.moldudp64.specs.Request.{requestGround, requestRefusal, requestWords, requestOf, requestSession};
+ghost use Rattle.moldudp64.specs.RoundTrips.{RequestReadsBack, RequestPromises};
 
 // What a request says.
 pub enum Request {
@@ -56,8 +56,7 @@ fn refusal_of(request: &[u8]) -> Refusal
 // Reads a request.
 pub fn read(request: &[u8]) -> Request
     ensures { λ r. ⌜ requestWords r ≡ requestOf (now (request .entry)) ⌝ }
-    ensures tells_apart { λ _. ⌜ TellsApart ⌝ }
-    ensures writes_back { λ _. ⌜ RequestWritesBack ⌝ }
+    ensures promises { λ _. ⌜ RequestPromises ⌝ }
 {
     let refused = refusal_of(request);
     if refused.number != 0 {

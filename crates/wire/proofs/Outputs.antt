@@ -153,6 +153,30 @@ refusal-nothing : RefusalWritesNothing
 unfolding RefusalWritesNothing
 refusal-nothing r l m g at bs w e = refusal-writes-nothing l at bs r m g w e
 
+-- ---- what a writer that wrote says of its ground and its bytes
+
+pub record WroteSo (g : ℕ) (l : List ℕ) (at : ℕ) (bs : List ℕ) (k : ℕ) : Type 0 where
+  pub no-ground : g ≡ 0
+  pub room : at + length bs ≤ length l
+  pub size : k ≡ length bs
+
+pub wrote-so : (g : ℕ) (l : List ℕ) (at : ℕ) (bs : List ℕ) (k : ℕ) → writeAnswer g l at bs ≡ says wrote (k ∷ []) → WroteSo g l at bs k
+unfolding writeAnswer writeRefusal
+wrote-so g l at bs k = go (eqb g 0) refl (leb (at + length bs) (length l)) refl
+  where
+    go : (b : Bool) → eqb g 0 ≡ b → (c : Bool) → leb (at + length bs) (length l) ≡ c
+        → if eqb (if b then (if c then 0 else outputShort) else g) 0 then says wrote (length bs ∷ []) else refuses (if b then (if c then 0 else outputShort) else g) ≡ says wrote (k ∷ [])
+        → WroteSo g l at bs k
+    go true d true f e = record { no-ground = eqb-true _ _ d; room = leb-true _ _ f; size = let v = values-of e in cc }
+    go true d false f e = let w = which-of e in let z : _≡_ {A = ℕ} 0 1 = cc in absurd (omega arith)
+    go false d c f e = let w = which-of (rw d at e) in let z : _≡_ {A = ℕ} 0 1 = cc in absurd (omega arith)
+
+-- the bytes that it reports are its bytes
+pub wrote-front : (g : ℕ) (l bs : List ℕ) (k : ℕ) → writeAnswer g l 0 bs ≡ says wrote (k ∷ []) → take k (writeOutput g l 0 bs) ≡ bs
+wrote-front g l bs k e =
+    let s = wrote-so g l 0 bs k e in
+    rw (s .no-ground, s .size, put-room l 0 bs (s .room)) (take-at bs (drop (0 + length bs) l) (length bs) refl)
+
 -- ---- as the code of `put16`, `put64` and `put_bytes` has them: n is the size
 
 module _ (l : List ℕ) (at : ℕ) (bs : List ℕ) where

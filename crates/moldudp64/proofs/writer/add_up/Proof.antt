@@ -1,0 +1,52 @@
+use Rattle.moldudp64.proofs.Rules.{writers}
+use Rattle.moldudp64.proofs.writer.add_up.Statement.{statement}
+use Rattle.moldudp64.proofs.writer.add_up.Tie as tie
+
+abbrev Inv-loop : tie.InvT-loop
+Inv-loop lengths joined left₀ i₀ left i = ?
+
+abbrev μ-loop : tie.MeasureT-loop
+μ-loop lengths joined left₀ i₀ left i = ?
+
+loop-holds : tie.Need-loop-holds Inv-loop μ-loop
+loop-holds c = search writers
+
+mul-length : tie.Need-mul-length Inv-loop μ-loop
+mul-length c = search writers
+
+shared-slice-read-length : tie.Need-shared-slice-read-length Inv-loop μ-loop
+shared-slice-read-length c = search writers
+
+cast-length : tie.Need-cast-length Inv-loop μ-loop
+cast-length c = search writers
+
+returns : tie.Need-returns Inv-loop μ-loop
+returns c = search writers
+
+add-i : tie.Need-add-i Inv-loop μ-loop
+add-i c = search writers
+
+loop-less : tie.Need-loop-less Inv-loop μ-loop
+loop-less c = search writers
+
+loop-again : tie.Need-loop-again Inv-loop μ-loop
+loop-again c = search writers
+
+returns-2 : tie.Need-returns-2 Inv-loop μ-loop
+returns-2 c = search writers
+
+pub add-up-spec : {M : Type 1} → statement M
+add-up-spec =
+    tie.close
+    (tie.spec
+    Inv-loop
+    μ-loop
+    loop-holds
+    mul-length
+    shared-slice-read-length
+    cast-length
+    returns
+    add-i
+    loop-less
+    loop-again
+    returns-2)
