@@ -24,20 +24,11 @@ use Rattle.moldudp64.specs.RoundTrips.{ReadsAs, WritesTo, kindOfMessages
 use Rattle.moldudp64.proofs.HeaderLaws.{length-header, header-session, header-number, header-count, header-rest, header-again, drop-bytes}
 use Rattle.moldudp64.proofs.BlockLaws.{fits-so, sound-fit, sound-end, first-fits, rest-fit, length-messages}
 use Rattle.moldudp64.proofs.DownstreamLaws.{kind-heartbeat, kind-end, kind-data, count-end, count-blocks, Sound, sound, accepted, tells-apart, said, messages-sound, count-sound}
+use Rattle.moldudp64.proofs.CutLaws.{laid, laid-front, laid-size, cut-count, cut-short, cut-size, join-again, lengths-count, lengths-total, joined-size}
 use Rattle.moldudp64.proofs.WriterLaws.{Writable, writable, not-writable, end-good}
 use Rattle.moldudp64.proofs.RequestLaws.{request-sound, request-tells-apart}
 
 -- ---- one block in front of others
-
-abbrev laid : List ℕ → List ℕ → List ℕ
-laid m rest = bytes 2 (length m) ++ m ++ rest
-
-module _ (m rest : List ℕ) where
-  laid-front : length (bytes 2 (length m) ++ m) ≡ length m + 2
-  laid-front = omega (arith, length-append (bytes 2 (length m)) m, length-bytes 2 (length m))
-
-  laid-size : length (laid m rest) ≡ length m + 2 + length rest
-  laid-size = let f = laid-front in omega (arith, length-append (bytes 2 (length m) ++ m) rest)
 
 module _ (m rest : List ℕ) (small : length m < 2 ^ 16) where
   laid-length : lengthOf (laid m rest) ≡ length m
@@ -87,47 +78,6 @@ blocks-read (m ∷ ms) s =
 blocks-good : (ms : List (List ℕ)) → Short ms → blocksRefusal (length ms) (blocksOf ms) ≡ 0
 unfolding blocksRefusal
 blocks-good ms s = rw (blocks-fit ms s, blocks-end ms s)
-
--- ---- messages as lengths and joined data, and back
-
-cut-count : (ks d : List ℕ) → length (cut ks d) ≡ length ks
-unfolding cut
-cut-count [] d = refl
-cut-count (k ∷ ks) d = ap suc (cut-count ks (drop k d))
-
-cut-short : (ks d : List ℕ) → ((i : ℕ) → getD ks i 0 < 2 ^ 16) → (i : ℕ) → length (getD (cut ks d) i []) < 2 ^ 16
-unfolding cut
-cut-short [] d h i = h i
-cut-short (k ∷ ks) d h zero = let b = h 0 in omega (arith, length-take k d)
-cut-short (k ∷ ks) d h (suc i) = cut-short ks (drop k d) (λ j. h (suc j)) i
-
-cut-size : (ks d : List ℕ) → total ks ≡ length d → length (blocksOf (cut ks d)) ≡ 2 * length ks + length d
-unfolding cut blocksOf total
-cut-size [] d e = omega arith
-cut-size (k ∷ ks) d e =
-    let n : length (take k d) ≡ k = omega (arith, length-take k d) in
-    let r = cut-size ks (drop k d) (omega (arith, length-drop k d)) in
-    omega (arith, laid-size (take k d) (blocksOf (cut ks (drop k d))), length-drop k d)
-
-join-again : (ms : List (List ℕ)) → cut (lengthsOf ms) (joined ms) ≡ ms
-unfolding cut lengthsOf joined
-join-again [] = refl
-join-again (m ∷ ms) = rw (take-at m (joined ms) (length m) refl, drop-at m (joined ms) (length m) refl, join-again ms)
-
-lengths-count : (ms : List (List ℕ)) → length (lengthsOf ms) ≡ length ms
-unfolding lengthsOf
-lengths-count [] = refl
-lengths-count (m ∷ ms) = ap suc (lengths-count ms)
-
-lengths-total : (ms : List (List ℕ)) → total (lengthsOf ms) ≡ length (joined ms)
-unfolding lengthsOf joined total
-lengths-total [] = refl
-lengths-total (m ∷ ms) = omega (arith, lengths-total ms, length-append m (joined ms))
-
-joined-size : (ms : List (List ℕ)) → length (blocksOf ms) ≡ 2 * length ms + length (joined ms)
-unfolding blocksOf joined
-joined-size [] = refl
-joined-size (m ∷ ms) = omega (arith, joined-size ms, laid-size m (blocksOf ms), length-append m (joined ms))
 
 -- ---- blocks that were read, written
 

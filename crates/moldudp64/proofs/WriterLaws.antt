@@ -23,6 +23,7 @@ use Rattle.moldudp64.specs.Header.{header}
 use Rattle.moldudp64.specs.Blocks.{blocksOf}
 use Rattle.moldudp64.specs.Writer.{packet, cut, packetOf, total, addUp, packetSize, packetGround, endPacket, endGround}
 use Rattle.moldudp64.proofs.HeaderLaws.{length-header}
+use Rattle.moldudp64.proofs.CutLaws.{cut-count, cut-size}
 use Rattle.moldudp64.proofs.DownstreamLaws.{past-ground}
 
 -- ---- every packet writer, as code that has r as what its grounds gave and k as its size
@@ -86,19 +87,13 @@ adds-again ks i left v e h f = go (eqb (total (drop i ks)) left) refl
 pub adds-short : (ks : List ℕ) (i left : ℕ) (v : Bool) → eqb (total (drop i ks)) left ≡ v → i < length ks → left < getD ks i 0 → false ≡ v
 adds-short ks i left v e h f = sym (ne-eqb (total (drop i ks)) left (λ q. omega (arith, total-from ks i h))) ∙ e
 
-pub adds-all : (ks : List ℕ) (i left : ℕ) (v : Bool) → eqb (total (drop i ks)) left ≡ v → length ks ≤ i → left ≡ 0 → true ≡ v
-unfolding total
-adds-all ks i left v e h f = let d : drop i ks ≡ [] = drop-of-length-le ks {i = i} h in rw (d, f) at e
+zero-test : (n : ℕ) → eqb n 0 ≡ eqb 0 n
+zero-test zero = refl
+zero-test (suc n) = ne-eqb (suc n) 0 (omega arith) ∙ sym (ne-eqb 0 (suc n) (omega arith))
 
-pub adds-less : (ks : List ℕ) (i left : ℕ) (v : Bool) → eqb (total (drop i ks)) left ≡ v → length ks ≤ i → (left ≡ 0 → ⊥) → false ≡ v
+pub adds-end : (ks : List ℕ) (i left : ℕ) (v : Bool) → eqb (total (drop i ks)) left ≡ v → length ks ≤ i → eqb left 0 ≡ v
 unfolding total
-adds-less ks i left v e h f =
-    let d : drop i ks ≡ [] = drop-of-length-le ks {i = i} h in
-    let t : eqb 0 left ≡ v = rw d at e in
-    sym (ne-eqb 0 left (λ q. f (sym q))) ∙ t
-
-pub adds-up : (ks d : List ℕ) (v : Bool) → v ≡ eqb (total (drop 0 ks)) (length d) → v ≡ addUp ks d
-adds-up ks d v e = e
+adds-end ks i left v e h = let d : drop i ks ≡ [] = drop-of-length-le ks {i = i} h in zero-test left ∙ rw d at e
 
 -- ---- the grounds of a packet
 
@@ -167,3 +162,44 @@ pub not-writable : (n : ℕ) (ks d : List ℕ) → Writable n ks d → packetGro
 unfolding packetGround
 not-writable n ks d w =
     simp (le-ltb _ _ (w .few), eq-eqb _ _ (w .whole), ne-eqb _ _ (w .number-good), le-ltb _ _ (w .numbers-fit), le-ltb _ _ (w .small))
+
+-- ---- the packet, as code that has r as what its grounds gave
+
+module _ (n : ℕ) (ks d : List ℕ) (r : ℕ) where
+  pub size-fits : r ≡ packetGround n ks d → r ≡ 0 → Fits w64 (20 + 2 * length ks + length d)
+  size-fits e z = record { fits = let w = writable n ks d (sym e ∙ z) .small in omega arith }
+
+  pub count-fits : r ≡ packetGround n ks d → r ≡ 0 → Fits w16 (length ks)
+  count-fits e z = record { fits = let w = writable n ks d (sym e ∙ z) .few in omega arith }
+
+  pub packet-whole : r ≡ packetGround n ks d → r ≡ 0 → total ks ≡ length d
+  packet-whole e z = writable n ks d (sym e ∙ z) .whole
+
+  packet-size : (s : List ℕ) → length s ≡ 10 → r ≡ packetGround n ks d → r ≡ 0 → 20 + 2 * length ks + length d ≡ length (packetOf s n ks d)
+  unfolding packet
+  packet-size s ten e z =
+      let c = cut-size ks d (packet-whole e z) in
+      let h = length-header s n (length (cut ks d)) ten in
+      omega (arith, length-append (header s n (length (cut ks d))) (blocksOf (cut ks d)))
+
+  pub packet-short : (l s : List ℕ) → r ≡ packetGround n ks d → r ≡ 0 → length s ≡ 10 → length l < 20 + 2 * length ks + length d
+      → Writes (Refused (record { number = 41 })) l l (packetGround n ks d) 0 (packetOf s n ks d)
+  packet-short l s e z ten h = write-short l (packetOf s n ks d) (packetGround n ks d) r _ e z h (packet-size s ten e z)
+
+  pub packet-room : (l₁ l : List ℕ) (bs : List ℕ) → r ≡ packetGround n ks d → r ≡ 0 → 20 + 2 * length ks + length d ≤ length l → l₁ ≡ put l 0 bs
+      → 20 + length (blocksOf (cut ks d)) ≤ length l₁
+  packet-room l₁ l bs e z h p =
+      let c = cut-size ks d (packet-whole e z) in
+      omega (arith, ap length p, length-put l 0 bs)
+
+  pub packet-done : (l l₁ l₂ s : List ℕ) → r ≡ packetGround n ks d → r ≡ 0 → length s ≡ 10 → 20 + 2 * length ks + length d ≤ length l
+      → l₁ ≡ put l 0 (header s n (length ks)) → l₂ ≡ put l₁ 20 (blocksOf (cut ks d))
+      → Writes (Wrote (20 + 2 * length ks + length d)) l l₂ (packetGround n ks d) 0 (packetOf s n ks d)
+  unfolding packet
+  packet-done l l₁ l₂ s e z ten h p q =
+      let c = cut-size ks d (packet-whole e z) in
+      let k = cut-count ks d in
+      let t = length-header s n (length ks) ten in
+      let a : 0 + length (header s n (length ks)) ≡ 20 = omega arith in
+      let both : l₂ ≡ put l 0 (packetOf s n ks d) = rw (q, p, k) (rw a at (put-put l 0 (header s n (length ks)) (blocksOf (cut ks d)) (omega arith))) in
+      write-done l l₂ (packetOf s n ks d) (packetGround n ks d) r _ e z h (packet-size s ten e z) both

@@ -1,12 +1,18 @@
+use mathlib.Core.Path.{_≡_}
+use native.Mathlib.Omega.{arith}
+use Prim.Native.Nat.{_-_}
+use lib.ListN.{length, drop}
+use lib.Dec.{eqb}
+use Rattle.moldudp64.specs.Writer.{total, addUp}
 use Rattle.moldudp64.proofs.Rules.{writers}
 use Rattle.moldudp64.proofs.writer.add_up.Statement.{statement}
 use Rattle.moldudp64.proofs.writer.add_up.Tie as tie
 
 abbrev Inv-loop : tie.InvT-loop
-Inv-loop lengths joined left₀ i₀ left i = ?
+Inv-loop lengths joined left₀ i₀ left i = eqb (total (drop i lengths)) left ≡ addUp lengths joined
 
 abbrev μ-loop : tie.MeasureT-loop
-μ-loop lengths joined left₀ i₀ left i = ?
+μ-loop lengths joined left₀ i₀ left i = length lengths - i
 
 loop-holds : tie.Need-loop-holds Inv-loop μ-loop
 loop-holds c = search writers
@@ -18,7 +24,7 @@ shared-slice-read-length : tie.Need-shared-slice-read-length Inv-loop μ-loop
 shared-slice-read-length c = search writers
 
 cast-length : tie.Need-cast-length Inv-loop μ-loop
-cast-length c = search writers
+cast-length c = omega (arith, c .shared-slice-known .given (c .before .before .loop .i))
 
 returns : tie.Need-returns Inv-loop μ-loop
 returns c = search writers
