@@ -202,12 +202,13 @@ pub record IsData (l : List ℕ) (n c : ℕ) : Type 0 where
   pub blocks : blockCount l ≡ c
 
 -- a refusal says no kind
-not-refused : (l : List ℕ) (k : Kind) (vs : List ℕ) → readOf l ≡ says k vs → refusalOf l ≡ 0
+pub kind-read : (l : List ℕ) (k : Kind) (vs : List ℕ) → readOf l ≡ says k vs → (refusalOf l ≡ 0) × (kindOf l ≡ k)
 unfolding readOf
-not-refused l k vs e = go (eqb (refusalOf l) 0) refl e
+kind-read l k vs e = go (eqb (refusalOf l) 0) refl e
   where
-    go : (b : Bool) → eqb (refusalOf l) 0 ≡ b → if b then says (kindOf l) (valuesOf (kindOf l) l) else refuses (refusalOf l) ≡ says k vs → refusalOf l ≡ 0
-    go true d f = eqb-true _ _ d
+    go : (b : Bool) → eqb (refusalOf l) 0 ≡ b → if b then says (kindOf l) (valuesOf (kindOf l) l) else refuses (refusalOf l) ≡ says k vs
+        → (refusalOf l ≡ 0) × (kindOf l ≡ k)
+    go true d f = (eqb-true _ _ d, let w = which-of f in cc)
     go false d f = let w = which-of f in let z : _≡_ {A = ℕ} 0 1 = cc in absurd (omega arith)
 
 -- what a datagram that is not refused says
@@ -215,16 +216,25 @@ pub said : (l : List ℕ) → refusalOf l ≡ 0 → readOf l ≡ says (kindOf l)
 unfolding readOf
 said l e = simp e
 
+-- and a datagram that is not refused says one
+pub refusal-read : (l : List ℕ) (r : ℕ) → readOf l ≡ refuses r → refusalOf l ≡ 0 → ⊥
+refusal-read l r e z = let w = which-of (sym (said l z) ∙ e) in let k : _≡_ {A = ℕ} 0 1 = cc in omega arith
+
 pub data-read : (l : List ℕ) (n c : ℕ) → readOf l ≡ says data-packet (n ∷ c ∷ []) → IsData l n c
 unfolding blockCount
 data-read l n c e =
-    let w = not-refused l data-packet (n ∷ c ∷ []) e in
-    let f = sym (said l w) ∙ e in
-    let k : kindOf l ≡ data-packet = let g = which-of f in cc in
+    let s = kind-read l data-packet (n ∷ c ∷ []) e in
+    let f = sym (said l (s .0)) ∙ e in
+    let k : kindOf l ≡ data-packet = s .1 in
     let v : numberOf l ∷ countOf l ∷ [] ≡ n ∷ c ∷ [] = ap (λ (x : Kind). valuesOf x l) (sym k) ∙ values-of f in
     let p : numberOf l ≡ n = cc in
     let q : countOf l ≡ c = cc in
-    record { well = w; kind = k; first = sym p; count = sym q; blocks = ap (λ (x : Kind). blockCountOf x (countOf l)) k ∙ q }
+    record { well = s .0; kind = k; first = sym p; count = sym q; blocks = ap (λ (x : Kind). blockCountOf x (countOf l)) k ∙ q }
+
+-- a kind without blocks
+pub no-blocks : (l : List ℕ) (k : Kind) → kindOf l ≡ k → blockCountOf k (countOf l) ≡ 0 → blockCount l ≡ 0
+unfolding blockCount
+no-blocks l k e f = ap (λ (x : Kind). blockCountOf x (countOf l)) e ∙ f
 
 pub sound-ten : (l : List ℕ) (r : ℕ) → r ≡ refusalOf l → r ≡ 0 → length (take 10 l) ≡ 10
 sound-ten l r e z = let h = sound-length l r e z in omega (arith, length-take 10 l)

@@ -1,10 +1,5 @@
 pub mod HeaderLaws
 pub mod BlockLaws
 pub mod DownstreamLaws
-pub mod CursorLaws
 pub mod RequestLaws
-pub mod CutLaws
-pub mod WriterLaws
-pub mod LayingLaws
-pub mod RoundTripLaws
 pub mod Rules

@@ -11,7 +11,7 @@ ghost use Rattle.moldudp64.specs.Blocks.{sizeOf, blocksRefusal};
 pub const LENGTH_SIZE: usize = 2;
 
 // Bytes of the block at the front of what is left, its length field with them.
-pub(crate) fn block_size(rest: &[u8]) -> usize
+pub fn block_size(rest: &[u8]) -> usize
     ensures { λ r. ⌜ r ≡ sizeOf (now (rest .entry)) ⌝ }
 {
     number::be16(rest, ByteOffset(0)) as usize + LENGTH_SIZE

@@ -10,9 +10,9 @@ use wire::kinds::SequenceNumber;
 use wire::refusal;
 use wire::refusal::Refusal;
 ghost use mathlib.Core.Path.{_≡_};
+ghost use Rattle.wire.specs.Words.{Injective};
 ghost use Rattle.wire.specs.Bytes.{sameBytes};
 ghost use Rattle.moldudp64.specs.Downstream.{blockCount, refusalOf, downstreamWords, readOf, sessionOf};
-ghost use Rattle.moldudp64.specs.RoundTrips.{DownstreamPromises};
 
 // What a datagram says.
 pub enum Downstream {
@@ -70,7 +70,7 @@ pub(crate) fn refusal_of(datagram: &[u8]) -> Refusal
 // Reads a datagram, with one walk over its blocks.
 pub fn read(datagram: &[u8]) -> Downstream
     ensures { λ r. ⌜ downstreamWords r ≡ readOf (now (datagram .entry)) ⌝ }
-    ensures promises { λ _. ⌜ DownstreamPromises ⌝ }
+    ensures tells_apart { λ _. ⌜ Injective downstreamWords ⌝ }
 {
     let refused = refusal_of(datagram);
     if refused.number != 0 {

@@ -5,23 +5,20 @@ use wire::kinds::MessageCount;
 use wire::kinds::SESSION_SIZE;
 use wire::kinds::SequenceNumber;
 use wire::number;
-use wire::output;
 ghost use mathlib.Core.Path.{_≡_};
-ghost use Prim.Native.Nat.{_≤_};
-ghost use lib.ListN.{length, take};
+ghost use lib.ListN.{take};
 ghost use Rattle.wire.specs.Bounds.{sessionSize};
 ghost use Rattle.wire.specs.Bytes.{sameBytes};
-ghost use Rattle.wire.specs.Output.{put};
-ghost use Rattle.moldudp64.specs.Header.{headerSize, numberOf, countOf, header};
+ghost use Rattle.moldudp64.specs.Header.{numberOf, countOf};
 
 // Bytes of a header.
 pub const SIZE: usize = 20;
 
-const SESSION_AT: ByteOffset = ByteOffset(0);
+pub const SESSION_AT: ByteOffset = ByteOffset(0);
 
-const NUMBER_AT: ByteOffset = ByteOffset(10);
+pub const NUMBER_AT: ByteOffset = ByteOffset(10);
 
-const COUNT_AT: ByteOffset = ByteOffset(18);
+pub const COUNT_AT: ByteOffset = ByteOffset(18);
 
 // This count marks the end of the session and is followed by no blocks.
 pub const END_OF_SESSION: MessageCount = MessageCount(65535);
@@ -49,19 +46,4 @@ pub fn has_session(bytes: &[u8], name: [u8; SESSION_SIZE]) -> bool
     ensures { λ r. ⌜ r ≡ sameBytes (take sessionSize (now (bytes .entry))) name ⌝ }
 {
     compare::same_ten(bytes, SESSION_AT, name)
-}
-
-// Writes a header at the front of an output that has room for it.
-pub(crate) fn put_header(
-    out: &mut [u8],
-    session: [u8; SESSION_SIZE],
-    first: SequenceNumber,
-    count: MessageCount,
-)
-    requires { ⌜ headerSize ≤ length (now out) ⌝ }
-    ensures { λ _. ⌜ now (out .exit) ≡ put (now (out .entry)) 0 (header session (first .0) (count .0)) ⌝ }
-{
-    output::put_bytes(out, SESSION_AT, &session);
-    output::put64(out, NUMBER_AT, first.0);
-    output::put16(out, COUNT_AT, count.0);
 }

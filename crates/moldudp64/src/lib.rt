@@ -1,8 +1,5 @@
-// MoldUDP64 1.00: downstream packets and request packets, read from a lent slice and written into a lent output.
+// MoldUDP64 1.00, read from a lent slice: downstream packets and request packets.
 pub mod blocks;
-pub mod cursor;
 pub mod downstream;
 pub mod header;
-pub mod message;
 pub mod request;
-pub mod writer;

@@ -1,16 +1,13 @@
-// Request packets, read and written.
+// Request packets, read.
 use crate::header;
 use wire::kinds::MessageCount;
 use wire::kinds::SESSION_SIZE;
 use wire::kinds::SequenceNumber;
-use wire::output::Written;
 use wire::refusal;
 use wire::refusal::Refusal;
 ghost use mathlib.Core.Path.{_≡_};
-ghost use Rattle.wire.specs.Output.{Writes};
-ghost use Rattle.moldudp64.specs.Header.{header};
+ghost use Rattle.wire.specs.Words.{Injective};
 ghost use Rattle.moldudp64.specs.Request.{requestGround, requestRefusal, requestWords, requestOf, requestSession};
-ghost use Rattle.moldudp64.specs.RoundTrips.{RequestReadsBack, RequestPromises};
 
 // What a request says.
 pub enum Request {
@@ -22,8 +19,8 @@ pub enum Request {
     Refused(Refusal),
 }
 
-// The first of 13 and 48 that applies, or 0.
-fn ground(first: SequenceNumber, count: MessageCount) -> Refusal
+// The first of 13 and 48 that applies to a number and a count, or 0: the reader's and the writer's one rule.
+pub fn ground(first: SequenceNumber, count: MessageCount) -> Refusal
     ensures { λ r. ⌜ r .number ≡ requestGround (first .0) (count .0) ⌝ }
 {
     let number = first.0;
@@ -56,7 +53,7 @@ fn refusal_of(request: &[u8]) -> Refusal
 // Reads a request.
 pub fn read(request: &[u8]) -> Request
     ensures { λ r. ⌜ requestWords r ≡ requestOf (now (request .entry)) ⌝ }
-    ensures promises { λ _. ⌜ RequestPromises ⌝ }
+    ensures tells_apart { λ _. ⌜ Injective requestWords ⌝ }
 {
     let refused = refusal_of(request);
     if refused.number != 0 {
@@ -77,25 +74,4 @@ pub fn session(request: &[u8]) -> &[u8]
         return &request[..0];
     }
     &request[..SESSION_SIZE]
-}
-
-// Writes a request.
-pub fn write(
-    out: &mut [u8],
-    session: [u8; SESSION_SIZE],
-    first: SequenceNumber,
-    count: MessageCount,
-) -> Written
-    ensures { λ r. ⌜ Writes r (now (out .entry)) (now (out .exit)) (requestGround (first .0) (count .0)) 0 (header session (first .0) (count .0)) ⌝ }
-    ensures reads_back { λ _. ⌜ RequestReadsBack ⌝ }
-{
-    let refused = ground(first, count);
-    if refused.number != 0 {
-        return Written::Refused(refused);
-    }
-    if out.len() < header::SIZE {
-        return Written::Refused(refusal::OUTPUT_SHORT);
-    }
-    header::put_header(out, session, first, count);
-    Written::Wrote { size: header::SIZE }
 }

@@ -1,0 +1,129 @@
+// A cursor over the blocks of a datagram, so that all of its messages are visited in one walk. It is two numbers, which
+// anyone can make up or use with another datagram, so each function takes any cursor and any bytes.
+use moldudp64::blocks;
+use moldudp64::downstream;
+use moldudp64::downstream::Downstream;
+use moldudp64::header;
+use wire::kinds::ByteOffset;
+use wire::kinds::MessageCount;
+ghost use mathlib.Core.Path.{_≡_};
+ghost use Rattle.moldudp64_messages.specs.Cursor.{located, moved, movedBy, firstOf, startOf, nowhere, part, WalksTheMessages, PartIsMessage, CountIsMessages};
+
+// Whether a message is there, with the offset of its first data byte in the datagram and its length. Where none is,
+// both numbers are 0.
+pub struct Located {
+    pub exists: bool,
+    pub offset: ByteOffset,
+    pub length: usize,
+}
+
+// The place of a block's length field, and how many blocks are left from there on.
+pub struct Cursor {
+    pub at: ByteOffset,
+    pub left: MessageCount,
+}
+
+fn not_there() -> Located
+    ensures { λ r. ⌜ r ≡ nowhere ⌝ }
+{
+    Located {
+        exists: false,
+        offset: ByteOffset(0),
+        length: 0,
+    }
+}
+
+impl Cursor {
+    // The first block of a datagram with so many messages, as the reader gave their count.
+    pub fn first(count: MessageCount) -> Cursor
+        ensures { λ r. ⌜ r ≡ firstOf (count .0) ⌝ }
+        ensures count { λ _. ⌜ CountIsMessages ⌝ }
+    {
+        Cursor {
+            at: ByteOffset(header::SIZE),
+            left: count,
+        }
+    }
+
+    // The first block of a datagram, with no message there where the datagram is refused.
+    pub fn start(datagram: &[u8]) -> Cursor
+        ensures { λ r. ⌜ r ≡ startOf (now (datagram .entry)) ⌝ }
+        ensures walks { λ _. ⌜ WalksTheMessages ⌝ }
+        ensures parts { λ _. ⌜ PartIsMessage ⌝ }
+    {
+        match downstream::read(datagram) {
+            Downstream::Data { first: _, count } => Cursor::first(count),
+            Downstream::Heartbeat { next: _ } => Cursor::first(MessageCount(0)),
+            Downstream::EndOfSession { next: _ } => Cursor::first(MessageCount(0)),
+            Downstream::Refused(_) => Cursor::first(MessageCount(0)),
+        }
+    }
+
+    // The message at the cursor: there if some blocks are left and this one ends within the datagram.
+    pub fn locate(self, datagram: &[u8]) -> Located
+        ensures { λ r. ⌜ r ≡ located (now (datagram .entry)) self ⌝ }
+    {
+        let at = self.at.0;
+        let left = self.left.0;
+        if left == 0 {
+            return not_there();
+        }
+        if datagram.len() < at {
+            return not_there();
+        }
+        let rest = &datagram[at..];
+        if rest.len() < blocks::LENGTH_SIZE {
+            return not_there();
+        }
+        let size = blocks::block_size(rest);
+        if rest.len() < size {
+            return not_there();
+        }
+        Located {
+            exists: true,
+            offset: ByteOffset(at + blocks::LENGTH_SIZE),
+            length: size - blocks::LENGTH_SIZE,
+        }
+    }
+
+    // The message at the cursor as a part of the datagram; empty where none is there.
+    pub fn message(self, datagram: &[u8]) -> &[u8]
+        ensures { λ r. ⌜ now r ≡ part (now (datagram .entry)) (located (now (datagram .entry)) self) ⌝ }
+    {
+        let found = self.locate(datagram);
+        let from = found.offset.0;
+        let to = from + found.length;
+        &datagram[from..to]
+    }
+
+    // The cursor at the next block. It stays where no message is there.
+    pub fn next(self, datagram: &[u8]) -> Cursor
+        ensures { λ r. ⌜ r ≡ moved (now (datagram .entry)) self ⌝ }
+    {
+        let found = self.locate(datagram);
+        if found.exists {
+            return Cursor {
+                at: ByteOffset(found.offset.0 + found.length),
+                left: MessageCount(self.left.0 - 1),
+            };
+        }
+        self
+    }
+
+    // The cursor after so many moves. A cursor that stays is not moved on.
+    pub fn skip(self, datagram: &[u8], count: MessageCount) -> Cursor
+        ensures { λ r. ⌜ r ≡ movedBy (count .0) (now (datagram .entry)) self ⌝ }
+    {
+        let mut cursor = self;
+        let mut left = count.0;
+        while 0 < left {
+            if !cursor.locate(datagram).exists {
+                return cursor;
+            }
+            let next = cursor.next(datagram);
+            cursor = next;
+            left -= 1;
+        }
+        cursor
+    }
+}

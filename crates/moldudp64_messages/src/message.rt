@@ -1,0 +1,26 @@
+// One message of a datagram, asked for by its place from 0. A caller that wants several walks with a cursor.
+use crate::cursor::Cursor;
+use crate::cursor::Located;
+use wire::kinds::MessageCount;
+ghost use mathlib.Core.Path.{_≡_};
+ghost use Rattle.moldudp64.specs.Downstream.{messageOf};
+ghost use Rattle.moldudp64_messages.specs.Cursor.{locateOf, PartIsMessage};
+
+// Whether the message is there, with its offset and length. In a refused datagram none is.
+pub fn locate(datagram: &[u8], place: MessageCount) -> Located
+    ensures { λ r. ⌜ r ≡ locateOf (now (datagram .entry)) (place .0) ⌝ }
+{
+    Cursor::start(datagram)
+        .skip(datagram, place)
+        .locate(datagram)
+}
+
+// The message as a part of the datagram: the data bytes of its block; empty where it isn't there.
+pub fn message(datagram: &[u8], place: MessageCount) -> &[u8]
+    ensures { λ r. ⌜ now r ≡ messageOf (now (datagram .entry)) (place .0) ⌝ }
+    ensures its_place { λ _. ⌜ PartIsMessage ⌝ }
+{
+    Cursor::start(datagram)
+        .skip(datagram, place)
+        .message(datagram)
+}

@@ -1,0 +1,95 @@
+-- What is written reads back as itself, and what is accepted writes back to its own bytes.
+-- A session is ten bytes, a number is below 2^64, a length and a count are below 2^16: what the writers' types hold.
+use Prim.Native.Nat.{ℕ, _≤_, _<_, _^_}
+use mathlib.Core.List.{List, [], _∷_}
+use mathlib.Core.Path.{_≡_}
+use lib.ListN.{length, getD, take}
+use Rattle.wire.specs.Bounds.{sessionSize}
+use Rattle.wire.specs.Words.{says}
+use Rattle.wire.specs.Bytes.{AreBytes}
+use Rattle.wire.specs.Output.{wrote, put, writeAnswer, writeOutput}
+use Rattle.moldudp64.specs.Header.{numberOf, countOf, header}
+use Rattle.moldudp64.specs.Downstream.{Kind, data-packet, heartbeat, end-of-session, kindOf, refusalOf, readOf, sessionOf, messagesOf}
+use Rattle.moldudp64_writer.specs.Writer.{packetOf, cut, lengthsOf, joined, packetGround, endPacket, endGround}
+use Rattle.moldudp64.specs.Request.{wanted, requestGround, requestRefusal, requestOf, requestSession}
+
+-- the bytes p read as a datagram of this session, kind, values and messages
+pub record ReadsAs (p session : List ℕ) (kind : Kind) (values : List ℕ) (ms : List (List ℕ)) : Type 0 where
+  pub says-so : readOf p ≡ says kind values
+  pub its-session : sessionOf p ≡ session
+  pub its-messages : messagesOf p ≡ ms
+
+-- a writer with ground g and bytes bs writes the bytes l: into any output with room for them, and nothing else
+pub record WritesTo (l : List ℕ) (g : ℕ) (bs : List ℕ) : Type 0 where
+  pub answers : (o : List ℕ) → length l ≤ length o → writeAnswer g o 0 bs ≡ says wrote (length l ∷ [])
+  pub leaves : (o : List ℕ) → length l ≤ length o → writeOutput g o 0 bs ≡ put o 0 l
+
+-- ---- data and heartbeat: ks are the lengths, d the joined data, l any lent output
+
+-- a packet of messages says its first number and how many; one of none is a heartbeat with the next number
+abbrev pub kindOfMessages : List (List ℕ) → Kind
+kindOfMessages [] = heartbeat
+kindOfMessages (m ∷ ms) = data-packet
+
+abbrev pub valuesOfMessages : ℕ → List (List ℕ) → List ℕ
+valuesOfMessages n [] = n ∷ []
+valuesOfMessages n (m ∷ ms) = n ∷ length (m ∷ ms) ∷ []
+
+-- the bytes that the writer reports are a datagram of just those messages
+unfoldable pub PacketReadsBack : Type 0
+PacketReadsBack = (l session : List ℕ) (n : ℕ) (ks d : List ℕ) (size : ℕ)
+    → length session ≡ sessionSize → n < 2 ^ 64 → ((i : ℕ) → getD ks i 0 < 2 ^ 16)
+    → writeAnswer (packetGround n ks d) l 0 (packetOf session n ks d) ≡ says wrote (size ∷ [])
+    → ReadsAs (take size (writeOutput (packetGround n ks d) l 0 (packetOf session n ks d))) session
+    (kindOfMessages (cut ks d)) (valuesOfMessages n (cut ks d)) (cut ks d)
+
+-- a datagram that is accepted and is no end of session is what the writer writes of its parts
+unfoldable pub PacketWritesBack : Type 0
+PacketWritesBack = (l : List ℕ) → AreBytes l → refusalOf l ≡ 0 → (kindOf l ≡ end-of-session → ⊥)
+    → WritesTo l (packetGround (numberOf l) (lengthsOf (messagesOf l)) (joined (messagesOf l)))
+    (packetOf (sessionOf l) (numberOf l) (lengthsOf (messagesOf l)) (joined (messagesOf l)))
+
+-- ---- end of session
+
+-- the bytes that the writer reports are an end of session with that number
+unfoldable pub EndReadsBack : Type 0
+EndReadsBack = (l session : List ℕ) (n size : ℕ) → length session ≡ sessionSize → n < 2 ^ 64
+    → writeAnswer (endGround n) l 0 (endPacket session n) ≡ says wrote (size ∷ [])
+    → ReadsAs (take size (writeOutput (endGround n) l 0 (endPacket session n))) session end-of-session (n ∷ []) []
+
+-- an end of session that is accepted is what the writer writes of its parts
+unfoldable pub EndWritesBack : Type 0
+EndWritesBack = (l : List ℕ) → AreBytes l → refusalOf l ≡ 0 → kindOf l ≡ end-of-session
+    → WritesTo l (endGround (numberOf l)) (endPacket (sessionOf l) (numberOf l))
+
+-- ---- requests
+
+-- the bytes p read as a request of this session, number and count
+pub record AsksFor (p session : List ℕ) (n c : ℕ) : Type 0 where
+  pub says-so : requestOf p ≡ says wanted (n ∷ c ∷ [])
+  pub its-session : requestSession p ≡ session
+
+-- the bytes that the writer reports are that request
+unfoldable pub RequestReadsBack : Type 0
+RequestReadsBack = (l session : List ℕ) (n c size : ℕ) → length session ≡ sessionSize → n < 2 ^ 64 → c < 2 ^ 16
+    → writeAnswer (requestGround n c) l 0 (header session n c) ≡ says wrote (size ∷ [])
+    → AsksFor (take size (writeOutput (requestGround n c) l 0 (header session n c))) session n c
+
+-- a request that is accepted is what the writer writes of its parts
+unfoldable pub RequestWritesBack : Type 0
+RequestWritesBack = (l : List ℕ) → AreBytes l → requestRefusal l ≡ 0
+    → WritesTo l (requestGround (numberOf l) (countOf l)) (header (requestSession l) (numberOf l) (countOf l))
+
+-- ---- each writer promises both ways
+
+pub record PacketRoundTrip : Type 0 where
+  pub reads-back : PacketReadsBack
+  pub writes-back : PacketWritesBack
+
+pub record EndRoundTrip : Type 0 where
+  pub reads-back : EndReadsBack
+  pub writes-back : EndWritesBack
+
+pub record RequestRoundTrip : Type 0 where
+  pub reads-back : RequestReadsBack
+  pub writes-back : RequestWritesBack

@@ -1,0 +1,73 @@
+-- Downstream packets as they are written.
+use Prim.Native.Nat.{ℕ, _+_, _*_}
+use mathlib.Core.List.{List, [], _∷_, _++_}
+use mathlib.Core.Bool.{Bool, not}
+use lib.ListN.{length, take, drop}
+use lib.Dec.{ltb, eqb}
+use Rattle.wire.specs.Choice.{if_then_else_}
+use Rattle.wire.specs.Refusals.{datagramLong, numberZero, numbersRunOut, tooManyMessages, lengthsDiffer}
+use Rattle.moldudp64.specs.Header.{headerSize, largestDatagram, endCount, header}
+use Rattle.moldudp64.specs.Blocks.{lengthSize, blocksOf}
+use Rattle.moldudp64.specs.Downstream.{runOut}
+
+-- the packet of a list of messages, the first with number n; no messages make a heartbeat
+unfoldable pub packet : List ℕ → ℕ → List (List ℕ) → List ℕ
+packet session n ms = header session n (length ms) ++ blocksOf ms
+
+-- ---- the writer is given lengths and joined data
+
+-- the joined data cut into messages of these lengths
+unfoldable pub cut : List ℕ → List ℕ → List (List ℕ)
+cut [] d = []
+cut (k ∷ ks) d = take k d ∷ cut ks (drop k d)
+
+-- the packet of the messages that the writer is given
+abbrev pub packetOf : List ℕ → ℕ → List ℕ → List ℕ → List ℕ
+packetOf session n ks d = packet session n (cut ks d)
+
+-- the sum of the lengths
+unfoldable pub total : List ℕ → ℕ
+total [] = 0
+total (k ∷ ks) = k + total ks
+
+-- the lengths of messages
+unfoldable pub lengthsOf : List (List ℕ) → List ℕ
+lengthsOf [] = []
+lengthsOf (m ∷ ms) = length m ∷ lengthsOf ms
+
+-- messages joined
+unfoldable pub joined : List (List ℕ) → List ℕ
+joined [] = []
+joined (m ∷ ms) = m ++ joined ms
+
+-- the most messages of one datagram
+abbrev pub mostMessages : ℕ
+mostMessages = 65534
+
+-- a header, and for each message its length field and its data
+abbrev pub packetSize : List ℕ → List ℕ → ℕ
+packetSize ks d = headerSize + lengthSize * length ks + length d
+
+-- the lengths add up to the data, else 44
+abbrev pub addUp : List ℕ → List ℕ → Bool
+addUp ks d = eqb (total ks) (length d)
+
+-- the first of 42, 44, 13, 14, 12 that applies, or 0
+unfoldable pub packetGround : ℕ → List ℕ → List ℕ → ℕ
+packetGround n ks d =
+    if ltb mostMessages (length ks) then tooManyMessages
+    else if not (addUp ks d) then lengthsDiffer
+    else if eqb n 0 then numberZero
+    else if runOut n (length ks) then numbersRunOut
+    else if ltb largestDatagram (packetSize ks d) then datagramLong
+    else 0
+
+-- ---- end of session
+
+-- an end of session with the next number
+unfoldable pub endPacket : List ℕ → ℕ → List ℕ
+endPacket session n = header session n endCount
+
+-- its one ground but 41
+unfoldable pub endGround : ℕ → ℕ
+endGround n = if eqb n 0 then numberZero else 0
