@@ -4,10 +4,9 @@ use mathlib.Core.List.{List, [], _∷_, _++_, append-assoc, append-nil}
 use mathlib.Core.Bool.{Bool, true, false}
 use Prim.Native.Nat.{ℕ, zero, suc, _+_, _*_, _/_, _%_, _-_, _^_, _≤_, _<_}
 use native.Mathlib.Omega.{arith}
-use native.Mathlib.Numerals.{towards-suc}
 use native.Mathlib.Nat.{add-zero}
 use lib.ListN.{length, getD, take, drop, set, length-append, length-take, length-drop, take-append-drop}
-use lib.Seq.{take-at, drop-at, drop-append-add, drop-drop, length-take-le, sets, sets-eq}
+use lib.Seq.{take-at, drop-at, take-take, take-append-le, drop-append-add, drop-drop, length-take-le, sets, sets-eq}
 use lib.Dec.{leb, eqb}
 use borrow.Author.Tests.{le-leb, lt-leb, leb-true, leb-false, eq-eqb, ne-eqb, eqb-true}
 use Rattle.wire.specs.Choice.{if_then_else_}
@@ -90,6 +89,24 @@ put-put l at a b h =
 adjacent-are-one : AdjacentAreOne
 unfolding AdjacentAreOne
 adjacent-are-one = put-put
+
+-- and so they are where the later place is written first
+pub put-before : (l : List ℕ) (at : ℕ) (a b : List ℕ) → at + length a + length b ≤ length l
+    → put (put l (at + length a) b) at a ≡ put l at (a ++ b)
+put-before l at a b h =
+    let m = put l (at + length a) b in
+    let e₁ = put-room l (at + length a) b h in
+    let n₁ = length-put l (at + length a) b in
+    let e₂ = put-room m at a (omega arith) in
+    let n = length-append a b in
+    let e₃ = put-room l at (a ++ b) (omega arith) in
+    let k : length (take (at + length a) l) ≡ at + length a = length-take-le (at + length a) l (omega arith) in
+    let t : take at m ≡ take at l = rw (e₁, append-assoc (take (at + length a) l) b (drop (at + length a + length b) l))
+    (take-append-le at (take (at + length a) l) (b ++ drop (at + length a + length b) l) (omega arith) ∙ take-take at (at + length a) l (omega arith)) in
+    let d : drop (at + length a) m ≡ b ++ drop (at + length a + length b) l =
+    rw (e₁, append-assoc (take (at + length a) l) b (drop (at + length a + length b) l)) (drop-at (take (at + length a) l) (b ++ drop (at + length a + length b) l) (at + length a) k) in
+    let s : at + length (a ++ b) ≡ at + length a + length b = omega arith in
+    rw (e₂, t, d, e₃, s) (simp append-assoc)
 
 -- no bytes change nothing
 pub put-empty : (l : List ℕ) (at : ℕ) → put l at [] ≡ l
@@ -191,24 +208,6 @@ module _ (l : List ℕ) (at : ℕ) (bs : List ℕ) where
 
 pub size-bytes : (n v : ℕ) → n ≡ length (bytes n v)
 size-bytes n v = sym (length-bytes n v)
-
--- stores one after the other are a `put`, where there is room
-sets-put : (bs l : List ℕ) (at : ℕ) → at + length bs ≤ length l → sets l at bs ≡ put l at bs
-sets-put bs l at h = sets-eq bs l at h ∙ sym (put-room l at bs h)
-
-pub stores-2 : (l : List ℕ) (at v : ℕ) → at ≤ length l → 2 ≤ length l - at
-    → set (set l at (v / 256 % 256)) (at + 1) (v % 256) ≡ put l at (bytes 2 v)
-unfolding bytes
-stores-2 l at v f h = simp towards-suc (sets-put (bytes 2 v) l at (omega arith))
-
-pub stores-8 : (l : List ℕ) (at v : ℕ) → at ≤ length l → 8 ≤ length l - at
-    → set (set (set (set (set (set (set (set l at (v / 256 / 256 / 256 / 256 / 256 / 256 / 256 % 256))
-    (at + 1) (v / 256 / 256 / 256 / 256 / 256 / 256 % 256)) (at + 2) (v / 256 / 256 / 256 / 256 / 256 % 256))
-    (at + 3) (v / 256 / 256 / 256 / 256 % 256)) (at + 4) (v / 256 / 256 / 256 % 256)) (at + 5) (v / 256 / 256 % 256))
-    (at + 6) (v / 256 % 256)) (at + 7) (v % 256)
-    ≡ put l at (bytes 8 v)
-unfolding bytes
-stores-8 l at v f h = simp towards-suc (sets-put (bytes 8 v) l at (omega arith))
 
 -- ---- the words tell all answers apart
 

@@ -2,13 +2,14 @@
 use borrow.Author.Needs.{needs}
 use mathlib.Core.Path.{refl}
 use Rattle.wire.proofs.Numbers.{byte-past, read-past, read-2, read-8}
-use Rattle.wire.proofs.Outputs.{output-laws, lay-beyond, lay-over, lay-done, size-bytes, stores-2, stores-8}
+use Rattle.wire.proofs.Outputs.{output-laws, lay-beyond, lay-over, lay-done, size-bytes}
+use Rattle.wire.proofs.Lowering.{lowering-start, lowering-next, lowering-place, lowering-kept, lowering-end}
 use Rattle.wire.proofs.Copy.{copied-start, copied-step, copied-end, copied-kept}
 use Rattle.wire.proofs.Same.{same-start, same-beyond, same-cut, same-again, same-differs, same-all}
 
 pub ruleset numbers = (byte-past, read-past, read-2, read-8, needs)
 
-pub ruleset outputs = (lay-beyond, lay-over, lay-done, size-bytes, stores-2, stores-8, output-laws, needs)
+pub ruleset outputs = (lowering-start, lowering-next, lowering-place, lowering-kept, lowering-end, lay-beyond, lay-over, lay-done, size-bytes, output-laws, needs)
 
 pub ruleset copies = (copied-start, copied-step, copied-end, copied-kept, lay-beyond, lay-over, lay-done, output-laws, refl, needs)
 

@@ -11,22 +11,33 @@ pub enum Written {
     Refused(Refusal),
 }
 
+// Lays so many low bytes of a number, from the last to the first.
+fn put_number(out: &mut [u8], at: ByteOffset, number: u64, size: usize) -> Written
+    ensures { λ r. ⌜ Writes r (now (out .entry)) (now (out .exit)) 0 (at .0) (bytes size number) ⌝ }
+{
+    let from = at.0;
+    if out.len() < from {
+        return Written::Refused(refusal::OUTPUT_SHORT);
+    }
+    if out.len() - from < size {
+        return Written::Refused(refusal::OUTPUT_SHORT);
+    }
+    let mut rest = number;
+    let mut left = size;
+    while 0 < left {
+        left -= 1;
+        out[from + left] = (rest % 256) as u8;
+        rest = rest / 256;
+    }
+    Written::Wrote { size: size }
+}
+
 // Lays a 16-bit number.
 pub fn put16(out: &mut [u8], at: ByteOffset, number: u16) -> Written
     ensures { λ r. ⌜ Writes r (now (out .entry)) (now (out .exit)) 0 (at .0) (bytes 2 number) ⌝ }
     ensures laws { λ _. ⌜ OutputLaws ⌝ }
 {
-    let i = at.0;
-    if out.len() < i {
-        return Written::Refused(refusal::OUTPUT_SHORT);
-    }
-    if out.len() - i < 2 {
-        return Written::Refused(refusal::OUTPUT_SHORT);
-    }
-    let n1 = number / 256;
-    out[i] = (n1 % 256) as u8;
-    out[i + 1] = (number % 256) as u8;
-    Written::Wrote { size: 2 }
+    put_number(out, at, number as u64, 2)
 }
 
 // Lays a 64-bit number.
@@ -34,29 +45,7 @@ pub fn put64(out: &mut [u8], at: ByteOffset, number: u64) -> Written
     ensures { λ r. ⌜ Writes r (now (out .entry)) (now (out .exit)) 0 (at .0) (bytes 8 number) ⌝ }
     ensures laws { λ _. ⌜ OutputLaws ⌝ }
 {
-    let i = at.0;
-    if out.len() < i {
-        return Written::Refused(refusal::OUTPUT_SHORT);
-    }
-    if out.len() - i < 8 {
-        return Written::Refused(refusal::OUTPUT_SHORT);
-    }
-    let n1 = number / 256;
-    let n2 = n1 / 256;
-    let n3 = n2 / 256;
-    let n4 = n3 / 256;
-    let n5 = n4 / 256;
-    let n6 = n5 / 256;
-    let n7 = n6 / 256;
-    out[i] = (n7 % 256) as u8;
-    out[i + 1] = (n6 % 256) as u8;
-    out[i + 2] = (n5 % 256) as u8;
-    out[i + 3] = (n4 % 256) as u8;
-    out[i + 4] = (n3 % 256) as u8;
-    out[i + 5] = (n2 % 256) as u8;
-    out[i + 6] = (n1 % 256) as u8;
-    out[i + 7] = (number % 256) as u8;
-    Written::Wrote { size: 8 }
+    put_number(out, at, number, 8)
 }
 
 // Lays bytes.

@@ -1,122 +1,15 @@
-use native.Mathlib.Omega.{arith}
-use lib.ListN.{length-set}
 use Rattle.wire.proofs.Rules.{outputs}
 use Rattle.wire.proofs.output.put64.Statement.{statement}
 use Rattle.wire.proofs.output.put64.Tie as tie
 
+put-number-requires : tie.Need-put-number-requires
+put-number-requires c κs = search outputs
+
+same-length : tie.Need-same-length
+same-length c = search outputs
+
 returns : tie.Need-returns
 returns c = search outputs
 
-sub-if2 : tie.Need-sub-if2
-sub-if2 c = search outputs
-
-returns-2 : tie.Need-returns-2
-returns-2 c = search outputs
-
-cast-out : tie.Need-cast-out
-cast-out c = search outputs
-
-slice-write-out : tie.Need-slice-write-out
-slice-write-out c = search outputs
-
-cast-out-2 : tie.Need-cast-out-2
-cast-out-2 c = search outputs
-
-add-out : tie.Need-add-out
-add-out c = search outputs
-
-slice-write-out-2 : tie.Need-slice-write-out-2
-slice-write-out-2 c = simp length-set (omega arith)
-
-cast-out-3 : tie.Need-cast-out-3
-cast-out-3 c = search outputs
-
-add-out-2 : tie.Need-add-out-2
-add-out-2 c = search outputs
-
-slice-write-out-3 : tie.Need-slice-write-out-3
-slice-write-out-3 c = simp length-set (omega arith)
-
-cast-out-4 : tie.Need-cast-out-4
-cast-out-4 c = search outputs
-
-add-out-3 : tie.Need-add-out-3
-add-out-3 c = search outputs
-
-slice-write-out-4 : tie.Need-slice-write-out-4
-slice-write-out-4 c = simp length-set (omega arith)
-
-cast-out-5 : tie.Need-cast-out-5
-cast-out-5 c = search outputs
-
-add-out-4 : tie.Need-add-out-4
-add-out-4 c = search outputs
-
-slice-write-out-5 : tie.Need-slice-write-out-5
-slice-write-out-5 c = simp length-set (omega arith)
-
-cast-out-6 : tie.Need-cast-out-6
-cast-out-6 c = search outputs
-
-add-out-5 : tie.Need-add-out-5
-add-out-5 c = search outputs
-
-slice-write-out-6 : tie.Need-slice-write-out-6
-slice-write-out-6 c = simp length-set (omega arith)
-
-cast-out-7 : tie.Need-cast-out-7
-cast-out-7 c = search outputs
-
-add-out-6 : tie.Need-add-out-6
-add-out-6 c = search outputs
-
-slice-write-out-7 : tie.Need-slice-write-out-7
-slice-write-out-7 c = simp length-set (omega arith)
-
-cast-out-8 : tie.Need-cast-out-8
-cast-out-8 c = search outputs
-
-add-out-7 : tie.Need-add-out-7
-add-out-7 c = search outputs
-
-slice-write-out-8 : tie.Need-slice-write-out-8
-slice-write-out-8 c = simp length-set (omega arith)
-
-same-length : tie.Need-same-length
-same-length c = simp length-set
-
-returns-3 : tie.Need-returns-3
-returns-3 c = search outputs
-
 pub put64-spec : {M : Type 1} → statement M
-put64-spec =
-    tie.close
-    (tie.spec
-    returns
-    sub-if2
-    returns-2
-    cast-out
-    slice-write-out
-    cast-out-2
-    add-out
-    slice-write-out-2
-    cast-out-3
-    add-out-2
-    slice-write-out-3
-    cast-out-4
-    add-out-3
-    slice-write-out-4
-    cast-out-5
-    add-out-4
-    slice-write-out-5
-    cast-out-6
-    add-out-5
-    slice-write-out-6
-    cast-out-7
-    add-out-6
-    slice-write-out-7
-    cast-out-8
-    add-out-7
-    slice-write-out-8
-    same-length
-    returns-3)
+put64-spec = tie.close (tie.spec put-number-requires same-length returns)
