@@ -296,10 +296,13 @@ part-is-message l k = cases _ l good bad
 
 -- ---- by its place, as the code has it: c after the start, d after the moves
 
-pub place-located : (l : List ℕ) (k : ℕ) (c d : Cursor) (p : Located) → c ≡ startOf l → d ≡ movedBy k l c → p ≡ located l d → p ≡ locateOf l k
-unfolding WalksTheMessages
-place-located l k c d p e f g = rw (g, f, e) (walks-the-messages l k)
+pub place-cursor : (l : List ℕ) (k : ℕ) (c d : Cursor) → c ≡ startOf l → d ≡ movedBy k l c → d ≡ movedBy k l (startOf l)
+place-cursor l k c d e f = f ∙ ap (movedBy k l) e
 
-pub place-message : (l m : List ℕ) (k : ℕ) (c d : Cursor) → c ≡ startOf l → d ≡ movedBy k l c → m ≡ part l (located l d) → m ≡ messageOf l k
+pub place-located : (l : List ℕ) (k : ℕ) (d : Cursor) (p : Located) → d ≡ movedBy k l (startOf l) → p ≡ located l d → p ≡ locateOf l k
+unfolding WalksTheMessages
+place-located l k d p f g = rw (g, f) (walks-the-messages l k)
+
+pub place-message : (l m : List ℕ) (k : ℕ) (d : Cursor) → d ≡ movedBy k l (startOf l) → m ≡ part l (located l d) → m ≡ messageOf l k
 unfolding WalksTheMessages PartIsMessage
-place-message l m k c d e f g = rw (g, f, e) (ap (part l) (walks-the-messages l k) ∙ part-is-message l k)
+place-message l m k d f g = rw (g, f) (ap (part l) (walks-the-messages l k) ∙ part-is-message l k)

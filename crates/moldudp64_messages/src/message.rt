@@ -4,15 +4,20 @@ use crate::cursor::Located;
 use wire::kinds::MessageCount;
 ghost use mathlib.Core.Path.{_≡_};
 ghost use Rattle.moldudp64.specs.Downstream.{messageOf};
-ghost use Rattle.moldudp64_messages.specs.Cursor.{locateOf, PartIsMessage};
+ghost use Rattle.moldudp64_messages.specs.Cursor.{movedBy, startOf, locateOf, PartIsMessage};
+
+// The cursor at a place.
+fn at(datagram: &[u8], place: MessageCount) -> Cursor
+    ensures { λ r. ⌜ r ≡ movedBy (place .0) (now (datagram .entry)) (startOf (now (datagram .entry))) ⌝ }
+{
+    Cursor::start(datagram).skip(datagram, place)
+}
 
 // Whether the message is there, with its offset and length. In a refused datagram none is.
 pub fn locate(datagram: &[u8], place: MessageCount) -> Located
     ensures { λ r. ⌜ r ≡ locateOf (now (datagram .entry)) (place .0) ⌝ }
 {
-    Cursor::start(datagram)
-        .skip(datagram, place)
-        .locate(datagram)
+    at(datagram, place).locate(datagram)
 }
 
 // The message as a part of the datagram: the data bytes of its block; empty where it isn't there.
@@ -20,7 +25,5 @@ pub fn message(datagram: &[u8], place: MessageCount) -> &[u8]
     ensures { λ r. ⌜ now r ≡ messageOf (now (datagram .entry)) (place .0) ⌝ }
     ensures its_place { λ _. ⌜ PartIsMessage ⌝ }
 {
-    Cursor::start(datagram)
-        .skip(datagram, place)
-        .message(datagram)
+    at(datagram, place).message(datagram)
 }

@@ -2,11 +2,8 @@ use Rattle.moldudp64_messages.proofs.Rules.{placing}
 use Rattle.moldudp64_messages.proofs.message.message.Statement.{statement}
 use Rattle.moldudp64_messages.proofs.message.message.Tie as tie
 
-start-requires : tie.Need-start-requires
-start-requires c κs = search placing
-
-skip-requires : tie.Need-skip-requires
-skip-requires c κs = search placing
+at-requires : tie.Need-at-requires
+at-requires c κs = search placing
 
 message-requires : tie.Need-message-requires
 message-requires c κs = search placing
@@ -15,4 +12,4 @@ returns : tie.Need-returns
 returns c = search placing
 
 pub message-spec : {M : Type 1} → statement M
-message-spec = tie.close (tie.spec start-requires skip-requires message-requires returns)
+message-spec = tie.close (tie.spec at-requires message-requires returns)
