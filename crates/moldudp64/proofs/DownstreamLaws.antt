@@ -11,13 +11,13 @@ use borrow.Author.Tests.{lt-ltb, le-ltb, eq-eqb, ne-eqb, ltb-false, eqb-true, eq
 use mir.Val.{Fits}
 use mir.Syntax.{w64}
 use Rattle.wire.specs.Choice.{if_then_else_}
-use Rattle.wire.specs.Words.{says, refuses, Injective}
+use Rattle.wire.specs.Words.{Case, answer, refused, says, refuses, Injective}
 use Rattle.wire.specs.Bytes.{sameBytes}
 use Rattle.wire.specs.declared.refusal.Refusal.{Refusal}
 use Rattle.wire.specs.declared.kinds.SequenceNumber.{SequenceNumber}
 use Rattle.wire.specs.declared.kinds.MessageCount.{MessageCount}
 use Rattle.wire.proofs.Numbers.{part-to-end}
-use Rattle.wire.proofs.Words.{which-of, refusal-of, values-of}
+use Rattle.wire.proofs.Words.{which-of, refusal-of, values-of, read-back}
 use Rattle.moldudp64.specs.Header.{numberOf, countOf}
 use Rattle.moldudp64.specs.Blocks.{blocksRefusal, messages}
 use Rattle.moldudp64.specs.declared.downstream.Downstream.{Downstream}
@@ -133,28 +133,22 @@ module _ (l : List ℕ) (r : Refusal) (n : SequenceNumber) (c : MessageCount) wh
   unfolding readOf downstreamWords
   read-data e z f g h i = rw (← e, z, ← g, kind-data (c .0) h i, f, g)
 
+-- the words read back
+answered : Case Kind → ℕ → List ℕ → Downstream
+answered (answer data-packet) r vs = Data (record { 0 = getD vs 0 0 }) (record { 0 = getD vs 1 0 })
+answered (answer heartbeat) r vs = Heartbeat (record { 0 = getD vs 0 0 })
+answered (answer end-of-session) r vs = EndOfSession (record { 0 = getD vs 0 0 })
+answered refused r vs = Refused (record { number = r })
+
 pub tells-apart : Injective downstreamWords
-unfolding downstreamWords
-tells-apart (Data n c) (Data m d) e =
-    let v = values-of e in
-    let p : n .0 ≡ m .0 = cc in
-    let q : c .0 ≡ d .0 = cc in
-    ap (λ k. Data (record { 0 = k }) c) p ∙ ap (λ k. Data m (record { 0 = k })) q
-tells-apart (Data n c) (Heartbeat m) e = let w = which-of e in let z : _≡_ {A = ℕ} 0 1 = cc in absurd (omega arith)
-tells-apart (Data n c) (EndOfSession m) e = let w = which-of e in let z : _≡_ {A = ℕ} 0 1 = cc in absurd (omega arith)
-tells-apart (Data n c) (Refused r) e = let w = which-of e in let z : _≡_ {A = ℕ} 0 1 = cc in absurd (omega arith)
-tells-apart (Heartbeat n) (Data m d) e = let w = which-of e in let z : _≡_ {A = ℕ} 0 1 = cc in absurd (omega arith)
-tells-apart (Heartbeat n) (Heartbeat m) e = let v = values-of e in let p : n .0 ≡ m .0 = cc in ap (λ k. Heartbeat (record { 0 = k })) p
-tells-apart (Heartbeat n) (EndOfSession m) e = let w = which-of e in let z : _≡_ {A = ℕ} 0 1 = cc in absurd (omega arith)
-tells-apart (Heartbeat n) (Refused r) e = let w = which-of e in let z : _≡_ {A = ℕ} 0 1 = cc in absurd (omega arith)
-tells-apart (EndOfSession n) (Data m d) e = let w = which-of e in let z : _≡_ {A = ℕ} 0 1 = cc in absurd (omega arith)
-tells-apart (EndOfSession n) (Heartbeat m) e = let w = which-of e in let z : _≡_ {A = ℕ} 0 1 = cc in absurd (omega arith)
-tells-apart (EndOfSession n) (EndOfSession m) e = let v = values-of e in let p : n .0 ≡ m .0 = cc in ap (λ k. EndOfSession (record { 0 = k })) p
-tells-apart (EndOfSession n) (Refused r) e = let w = which-of e in let z : _≡_ {A = ℕ} 0 1 = cc in absurd (omega arith)
-tells-apart (Refused r) (Data m d) e = let w = which-of e in let z : _≡_ {A = ℕ} 0 1 = cc in absurd (omega arith)
-tells-apart (Refused r) (Heartbeat m) e = let w = which-of e in let z : _≡_ {A = ℕ} 0 1 = cc in absurd (omega arith)
-tells-apart (Refused r) (EndOfSession m) e = let w = which-of e in let z : _≡_ {A = ℕ} 0 1 = cc in absurd (omega arith)
-tells-apart (Refused r) (Refused s) e = ap (λ k. Refused (record { number = k })) (refusal-of e)
+unfolding downstreamWords answered
+tells-apart = read-back downstreamWords (λ w. answered (w .which) (w .refusal) (w .values)) back
+  where
+    back : (a : Downstream) → answered (downstreamWords a .which) (downstreamWords a .refusal) (downstreamWords a .values) ≡ a
+    back (Data n c) = refl
+    back (Heartbeat n) = refl
+    back (EndOfSession n) = refl
+    back (Refused r) = refl
 
 -- ---- the session and the messages
 
@@ -231,10 +225,32 @@ data-read l n c e =
     let q : countOf l ≡ c = cc in
     record { well = s .0; kind = k; first = sym p; count = sym q; blocks = ap (λ (x : Kind). blockCountOf x (countOf l)) k ∙ q }
 
--- a kind without blocks
-pub no-blocks : (l : List ℕ) (k : Kind) → kindOf l ≡ k → blockCountOf k (countOf l) ≡ 0 → blockCount l ≡ 0
+-- the number of a refusal, and the first value of a kind
+pub refused-number : (l : List ℕ) (r : ℕ) → readOf l ≡ refuses r → refusalOf l ≡ r
+unfolding readOf
+refused-number l r e = go (eqb (refusalOf l) 0) refl e
+  where
+    go : (b : Bool) → eqb (refusalOf l) 0 ≡ b → if b then says (kindOf l) (valuesOf (kindOf l) l) else refuses (refusalOf l) ≡ refuses r → refusalOf l ≡ r
+    go true d f = let w = which-of f in let z : _≡_ {A = ℕ} 0 1 = cc in absurd (omega arith)
+    go false d f = refusal-of f
+
+first-value : (k : Kind) (l : List ℕ) (n : ℕ) (vs : List ℕ) → valuesOf k l ≡ n ∷ vs → numberOf l ≡ n
+first-value data-packet l n vs e = cc
+first-value heartbeat l n vs e = cc
+first-value end-of-session l n vs e = cc
+
+pub number-read : (l : List ℕ) (k : Kind) (n : ℕ) (vs : List ℕ) → readOf l ≡ says k (n ∷ vs) → numberOf l ≡ n
+number-read l k n vs e =
+    let s = kind-read l k (n ∷ vs) e in
+    first-value (kindOf l) l n vs (values-of (sym (said l (s .0)) ∙ e))
+
+-- the blocks of a kind
+pub kind-blocks : (l : List ℕ) (k : Kind) → kindOf l ≡ k → blockCount l ≡ blockCountOf k (countOf l)
 unfolding blockCount
-no-blocks l k e f = ap (λ (x : Kind). blockCountOf x (countOf l)) e ∙ f
+kind-blocks l k e = ap (λ (x : Kind). blockCountOf x (countOf l)) e
+
+pub no-blocks : (l : List ℕ) (k : Kind) → kindOf l ≡ k → blockCountOf k (countOf l) ≡ 0 → blockCount l ≡ 0
+no-blocks l k e f = kind-blocks l k e ∙ f
 
 pub sound-ten : (l : List ℕ) (r : ℕ) → r ≡ refusalOf l → r ≡ 0 → length (take 10 l) ≡ 10
 sound-ten l r e z = let h = sound-length l r e z in omega (arith, length-take 10 l)

@@ -4,19 +4,19 @@ use mathlib.Core.List.{List, [], _∷_}
 use mathlib.Core.Bool.{Bool, true, false, not}
 use Prim.Native.Nat.{ℕ, _+_, _≤_, _<_}
 use native.Mathlib.Omega.{arith}
-use lib.ListN.{length, take, length-take}
+use lib.ListN.{length, getD, take, length-take}
 use lib.Dec.{eqb}
 use borrow.Author.Tests.{eq-eqb, ne-eqb, eqb-true, eqb-false, not-false}
 use Rattle.wire.specs.Choice.{if_then_else_}
-use Rattle.wire.specs.Words.{Injective}
+use Rattle.wire.specs.Words.{Case, answer, refused, Injective}
 use Rattle.wire.specs.declared.refusal.Refusal.{Refusal}
 use Rattle.wire.specs.declared.kinds.SequenceNumber.{SequenceNumber}
 use Rattle.wire.specs.declared.kinds.MessageCount.{MessageCount}
-use Rattle.wire.proofs.Words.{which-of, refusal-of, values-of}
+use Rattle.wire.proofs.Words.{read-back}
 use Rattle.moldudp64.specs.Header.{numberOf, countOf}
 use Rattle.moldudp64.specs.declared.request.Request.{Request}
 use Rattle.moldudp64.specs.declared.request.Request.the-variants.{Wanted, Refused}
-use Rattle.moldudp64.specs.Request.{requestGround, requestRefusal, requestOf, requestWords, requestSession}
+use Rattle.moldudp64.specs.Request.{Asking, wanted, requestGround, requestRefusal, requestOf, requestWords, requestSession}
 use Rattle.moldudp64.proofs.DownstreamLaws.{past-ground}
 
 -- ---- the grounds
@@ -67,16 +67,18 @@ pub request-wanted : (l : List ℕ) (r : Refusal) (n : SequenceNumber) (c : Mess
 unfolding requestOf requestWords
 request-wanted l r n c e z f g = rw (← e, z, f, g)
 
+-- the words read back
+asked : Case Asking → ℕ → List ℕ → Request
+asked (answer wanted) r vs = Wanted (record { 0 = getD vs 0 0 }) (record { 0 = getD vs 1 0 })
+asked refused r vs = Refused (record { number = r })
+
 pub request-tells-apart : Injective requestWords
-unfolding requestWords
-request-tells-apart (Wanted n c) (Wanted m d) e =
-    let v = values-of e in
-    let p : n .0 ≡ m .0 = cc in
-    let q : c .0 ≡ d .0 = cc in
-    ap (λ k. Wanted (record { 0 = k }) c) p ∙ ap (λ k. Wanted m (record { 0 = k })) q
-request-tells-apart (Wanted n c) (Refused r) e = let w = which-of e in let z : _≡_ {A = ℕ} 0 1 = cc in absurd (omega arith)
-request-tells-apart (Refused r) (Wanted m d) e = let w = which-of e in let z : _≡_ {A = ℕ} 0 1 = cc in absurd (omega arith)
-request-tells-apart (Refused r) (Refused s) e = ap (λ k. Refused (record { number = k })) (refusal-of e)
+unfolding requestWords asked
+request-tells-apart = read-back requestWords (λ w. asked (w .which) (w .refusal) (w .values)) back
+  where
+    back : (a : Request) → asked (requestWords a .which) (requestWords a .refusal) (requestWords a .values) ≡ a
+    back (Wanted n c) = refl
+    back (Refused r) = refl
 
 -- ---- the session
 

@@ -11,12 +11,12 @@ use lib.Dec.{leb, eqb}
 use borrow.Author.Tests.{le-leb, lt-leb, leb-true, leb-false, eq-eqb, ne-eqb, eqb-true}
 use Rattle.wire.specs.Choice.{if_then_else_}
 use Rattle.wire.specs.Refusals.{outputShort}
-use Rattle.wire.specs.Words.{Words, answer, refused, says, refuses}
+use Rattle.wire.specs.Words.{Case, Words, answer, refused, says, refuses}
 use Rattle.wire.specs.Bytes.{number, bytes}
 use Rattle.wire.specs.declared.output.Written.{Written}
 use Rattle.wire.specs.declared.output.Written.the-variants.{Wrote, Refused}
 use Rattle.wire.specs.Output.{Writing, wrote, writtenWords, put, writeRefusal, writeAnswer, writeOutput, Writes, Outside, ReadsBack, AdjacentAreOne, OnlyItsBytes, RefusalWritesNothing, TellsApart, OutputLaws}
-use Rattle.wire.proofs.Words.{which-of, refusal-of, values-of}
+use Rattle.wire.proofs.Words.{which-of, values-of, read-back}
 use Rattle.wire.proofs.Numbers.{length-bytes, number-bytes}
 
 -- ---- `put` by itself
@@ -211,12 +211,17 @@ size-bytes n v = sym (length-bytes n v)
 
 -- ---- the words tell all answers apart
 
+answered : Case Writing → ℕ → List ℕ → Written
+answered (answer wrote) r vs = Wrote (getD vs 0 0)
+answered refused r vs = Refused (record { number = r })
+
 tells-apart : TellsApart
-unfolding TellsApart writtenWords
-tells-apart (Wrote n) (Wrote m) e = let v = values-of e in cc
-tells-apart (Wrote n) (Refused r) e = let w = which-of e in let z : _≡_ {A = ℕ} 0 1 = cc in absurd (omega arith)
-tells-apart (Refused r) (Wrote n) e = let w = which-of e in let z : _≡_ {A = ℕ} 0 1 = cc in absurd (omega arith)
-tells-apart (Refused r) (Refused s) e = ap (λ k. Refused (record { number = k })) (refusal-of e)
+unfolding TellsApart writtenWords answered
+tells-apart = read-back writtenWords (λ w. answered (w .which) (w .refusal) (w .values)) back
+  where
+    back : (a : Written) → answered (writtenWords a .which) (writtenWords a .refusal) (writtenWords a .values) ≡ a
+    back (Wrote n) = refl
+    back (Refused r) = refl
 
 pub output-laws : OutputLaws
 output-laws =

@@ -1,0 +1,116 @@
+-- What a deliver answer says of the datagram, and that the cursor visits what it delivers.
+use mathlib.Core.Path.{_≡_, refl, ap, sym, _∙_}
+use mathlib.Core.List.{List, [], _∷_}
+use mathlib.Core.Bool.{Bool, true, false}
+use Prim.Native.Nat.{ℕ, zero, suc, _+_, _-_, _≤_, _<_}
+use native.Mathlib.Omega.{arith}
+use native.Mathlib.Nat.{zero-add, suc-add}
+use lib.ListN.{length, getD, drop, length-drop}
+use lib.Seq.{getD-drop}
+use lib.Dec.{ltb}
+use mir.Val.{Fits}
+use mir.Syntax.{w16}
+use borrow.Author.Tests.{lt-ltb, le-ltb}
+use Rattle.wire.specs.Choice.{if_then_else_}
+use Rattle.wire.specs.Words.{Words, answer, says}
+use Rattle.wire.specs.Bytes.{AreBytes}
+use Rattle.wire.proofs.Words.{which-of, values-of}
+use Rattle.wire.proofs.Numbers.{small-number}
+use Rattle.moldudp64.specs.Header.{numberOf, countOf}
+use Rattle.moldudp64.specs.Downstream.{Kind, data-packet, kindOf, refusalOf, messagesOf, messageOf}
+use Rattle.moldudp64.proofs.DownstreamLaws.{count-sound, kind-blocks}
+use Rattle.moldudp64_messages.specs.declared.cursor.Cursor.{Cursor}
+use Rattle.moldudp64_messages.specs.declared.cursor.Located.{Located}
+use Rattle.moldudp64_messages.specs.Cursor.{moved, movedBy, firstOf, startOf, located, part, locateOf, WalksTheMessages, PartIsMessage}
+use Rattle.moldudp64_messages.proofs.CursorLaws.{walks-the-messages, part-is-message}
+use Rattle.receiver.specs.declared.receiver.Receiver.{Receiver}
+use Rattle.receiver.specs.Table.{Reply, deliver, Outcome, Row, data-reaches, data-below, heartbeat-below, heartbeat-at, any-above, end-at, delivers}
+use Rattle.receiver.specs.Receiver.{refusalFor, rowOf, answerOf}
+use Rattle.receiver.specs.Delivery.{deliveredIn, deliveredBy, deliveryOf, Visits, DeliveryVisits}
+use Rattle.receiver.proofs.TableLaws.{row-answer}
+use Rattle.receiver.proofs.Promises.{row-of, refused-answers, whether, well-read}
+
+-- ---- only the first row delivers
+
+pub record Reaches (n : ℕ) (k : Kind) (f c : ℕ) (o : Outcome) : Type 0 where
+  pub kind : k ≡ data-packet
+  pub begins : f ≤ n
+  pub ends : n < f + c
+  pub outcome : o ≡ delivers n f c
+
+reaches : (limit n : ℕ) (k : Kind) (f c : ℕ) (o : Outcome) → Row limit n k f c o → o .reply .which ≡ answer deliver → Reaches n k f c o
+reaches limit n k f c o (data-reaches a b d e) w = record { kind = a; begins = b; ends = d; outcome = e }
+reaches limit n k f c o (data-below a b e) w = let x = sym (ap (λ (y : Outcome). y .reply .which) e) ∙ w in let z : _≡_ {A = ℕ} 0 1 = cc in absurd (omega arith)
+reaches limit n k f c o (heartbeat-below a b e) w = let x = sym (ap (λ (y : Outcome). y .reply .which) e) ∙ w in let z : _≡_ {A = ℕ} 0 1 = cc in absurd (omega arith)
+reaches limit n k f c o (heartbeat-at a b e) w = let x = sym (ap (λ (y : Outcome). y .reply .which) e) ∙ w in let z : _≡_ {A = ℕ} 0 1 = cc in absurd (omega arith)
+reaches limit n k f c o (any-above h e) w = let x = sym (ap (λ (y : Outcome). y .reply .which) e) ∙ w in let z : _≡_ {A = ℕ} 0 1 = cc in absurd (omega arith)
+reaches limit n k f c o (end-at a b e) w = let x = sym (ap (λ (y : Outcome). y .reply .which) e) ∙ w in let z : _≡_ {A = ℕ} 0 1 = cc in absurd (omega arith)
+
+-- a deliver answer is of data that was accepted, and its count and skipped make the datagram's count
+record Delivering (l : List ℕ) (count skipped : ℕ) : Type 0 where
+  well : refusalOf l ≡ 0
+  kind : kindOf l ≡ data-packet
+  all : count + skipped ≡ countOf l
+
+delivering : (r : Receiver) (l : List ℕ) (first count skipped : ℕ) → answerOf r l ≡ says deliver (first ∷ count ∷ skipped ∷ []) → Delivering l count skipped
+delivering r l first count skipped e = whether _ r l good bad
+  where
+    good : refusalFor r l ≡ 0 → Delivering l count skipped
+    good z =
+        let f = sym (row-answer r l z) ∙ e in
+        let x = reaches _ _ _ _ _ _ (row-of r l z) (which-of f) in
+        let v : r .next .0 ∷ (numberOf l + countOf l - r .next .0) ∷ (r .next .0 - numberOf l) ∷ [] ≡ first ∷ count ∷ skipped ∷ [] =
+        values-of (sym (ap (λ (o : Outcome). o .reply) (x .outcome)) ∙ f) in
+        let p : numberOf l + countOf l - r .next .0 ≡ count = cc in
+        let q : r .next .0 - numberOf l ≡ skipped = cc in
+        record { well = well-read r l z; kind = x .kind; all = omega (arith, x .begins, x .ends) }
+
+    bad : (refusalFor r l ≡ 0 → ⊥) → Delivering l count skipped
+    bad z = let w = which-of (sym (refused-answers r l z) ∙ e) in let k : _≡_ {A = ℕ} 0 1 = cc in absurd (omega arith)
+
+-- ---- the cursor
+
+moves-add : (k i : ℕ) (l : List ℕ) (c : Cursor) → movedBy i l (movedBy k l c) ≡ movedBy (k + i) l c
+unfolding movedBy
+moves-add zero i l c = rw zero-add
+moves-add (suc k) i l c = rw suc-add (moves-add k i l (moved l c))
+
+short-count : (l : List ℕ) → AreBytes l → countOf l ≤ 65535
+unfolding countOf
+short-count l small = let h = small-number 2 l 18 small in omega arith
+
+there-at : (l : List ℕ) (k : ℕ) → k < length (messagesOf l) → locateOf l k .exists ≡ true
+unfolding locateOf
+there-at l k h = rw (lt-ltb _ _ h)
+
+message-at : (l : List ℕ) (k i : ℕ) → messageOf l (k + i) ≡ getD (drop k (messagesOf l)) i []
+unfolding messageOf
+message-at l k i = sym (getD-drop k (messagesOf l) i [])
+
+-- ---- as the code of `start` has it: c at the first block, d after the moves
+
+pub delivery-none : (l : List ℕ) (k s : ℕ) (c : Cursor) → 65535 - k < s → c ≡ firstOf 0 → c ≡ deliveryOf l k s
+unfolding deliveryOf
+delivery-none l k s c h e = let g : 65535 < k + s = omega arith in e ∙ rw (lt-ltb _ _ g)
+
+pub delivery-start : (l : List ℕ) (k s : ℕ) (c d : Cursor) → Fits w16 k → s ≤ 65535 - k → c ≡ firstOf (k + s) → d ≡ movedBy s l c → d ≡ deliveryOf l k s
+unfolding deliveryOf
+delivery-start l k s c d i h e f = let g : k + s ≤ 65535 = omega arith in f ∙ ap (movedBy s l) e ∙ rw (le-ltb _ _ g)
+
+pub delivery-visits : DeliveryVisits
+unfolding DeliveryVisits deliveredIn deliveryOf WalksTheMessages PartIsMessage
+delivery-visits r l first count skipped small e =
+    let d = delivering r l first count skipped e in
+    let n : length (messagesOf l) ≡ countOf l = count-sound l (d .well) ∙ kind-blocks l data-packet (d .kind) in
+    let b : countOf l ≤ 65535 = short-count l small in
+    let h : count + skipped ≤ 65535 = omega (arith, d .all) in
+    let a = d .all in
+    let c : firstOf (count + skipped) ≡ startOf l = ap firstOf (a ∙ sym n) in
+    let at : (i : ℕ) → located l (movedBy i l (movedBy skipped l (firstOf (count + skipped)))) ≡ locateOf l (skipped + i) =
+    λ i. ap (located l) (moves-add skipped i l (firstOf (count + skipped)) ∙ ap (movedBy (skipped + i) l) c) ∙ walks-the-messages l (skipped + i) in
+    rw (e, le-ltb _ _ h)
+    (record {
+      as-many = omega (arith, length-drop skipped (messagesOf l));
+      there = λ i g. ap (λ (p : Located). p .exists) (at i) ∙ there-at l (skipped + i) (omega arith);
+      each = λ i. ap (part l) (at i) ∙ part-is-message l (skipped + i) ∙ message-at l skipped i;
+    })

@@ -1,0 +1,10 @@
+pub mod StartLaws
+pub mod LadderLaws
+pub mod TableLaws
+pub mod Promises
+pub mod FeedLaws
+pub mod Sorts
+pub mod ConditionLaws
+pub mod DeliveryLaws
+pub mod BitesLaws
+pub mod Rules

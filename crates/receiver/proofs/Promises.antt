@@ -1,0 +1,176 @@
+-- What the receiver promises at one datagram: the table, the request, the number, the refusal.
+use mathlib.Core.Path.{_≡_, refl, ap, sym, _∙_}
+use mathlib.Core.List.{List, [], _∷_}
+use mathlib.Core.Bool.{Bool, true, false, not}
+use Prim.Native.Nat.{ℕ, _+_, _-_, _≤_, _<_, min}
+use native.Mathlib.Omega.{arith}
+use lib.ListN.{getD}
+use lib.Dec.{ltb, eqb}
+use borrow.Author.Tests.{lt-ltb, le-ltb, ltb-true, ltb-false, eqb-true, eqb-false, ne-eqb}
+use Rattle.wire.specs.Choice.{if_then_else_}
+use Rattle.wire.specs.Words.{Case, Words, answer, refused, says, refuses, Injective}
+use Rattle.wire.proofs.Words.{read-back}
+use Rattle.moldudp64.specs.Header.{numberOf, countOf}
+use Rattle.moldudp64.specs.Downstream.{Kind, data-packet, heartbeat, end-of-session, kindOf, refusalOf}
+use Rattle.receiver.specs.declared.receiver.Receiver.{Receiver}
+use Rattle.receiver.specs.declared.receiver.Answer.{Answer}
+use Rattle.receiver.specs.declared.receiver.Answer.the-variants.{Deliver, Old, Quiet, Ask, Ended, Refused}
+use Rattle.receiver.specs.Table.{Reply, deliver, old, quiet, ask, ended, Outcome, Row, data-reaches, data-below, heartbeat-below, heartbeat-at, any-above, end-at, answerWords, delivers, olds, quiets, asks, endsNow, table}
+use Rattle.receiver.specs.Receiver.{otherSession, endBelow, refusalFor, rowOf, moved, answerOf, receiverAfter}
+use Rattle.receiver.specs.Statements.{FollowsTheTable, RequestExactlyWhen, NumberNeverFalls, RefusalChangesNothing, ReceiverPromises}
+use Rattle.receiver.proofs.TableLaws.{refused-stays, row-answer, row-after}
+
+-- the two ways that a comparison can go
+pub either : (P : Type 0) (a b : ℕ) → (a < b → P) → (b ≤ a → P) → P
+either P a b f g = go (ltb a b) refl
+  where
+    go : (t : Bool) → ltb a b ≡ t → P
+    go true e = f (ltb-true a b e)
+    go false e = g (ltb-false a b e)
+
+-- ---- the table is its rows; at an end of session n isn't above f
+
+module _ (limit n f c : ℕ) where
+  pub row-above : (k : Kind) → n < f → table limit n k f c ≡ asks limit n f
+  unfolding table
+  row-above data-packet h = rw (lt-ltb _ _ h)
+  row-above heartbeat h = rw (lt-ltb _ _ h)
+  row-above end-of-session h = rw (lt-ltb _ _ h)
+
+  pub row-reaches : f ≤ n → n < f + c → table limit n data-packet f c ≡ delivers n f c
+  unfolding table
+  row-reaches h i = rw (le-ltb _ _ h, lt-ltb _ _ i)
+
+  pub row-below : f + c ≤ n → table limit n data-packet f c ≡ olds n
+  unfolding table
+  row-below i = let h : f ≤ n = omega arith in rw (le-ltb _ _ h, le-ltb _ _ i)
+
+  pub row-beat-below : f < n → table limit n heartbeat f c ≡ olds n
+  unfolding table
+  row-beat-below i = let h : f ≤ n = omega arith in rw (le-ltb _ _ h, lt-ltb _ _ i)
+
+  pub row-beat-at : f ≡ n → table limit n heartbeat f c ≡ quiets n
+  unfolding table
+  row-beat-at e = let h : f ≤ n = omega arith in let i : n ≤ f = omega arith in rw (le-ltb _ _ h, le-ltb _ _ i)
+
+  pub row-end : f ≤ n → table limit n end-of-session f c ≡ endsNow n
+  unfolding table
+  row-end h = rw (le-ltb _ _ h)
+
+  rows : (k : Kind) → (k ≡ end-of-session → n ≤ f) → Row limit n k f c (table limit n k f c)
+  rows k g = either _ n f (λ h. any-above h (row-above k h)) (λ h. at-or-below k g h)
+    where
+      at-or-below : (k : Kind) → (k ≡ end-of-session → n ≤ f) → f ≤ n → Row limit n k f c (table limit n k f c)
+      at-or-below data-packet g h = either _ n (f + c) (λ i. data-reaches refl h i (row-reaches h i)) (λ i. data-below refl i (row-below i))
+      at-or-below heartbeat g h =
+          either _ f n (λ i. heartbeat-below refl i (row-beat-below i)) (λ i. let e : f ≡ n = omega arith in heartbeat-at refl e (row-beat-at e))
+      at-or-below end-of-session g h = let i = g refl in let e : f ≡ n = omega arith in end-at refl e (row-end h)
+
+-- ---- an accepted datagram: an end of session isn't below n
+
+not-below : (r : Receiver) (l : List ℕ) → refusalFor r l ≡ 0 → kindOf l ≡ end-of-session → r .next .0 ≤ numberOf l
+unfolding refusalFor endBelow
+not-below r l e k = go (eqb (refusalOf l) 0) refl (otherSession r l) (r .ended) (ltb (numberOf l) (r .next .0)) refl (rw k at e)
+  where
+    go : (a : Bool) → eqb (refusalOf l) 0 ≡ a → (b d t : Bool) → ltb (numberOf l) (r .next .0) ≡ t
+        → (if not a then refusalOf l else if b then 17 else if d then 18 else if t then 20 else 0) ≡ 0 → r .next .0 ≤ numberOf l
+    go false x b d t y z = absurd (eqb-false _ _ x z)
+    go true x true d t y z = absurd (omega arith)
+    go true x false true t y z = absurd (omega arith)
+    go true x false false true y z = absurd (omega arith)
+    go true x false false false y z = ltb-false _ _ y
+
+-- and its blocks were found sound
+pub well-read : (r : Receiver) (l : List ℕ) → refusalFor r l ≡ 0 → refusalOf l ≡ 0
+unfolding refusalFor
+well-read r l e = go (eqb (refusalOf l) 0) refl e
+  where
+    go : (a : Bool) → eqb (refusalOf l) 0 ≡ a
+        → (if not a then refusalOf l else if otherSession r l then 17 else if r .ended then 18 else if endBelow (kindOf l) (numberOf l) (r .next .0) then 20 else 0) ≡ 0
+        → refusalOf l ≡ 0
+    go true x z = eqb-true _ _ x
+    go false x z = z
+
+pub row-of : (r : Receiver) (l : List ℕ) → refusalFor r l ≡ 0 → Row (r .limit .0) (r .next .0) (kindOf l) (numberOf l) (countOf l) (rowOf r l)
+row-of r l e = rows (r .limit .0) (r .next .0) (numberOf l) (countOf l) (kindOf l) (not-below r l e)
+
+pub refused-answers : (r : Receiver) (l : List ℕ) → (refusalFor r l ≡ 0 → ⊥) → answerOf r l ≡ refuses (refusalFor r l)
+unfolding answerOf
+refused-answers r l z = rw (ne-eqb _ _ z)
+
+follows-the-table : FollowsTheTable answerOf receiverAfter
+follows-the-table =
+    record {
+      refused = λ r l z. record { its-number = refused-answers r l z; unchanged = sym (refused-stays r l (refusalFor r l) refl z) };
+      accepts = λ r l e. record { outcome = rowOf r l; its-row = row-of r l e; its-answer = row-answer r l e; its-receiver = row-after r l e };
+    }
+
+-- ---- only the row above n asks
+
+asks-above : (limit n : ℕ) (k : Kind) (f c : ℕ) (o : Outcome) → Row limit n k f c o → o .reply .which ≡ answer ask → n < f
+asks-above limit n k f c o (data-reaches a b d e) w = let x = sym (ap (λ (y : Outcome). y .reply .which) e) ∙ w in let z : _≡_ {A = ℕ} 0 1 = cc in absurd (omega arith)
+asks-above limit n k f c o (data-below a b e) w = let x = sym (ap (λ (y : Outcome). y .reply .which) e) ∙ w in let z : _≡_ {A = ℕ} 0 1 = cc in absurd (omega arith)
+asks-above limit n k f c o (heartbeat-below a b e) w = let x = sym (ap (λ (y : Outcome). y .reply .which) e) ∙ w in let z : _≡_ {A = ℕ} 0 1 = cc in absurd (omega arith)
+asks-above limit n k f c o (heartbeat-at a b e) w = let x = sym (ap (λ (y : Outcome). y .reply .which) e) ∙ w in let z : _≡_ {A = ℕ} 0 1 = cc in absurd (omega arith)
+asks-above limit n k f c o (any-above h e) w = h
+asks-above limit n k f c o (end-at a b e) w = let x = sym (ap (λ (y : Outcome). y .reply .which) e) ∙ w in let z : _≡_ {A = ℕ} 0 1 = cc in absurd (omega arith)
+
+request-exactly-when : RequestExactlyWhen answerOf
+request-exactly-when =
+    record {
+      when = λ r l e h. row-answer r l e ∙ ap (λ (o : Outcome). o .reply) (row-above (r .limit .0) (r .next .0) (numberOf l) (countOf l) (kindOf l) h);
+      only-when = λ r l e w. asks-above _ _ _ _ _ _ (row-of r l e) (sym (ap (λ (x : Words Reply). x .which) (row-answer r l e)) ∙ w);
+    }
+
+-- ---- the number
+
+row-rises : (limit n : ℕ) (k : Kind) (f c : ℕ) (o : Outcome) → Row limit n k f c o → n ≤ o .next
+row-rises limit n k f c o (data-reaches a b d e) = rw e (omega arith)
+row-rises limit n k f c o (data-below a b e) = rw e (omega arith)
+row-rises limit n k f c o (heartbeat-below a b e) = rw e (omega arith)
+row-rises limit n k f c o (heartbeat-at a b e) = rw e (omega arith)
+row-rises limit n k f c o (any-above h e) = rw e (omega arith)
+row-rises limit n k f c o (end-at a b e) = rw e (omega arith)
+
+pub whether : (P : Type 0) (r : Receiver) (l : List ℕ) → (refusalFor r l ≡ 0 → P) → ((refusalFor r l ≡ 0 → ⊥) → P) → P
+whether P r l f g = go (eqb (refusalFor r l) 0) refl
+  where
+    go : (b : Bool) → eqb (refusalFor r l) 0 ≡ b → P
+    go true e = f (eqb-true _ _ e)
+    go false e = g (eqb-false _ _ e)
+
+number-never-falls : NumberNeverFalls receiverAfter
+number-never-falls r l =
+    whether _ r l (λ e. rw (row-after r l e) (row-rises _ _ _ _ _ _ (row-of r l e))) (λ z. rw (← refused-stays r l (refusalFor r l) refl z) (omega arith))
+
+-- ---- the words tell all answers apart: they read back
+
+answered : Case Reply → ℕ → List ℕ → Answer
+answered (answer deliver) r vs = Deliver (record { 0 = getD vs 0 0 }) (record { 0 = getD vs 1 0 }) (record { 0 = getD vs 2 0 })
+answered (answer old) r vs = Old
+answered (answer quiet) r vs = Quiet
+answered (answer ask) r vs = Ask (record { 0 = getD vs 0 0 }) (record { 0 = getD vs 1 0 })
+answered (answer ended) r vs = Ended
+answered refused r vs = Refused (record { number = r })
+
+tells-apart : Injective answerWords
+unfolding answerWords answered
+tells-apart = read-back answerWords (λ w. answered (w .which) (w .refusal) (w .values)) back
+  where
+    back : (a : Answer) → answered (answerWords a .which) (answerWords a .refusal) (answerWords a .values) ≡ a
+    back (Deliver n c s) = refl
+    back Old = refl
+    back Quiet = refl
+    back (Ask n c) = refl
+    back Ended = refl
+    back (Refused r) = refl
+
+pub receiver-promises : ReceiverPromises
+receiver-promises =
+    record {
+      follows-the-table = follows-the-table;
+      request-exactly-when = request-exactly-when;
+      number-never-falls = number-never-falls;
+      refusal-changes-nothing = λ r l z. sym (refused-stays r l (refusalFor r l) refl z);
+      tells-apart = tells-apart;
+    }

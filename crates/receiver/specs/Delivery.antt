@@ -1,0 +1,43 @@
+-- What a deliver answer delivers, and the cursor that visits it.
+use Prim.Native.Nat.{ℕ, _+_, _<_}
+use mathlib.Core.List.{List, [], _∷_}
+use mathlib.Core.Bool.{true}
+use mathlib.Core.Path.{_≡_}
+use lib.ListN.{length, getD, drop}
+use lib.Dec.{ltb}
+use Rattle.wire.specs.Choice.{if_then_else_}
+use Rattle.wire.specs.Words.{Words, Case, answer, refused, says}
+use Rattle.wire.specs.Bytes.{AreBytes}
+use Rattle.moldudp64.specs.Downstream.{messagesOf}
+use Rattle.moldudp64_messages.specs.declared.cursor.Cursor.{Cursor}
+use Rattle.moldudp64_messages.specs.Cursor.{firstOf, movedBy, located, part}
+use Rattle.receiver.specs.declared.receiver.Receiver.{Receiver}
+use Rattle.receiver.specs.Table.{Reply, deliver, old, quiet, ask, ended}
+use Rattle.receiver.specs.Receiver.{answerOf}
+
+-- a deliver answer delivers the datagram's messages after the skipped ones, in order; every other answer, a refusal too, nothing
+unfoldable pub deliveredIn : Case Reply → List ℕ → List ℕ → List (List ℕ)
+deliveredIn (answer deliver) values l = drop (getD values 2 0) (messagesOf l)
+deliveredIn (answer old) values l = []
+deliveredIn (answer quiet) values l = []
+deliveredIn (answer ask) values l = []
+deliveredIn (answer ended) values l = []
+deliveredIn refused values l = []
+
+abbrev pub deliveredBy : Words Reply → List ℕ → List (List ℕ)
+deliveredBy w l = deliveredIn (w .which) (w .values) l
+
+-- the cursor at the first message that is not skipped, of a datagram with skipped + count messages; the two may be forged, and
+-- where a datagram can't have so many none is left
+unfoldable pub deliveryOf : List ℕ → ℕ → ℕ → Cursor
+deliveryOf l count skipped = if ltb 65535 (count + skipped) then firstOf 0 else movedBy skipped l (firstOf (count + skipped))
+
+-- i moves from there stand at the message i of what is delivered: there are count, each the bytes handed back
+pub record Visits (l : List ℕ) (ms : List (List ℕ)) (c : Cursor) (count : ℕ) : Type 0 where
+  pub as-many : length ms ≡ count
+  pub there : (i : ℕ) → i < count → located l (movedBy i l c) .exists ≡ true
+  pub each : (i : ℕ) → part l (located l (movedBy i l c)) ≡ getD ms i []
+
+unfoldable pub DeliveryVisits : Type 0
+DeliveryVisits = (r : Receiver) (l : List ℕ) (first count skipped : ℕ) → AreBytes l → answerOf r l ≡ says deliver (first ∷ count ∷ skipped ∷ [])
+    → Visits l (deliveredBy (answerOf r l) l) (deliveryOf l count skipped) count

@@ -1,0 +1,7 @@
+pub mod Table
+pub mod Receiver
+pub mod Statements
+pub mod Delivery
+pub mod Feed
+pub mod Condition3
+pub mod Bites

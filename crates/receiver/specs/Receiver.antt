@@ -1,0 +1,104 @@
+-- The receiver: its start, its refusals, and what it answers to a datagram.
+use Prim.Native.Nat.{ℕ}
+use mathlib.Core.List.{List}
+use mathlib.Core.Bool.{Bool, true, false, not}
+use mathlib.Core.Path.{_≡_}
+use lib.ListN.{take, replicate}
+use lib.Dec.{ltb, eqb}
+use Rattle.wire.specs.Choice.{if_then_else_}
+use Rattle.wire.specs.Refusals.{badSetting, sessionDiffers, sessionEnded, endBelowExpected}
+use Rattle.wire.specs.Bounds.{largestNumber, sessionSize}
+use Rattle.wire.specs.Words.{Words, refuses}
+use Rattle.wire.specs.Bytes.{sameBytes}
+use Rattle.moldudp64.specs.Header.{numberOf, countOf}
+use Rattle.moldudp64.specs.Downstream.{Kind, data-packet, heartbeat, end-of-session, kindOf, wellFormed, refusalOf}
+use Rattle.receiver.specs.declared.receiver.Receiver.{Receiver}
+use Rattle.receiver.specs.declared.receiver.Taken.{Taken}
+use Rattle.receiver.specs.Table.{Reply, Outcome, table, answerWords}
+
+abbrev pub receiver : List ℕ → ℕ → ℕ → Bool → Receiver
+receiver name n limit over = record { session = name; next = record { 0 = n }; limit = record { 0 = limit }; ended = over }
+
+-- ---- the start
+
+abbrev pub leastNumber : ℕ
+leastNumber = 1
+
+abbrev pub leastLimit : ℕ
+leastLimit = 1
+
+abbrev pub largestLimit : ℕ
+largestLimit = 65534
+
+-- 19 where the number or the limit is out of its bounds
+unfoldable pub startRefusal : ℕ → ℕ → ℕ
+startRefusal n limit =
+    if ltb n leastNumber then badSetting
+    else if ltb largestNumber n then badSetting
+    else if ltb limit leastLimit then badSetting
+    else if ltb largestLimit limit then badSetting
+    else 0
+
+-- document 01's "blank": ten spaces
+abbrev pub blank : List ℕ
+blank = replicate sessionSize 32
+
+-- a refused start gives an ended receiver, its name blank, its numbers 1
+abbrev pub refusedReceiver : Receiver
+refusedReceiver = receiver blank 1 1 true
+
+unfoldable pub startReceiver : List ℕ → ℕ → ℕ → Receiver
+startReceiver name n limit = if eqb (startRefusal n limit) 0 then receiver name n limit false else refusedReceiver
+
+-- ---- a datagram l
+
+-- the ground of 17: the session is another one
+unfoldable pub otherSession : Receiver → List ℕ → Bool
+otherSession r l = not (sameBytes (take sessionSize l) (r .session))
+
+-- the ground of 20: an end of session below the expected number
+unfoldable pub endBelow : Kind → ℕ → ℕ → Bool
+endBelow end-of-session f n = ltb f n
+endBelow data-packet f n = false
+endBelow heartbeat f n = false
+
+-- the lowest of 11 to 16, 17, 18 and 20 that applies, or 0
+unfoldable pub refusalFor : Receiver → List ℕ → ℕ
+refusalFor r l =
+    if not (wellFormed l) then refusalOf l
+    else if otherSession r l then sessionDiffers
+    else if r .ended then sessionEnded
+    else if endBelow (kindOf l) (numberOf l) (r .next .0) then endBelowExpected
+    else 0
+
+-- its rungs that a datagram's blocks have no part in: 17 and 18, and with an end of session at f also 20
+unfoldable pub closedTo : Receiver → List ℕ → ℕ
+closedTo r l = if otherSession r l then sessionDiffers else if r .ended then sessionEnded else 0
+
+unfoldable pub endRefusal : Receiver → List ℕ → ℕ → ℕ
+endRefusal r l f = if eqb (closedTo r l) 0 then (if ltb f (r .next .0) then endBelowExpected else 0) else closedTo r l
+
+-- document 01's "accepted": none of them applies
+abbrev pub accepted : Receiver → List ℕ → Bool
+accepted r l = eqb (refusalFor r l) 0
+
+-- the row of the table
+abbrev pub rowOf : Receiver → List ℕ → Outcome
+rowOf r l = table (r .limit .0) (r .next .0) (kindOf l) (numberOf l) (countOf l)
+
+-- the receiver after a row: its number moved, and ended where the row ends it
+abbrev pub moved : Receiver → Outcome → Receiver
+moved r o = receiver (r .session) (o .next) (r .limit .0) (if o .ends then true else r .ended)
+
+-- what it answers
+unfoldable pub answerOf : Receiver → List ℕ → Words Reply
+answerOf r l = if accepted r l then rowOf r l .reply else refuses (refusalFor r l)
+
+-- what it is then: a refusal leaves it as it was
+unfoldable pub receiverAfter : Receiver → List ℕ → Receiver
+receiverAfter r l = if accepted r l then moved r (rowOf r l) else r
+
+-- a row taken: x is the answer with the next receiver
+pub record Takes (x : Taken) (r : Receiver) (o : Outcome) : Type 0 where
+  pub answers : answerWords (x .answer) ≡ o .reply
+  pub leaves : x .receiver ≡ moved r o

@@ -1,0 +1,55 @@
+-- What is promised of a receiver at one datagram. A receiver is how it answers and what it is then.
+use Prim.Native.Nat.{ℕ, _-_, _<_, _≤_, min}
+use mathlib.Core.List.{List, [], _∷_}
+use mathlib.Core.Path.{_≡_}
+use Rattle.wire.specs.Words.{Words, answer, says, refuses, Injective}
+use Rattle.moldudp64.specs.Header.{numberOf, countOf}
+use Rattle.moldudp64.specs.Downstream.{kindOf}
+use Rattle.receiver.specs.declared.receiver.Receiver.{Receiver}
+use Rattle.receiver.specs.Table.{Reply, ask, Outcome, Row, answerWords}
+use Rattle.receiver.specs.Receiver.{refusalFor, moved, answerOf, receiverAfter}
+
+abbrev pub Answers : Type 0
+Answers = Receiver → List ℕ → Words Reply
+
+abbrev pub Steps : Type 0
+Steps = Receiver → List ℕ → Receiver
+
+-- a refusal: its number, and nothing changed
+pub record Refuses (answers : Answers) (step : Steps) (r : Receiver) (l : List ℕ) : Type 0 where
+  pub its-number : answers r l ≡ refuses (refusalFor r l)
+  pub unchanged : step r l ≡ r
+
+-- a row of the table
+pub record Follows (answers : Answers) (step : Steps) (r : Receiver) (l : List ℕ) : Type 0 where
+  pub outcome : Outcome
+  pub its-row : Row (r .limit .0) (r .next .0) (kindOf l) (numberOf l) (countOf l) outcome
+  pub its-answer : answers r l ≡ outcome .reply
+  pub its-receiver : step r l ≡ moved r outcome
+
+-- at every receiver and datagram: the ladder's refusal with nothing changed, or the table's row
+pub record FollowsTheTable (answers : Answers) (step : Steps) : Type 0 where
+  pub refused : (r : Receiver) (l : List ℕ) → (refusalFor r l ≡ 0 → ⊥) → Refuses answers step r l
+  pub accepts : (r : Receiver) (l : List ℕ) → refusalFor r l ≡ 0 → Follows answers step r l
+
+-- an accepted datagram draws a request exactly when its number lies above the expected one: then from that one, for the smaller
+-- of the distance and the limit
+pub record RequestExactlyWhen (answers : Answers) : Type 0 where
+  pub when : (r : Receiver) (l : List ℕ) → refusalFor r l ≡ 0 → r .next .0 < numberOf l
+      → answers r l ≡ says ask (r .next .0 ∷ min (numberOf l - r .next .0) (r .limit .0) ∷ [])
+  pub only-when : (r : Receiver) (l : List ℕ) → refusalFor r l ≡ 0 → answers r l .which ≡ answer ask → r .next .0 < numberOf l
+
+-- the number never falls
+abbrev pub NumberNeverFalls : Steps → Type 0
+NumberNeverFalls step = (r : Receiver) (l : List ℕ) → r .next .0 ≤ step r l .next .0
+
+-- a refusal changes nothing
+abbrev pub RefusalChangesNothing : Steps → Type 0
+RefusalChangesNothing step = (r : Receiver) (l : List ℕ) → (refusalFor r l ≡ 0 → ⊥) → step r l ≡ r
+
+pub record ReceiverPromises : Type 0 where
+  pub follows-the-table : FollowsTheTable answerOf receiverAfter
+  pub request-exactly-when : RequestExactlyWhen answerOf
+  pub number-never-falls : NumberNeverFalls receiverAfter
+  pub refusal-changes-nothing : RefusalChangesNothing receiverAfter
+  pub tells-apart : Injective answerWords

@@ -1,0 +1,283 @@
+// The receiver's start, and its taking of a datagram.
+use moldudp64::downstream;
+use moldudp64::downstream::Downstream;
+use moldudp64::header;
+use wire::kinds::MessageCount;
+use wire::kinds::SESSION_SIZE;
+use wire::kinds::SequenceNumber;
+use wire::refusal;
+use wire::refusal::Refusal;
+ghost use mathlib.Core.Path.{_≡_};
+ghost use Prim.Native.Nat.{_+_, _≤_, _<_};
+ghost use Rattle.wire.specs.Bounds.{largestNumber};
+ghost use Rattle.wire.specs.Refusals.{badSetting};
+ghost use Rattle.moldudp64.specs.Downstream.{data-packet, heartbeat, end-of-session, readOf, downstreamWords};
+ghost use Rattle.receiver.specs.Table.{asks, table, answerWords};
+ghost use Rattle.receiver.specs.Receiver.{receiver, refusedReceiver, startRefusal, startReceiver, closedTo, endRefusal, refusalFor, answerOf, receiverAfter, Takes};
+ghost use Rattle.receiver.specs.Statements.{ReceiverPromises};
+ghost use Rattle.receiver.specs.Condition3.{Condition3};
+ghost use Rattle.receiver.specs.Bites.{NotVacuous, NotWeak};
+
+pub struct Receiver {
+    pub session: [u8; SESSION_SIZE],
+    // The number of the next message to deliver.
+    pub next: SequenceNumber,
+    // The most messages that one request asks for.
+    pub limit: MessageCount,
+    pub ended: bool,
+}
+
+// What the receiver answers to a datagram.
+pub enum Answer {
+    // Messages to deliver: the number of the first, how many, and how many of the datagram's are skipped before it.
+    Deliver {
+        first: SequenceNumber,
+        count: MessageCount,
+        skipped: MessageCount,
+    },
+    Old,
+    Quiet,
+    // A request to send: the first number wanted, and how many.
+    Ask {
+        from: SequenceNumber,
+        count: MessageCount,
+    },
+    Ended,
+    Refused(Refusal),
+}
+
+// The answer to a datagram, and the receiver to use next.
+pub struct Taken {
+    pub answer: Answer,
+    pub receiver: Receiver,
+}
+
+// The refusal of a start, its number 0 where there is none, and the receiver.
+pub struct Started {
+    pub refusal: Refusal,
+    pub receiver: Receiver,
+}
+
+// A refused start: an ended receiver, its name ten spaces, its numbers 1.
+fn refused_start() -> Started
+    ensures { λ r. ⌜ (r .refusal .number ≡ badSetting) × (r .receiver ≡ refusedReceiver) ⌝ }
+{
+    Started {
+        refusal: refusal::BAD_SETTING,
+        receiver: Receiver {
+            session: [b' '; SESSION_SIZE],
+            next: SequenceNumber(1),
+            limit: MessageCount(1),
+            ended: true,
+        },
+    }
+}
+
+impl Receiver {
+    pub const LEAST_NUMBER: SequenceNumber = SequenceNumber(1);
+
+    pub const LARGEST_NUMBER: SequenceNumber = SequenceNumber(18446744073709551615);
+
+    pub const LEAST_LIMIT: MessageCount = MessageCount(1);
+
+    pub const LARGEST_LIMIT: MessageCount = MessageCount(65534);
+
+    // A fresh receiver, or the refusal 19.
+    pub fn new(session: [u8; SESSION_SIZE], next: SequenceNumber, limit: MessageCount) -> Started
+        ensures { λ r. ⌜ (r .refusal .number ≡ startRefusal (next .0) (limit .0)) × (r .receiver ≡ startReceiver session (next .0) (limit .0)) ⌝ }
+        ensures condition_3 { λ _. ⌜ Condition3 ⌝ }
+        ensures not_vacuous { λ _. ⌜ NotVacuous ⌝ }
+        ensures not_weak { λ _. ⌜ NotWeak ⌝ }
+    {
+        let n = next.0;
+        let l = limit.0;
+        if n < Receiver::LEAST_NUMBER.0 {
+            return refused_start();
+        }
+        if Receiver::LARGEST_NUMBER.0 < n {
+            return refused_start();
+        }
+        if l < Receiver::LEAST_LIMIT.0 {
+            return refused_start();
+        }
+        if Receiver::LARGEST_LIMIT.0 < l {
+            return refused_start();
+        }
+        Started {
+            refusal: refusal::NONE,
+            receiver: Receiver {
+                session: session,
+                next: next,
+                limit: limit,
+                ended: false,
+            },
+        }
+    }
+
+    // Takes a datagram, with one walk over its blocks: the table works on what the reader found.
+    pub fn take(self, datagram: &[u8]) -> Taken
+        ensures { λ r. ⌜ (answerWords (r .answer) ≡ answerOf self (now (datagram .entry))) × (r .receiver ≡ receiverAfter self (now (datagram .entry))) ⌝ }
+        ensures promises { λ _. ⌜ ReceiverPromises ⌝ }
+    {
+        let packet = downstream::read(datagram);
+        let refused = self.refusal_for(datagram, packet);
+        if refused.number != 0 {
+            return Taken {
+                answer: Answer::Refused(refused),
+                receiver: self,
+            };
+        }
+        match packet {
+            Downstream::Data { first, count } => self.take_data(first, count),
+            Downstream::Heartbeat { next } => self.take_heartbeat(next),
+            Downstream::EndOfSession { next } => self.take_end(next),
+            Downstream::Refused(r) => Taken {
+                answer: Answer::Refused(r),
+                receiver: self,
+            },
+        }
+    }
+
+    // The lowest of 11 to 16, 17, 18 and 20 that applies to a datagram that was read, or 0.
+    fn refusal_for(self, datagram: &[u8], packet: Downstream) -> Refusal
+        requires { ⌜ downstreamWords packet ≡ readOf (now datagram) ⌝ }
+        ensures { λ r. ⌜ r .number ≡ refusalFor self (now (datagram .entry)) ⌝ }
+    {
+        match packet {
+            Downstream::Refused(r) => r,
+            Downstream::Data { first: _, count: _ } => self.closed_to(datagram),
+            Downstream::Heartbeat { next: _ } => self.closed_to(datagram),
+            Downstream::EndOfSession { next } => self.end_refusal(datagram, next),
+        }
+    }
+
+    // 17, 18 or 0.
+    fn closed_to(self, datagram: &[u8]) -> Refusal
+        ensures { λ r. ⌜ r .number ≡ closedTo self (now (datagram .entry)) ⌝ }
+    {
+        let name = self.session;
+        if !header::has_session(datagram, name) {
+            return refusal::SESSION_DIFFERS;
+        }
+        if self.ended {
+            return refusal::SESSION_ENDED;
+        }
+        refusal::NONE
+    }
+
+    // 17, 18, 20 or 0.
+    fn end_refusal(self, datagram: &[u8], at: SequenceNumber) -> Refusal
+        ensures { λ r. ⌜ r .number ≡ endRefusal self (now (datagram .entry)) (at .0) ⌝ }
+    {
+        let closed = self.closed_to(datagram);
+        if closed.number != 0 {
+            return closed;
+        }
+        if at.0 < self.next.0 {
+            return refusal::END_BELOW_EXPECTED;
+        }
+        refusal::NONE
+    }
+
+    // The receiver with another number, and ended or not: the one place where the next receiver is made.
+    fn moved(self, next: SequenceNumber, ended: bool) -> Receiver
+        ensures { λ r. ⌜ r ≡ receiver (self .session) (next .0) (self .limit .0) ended ⌝ }
+    {
+        let session = self.session;
+        let limit = self.limit;
+        Receiver {
+            session: session,
+            next: next,
+            limit: limit,
+            ended: ended,
+        }
+    }
+
+    // The row for a number above n: ask from n, for the smaller of the distance and the limit.
+    fn ask(self, above: SequenceNumber) -> Taken
+        requires { ⌜ self .next .0 < above .0 ⌝ }
+        ensures { λ r. ⌜ Takes r self (asks (self .limit .0) (self .next .0) (above .0)) ⌝ }
+    {
+        let next = self.next;
+        let limit = self.limit;
+        let gap = above.0 - next.0;
+        if gap < limit.0 as u64 {
+            return Taken {
+                answer: Answer::Ask {
+                    from: next,
+                    count: MessageCount(gap as u16),
+                },
+                receiver: self,
+            };
+        }
+        Taken {
+            answer: Answer::Ask {
+                from: next,
+                count: limit,
+            },
+            receiver: self,
+        }
+    }
+
+    // The rows for data.
+    fn take_data(self, first: SequenceNumber, count: MessageCount) -> Taken
+        requires { ⌜ first .0 + count .0 ≤ largestNumber ⌝ }
+        ensures { λ r. ⌜ Takes r self (table (self .limit .0) (self .next .0) data-packet (first .0) (count .0)) ⌝ }
+    {
+        let n = self.next.0;
+        let f = first.0;
+        let end = f + count.0 as u64;
+        if n < f {
+            return self.ask(first);
+        }
+        if n < end {
+            return Taken {
+                answer: Answer::Deliver {
+                    first: SequenceNumber(n),
+                    count: MessageCount((end - n) as u16),
+                    skipped: MessageCount((n - f) as u16),
+                },
+                receiver: self.moved(SequenceNumber(end), self.ended),
+            };
+        }
+        Taken {
+            answer: Answer::Old,
+            receiver: self,
+        }
+    }
+
+    // The rows for a heartbeat.
+    fn take_heartbeat(self, at: SequenceNumber) -> Taken
+        ensures { λ r. ⌜ Takes r self (table (self .limit .0) (self .next .0) heartbeat (at .0) 0) ⌝ }
+    {
+        let n = self.next.0;
+        let f = at.0;
+        if n < f {
+            return self.ask(at);
+        }
+        if f < n {
+            return Taken {
+                answer: Answer::Old,
+                receiver: self,
+            };
+        }
+        Taken {
+            answer: Answer::Quiet,
+            receiver: self,
+        }
+    }
+
+    // The rows for an end of session that isn't below n.
+    fn take_end(self, at: SequenceNumber) -> Taken
+        ensures { λ r. ⌜ Takes r self (table (self .limit .0) (self .next .0) end-of-session (at .0) 65535) ⌝ }
+    {
+        let next = self.next;
+        if next.0 < at.0 {
+            return self.ask(at);
+        }
+        Taken {
+            answer: Answer::Ended,
+            receiver: self.moved(next, true),
+        }
+    }
+}
