@@ -1,0 +1,93 @@
+// Runs recorded vectors through every public function of `moldudp64_writer`, and prints every answer with the whole
+// output after it. `vector_lines` tells the form of a vector; a field of lengths is `-` or parts `L*N`, the length L
+// so many times, joined by `+`.
+mod lengths;
+
+use libc::STDIN_FILENO;
+use moldudp64_writer::downstream;
+use moldudp64_writer::request;
+use vector_lines::parse;
+use vector_lines::print;
+use wire::kinds::MessageCount;
+use wire::kinds::SESSION_SIZE;
+use wire::kinds::SequenceNumber;
+
+// Room for the vectors. A text that fills it may have been cut, so it is refused whole.
+const MOST_TEXT: usize = 65536;
+
+// The packets with no blocks.
+fn header(
+    letter: u8,
+    out: &mut [u8],
+    session: [u8; SESSION_SIZE],
+    number: SequenceNumber,
+    count: MessageCount,
+) {
+    match letter {
+        b'b' => {
+            print::written(downstream::write_end_of_session(out, session, number), out);
+        }
+        b'c' => {
+            print::written(request::write(out, session, number, count), out);
+        }
+        _ => {}
+    }
+}
+
+fn messages(fields: &[u8], out: &mut [u8], session: [u8; SESSION_SIZE], number: SequenceNumber) {
+    let mut bytes = [0u8; 131072];
+    let n = parse::bytes(fields, b'd', &mut bytes);
+    let mut lengths = [0u16; 65536];
+    let m = lengths::lengths(fields, &mut lengths);
+    let written = downstream::write_messages(out, session, number, &lengths[..m], &bytes[..n]);
+    print::written(written, out);
+}
+
+fn ask(letter: u8, fields: &[u8]) {
+    let mut out = [0u8; 65536];
+    let size = parse::output(fields, &mut out);
+    let session = parse::session(fields);
+    let number = SequenceNumber(parse::number(fields, b'n'));
+    if letter == b'a' {
+        messages(fields, &mut out[..size], session, number);
+        return;
+    }
+    header(
+        letter,
+        &mut out[..size],
+        session,
+        number,
+        parse::count(fields, b'c'),
+    );
+}
+
+// Prints a line's answer, or the line itself where it is a heading.
+fn answer(line: &[u8]) {
+    let n = parse::until(line, b'|');
+    print::text(&line[..n]);
+    let fields = parse::after(line, b'|');
+    if 0 < fields.len() {
+        ask(parse::first(line), fields);
+    }
+    print::text(b"\n");
+}
+
+fn answer_all(text: &[u8]) {
+    let mut rest = text;
+    while 0 < rest.len() {
+        let n = parse::until(rest, b'\n');
+        answer(&rest[..n]);
+        let next = parse::after(rest, b'\n');
+        rest = next;
+    }
+}
+
+fn main() {
+    let mut text = [0u8; MOST_TEXT];
+    let n = io::read_full(STDIN_FILENO, &mut text);
+    if n == MOST_TEXT {
+        print::text(b"too many vectors\n");
+        return;
+    }
+    answer_all(&text[..n]);
+}
