@@ -4,6 +4,8 @@ use receiver::receiver::Started;
 use wire::kinds::MessageCount;
 use wire::kinds::SESSION_SIZE;
 use wire::kinds::SequenceNumber;
+ghost use mathlib.Core.Path.{_≡_};
+ghost use Rattle.receiver.specs.Receiver.{startRefusal, startReceiver};
 ghost use Rattle.receiver.specs.Condition3.{Condition3};
 
 // Condition 3, from the promise of the receiver's start: without that promise this function has no proof.
@@ -12,7 +14,8 @@ pub fn condition_3(
     next: SequenceNumber,
     limit: MessageCount,
 ) -> Started
-    ensures { λ _. ⌜ Condition3 ⌝ }
+    ensures { λ r. ⌜ (r .refusal .number ≡ startRefusal (next .0) (limit .0)) × (r .receiver ≡ startReceiver session (next .0) (limit .0)) ⌝ }
+    ensures condition_3 { λ _. ⌜ Condition3 ⌝ }
 {
     Receiver::new(session, next, limit)
 }
