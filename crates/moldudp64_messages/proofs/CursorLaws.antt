@@ -6,12 +6,12 @@ use Prim.Native.Nat.{ℕ, zero, suc, _+_, _-_, _≤_, _<_}
 use native.Mathlib.Omega.{arith}
 use native.Mathlib.Nat.{add-zero}
 use native.Mathlib.Numerals.{sub-one}
-use lib.ListN.{length, getD, take, drop, length-take, length-drop, length-append, List·getD-eq-default}
+use lib.ListN.{length, getD, take, drop, length-take, length-drop, length-append}
 use lib.Seq.{drop-drop}
-use lib.Dec.{leb, ltb, eqb}
+use lib.Dec.{ltb, eqb}
 use mir.Val.{Fits}
 use mir.Syntax.{w64}
-use borrow.Author.Tests.{le-leb, lt-leb, leb-true, lt-ltb, le-ltb, ltb-true, ltb-false, eq-eqb, ne-eqb, eqb-true, eqb-false, not-true}
+use borrow.Author.Tests.{lt-ltb, le-ltb, ltb-true, ltb-false, ne-eqb, eqb-true, eqb-false, not-true}
 use Rattle.wire.specs.Choice.{if_then_else_}
 use Rattle.wire.specs.Bytes.{bytes}
 use Rattle.wire.proofs.Numbers.{part-to-end, length-bytes}
@@ -27,7 +27,7 @@ use Rattle.moldudp64.specs.Downstream.{Kind, heartbeat, end-of-session, blockCo
 use Rattle.moldudp64_messages.specs.declared.cursor.Located.{Located}
 use Rattle.moldudp64_messages.specs.declared.cursor.Cursor.{Cursor}
 use Rattle.moldudp64_messages.specs.Cursor.{there, nowhere, part, locateOf, cursor, locatedAt, located, moved, movedBy, firstOf, startOf, WalksTheMessages, PartIsMessage, CountIsMessages}
-use Rattle.moldudp64.proofs.BlockLaws.{fits-so, fits-not, so-fits, first-fits, rest-fit, sound-fit, length-messages}
+use Rattle.moldudp64.proofs.BlockLaws.{fits-so, fits-not, so-fits, first-fits, rest-fit, sound-fit}
 use Rattle.moldudp64.proofs.DownstreamLaws.{sound, messages-refused, messages-sound, count-sound, kind-read, refusal-read, data-read, no-blocks}
 
 -- ---- what the cursor stands at, as code that has k as the size of the block there

@@ -1,11 +1,10 @@
 -- Laws of the header: written in three parts, and read back.
-use mathlib.Core.Path.{_≡_, refl, ap, sym, _∙_}
-use mathlib.Core.List.{List, [], _∷_, _++_, append-assoc}
+use mathlib.Core.Path.{_≡_, sym}
+use mathlib.Core.List.{List, _++_, append-assoc}
 use Prim.Native.Nat.{ℕ, _+_, _^_, _≤_, _<_}
 use native.Mathlib.Omega.{arith}
-use native.Mathlib.Nat.{zero-add}
 use lib.ListN.{length, take, drop, length-append, length-drop}
-use lib.Seq.{take-at, drop-at, take-add, take-append-le}
+use lib.Seq.{take-at, drop-at, take-add}
 use Rattle.wire.specs.Bytes.{number, bytes, AreBytes}
 use Rattle.wire.specs.Output.{put}
 use Rattle.wire.proofs.Numbers.{length-bytes, number-bytes, number-drop, bytes-number}

@@ -2,30 +2,29 @@
 use mathlib.Core.Path.{_≡_, refl, ap, sym, _∙_}
 use mathlib.Core.List.{List, [], _∷_, _++_, append-assoc, append-nil}
 use mathlib.Core.Bool.{Bool, true, false}
-use Prim.Native.Nat.{ℕ, zero, suc, _+_, _*_, _-_, _^_, _≤_, _<_}
+use Prim.Native.Nat.{ℕ, zero, suc, _+_, _-_, _^_, _≤_, _<_}
 use native.Mathlib.Omega.{arith}
-use native.Mathlib.Nat.{add-zero}
 use lib.ListN.{length, getD, take, drop, length-append, length-take, length-drop, take-append-drop}
-use lib.Seq.{take-all, take-at, drop-at, take-add, drop-drop, getD-drop}
-use lib.Dec.{eqb, ltb}
-use borrow.Author.Tests.{le-leb, eq-eqb, eqb-true, eqb-false}
+use lib.Seq.{take-all, take-at, drop-at, take-add}
+use lib.Dec.{eqb}
+use borrow.Author.Tests.{le-leb, eq-eqb, eqb-true}
 use Rattle.wire.specs.Choice.{if_then_else_}
 use Rattle.wire.specs.Words.{says}
 use Rattle.wire.specs.Bytes.{number, bytes, AreBytes}
-use Rattle.wire.specs.Output.{wrote, put, writeRefusal, writeAnswer, writeOutput}
+use Rattle.wire.specs.Output.{writeRefusal, writeAnswer}
 use Rattle.wire.proofs.Numbers.{length-bytes, number-bytes, bytes-number, small-number}
-use Rattle.wire.proofs.Outputs.{wrote-so, wrote-front, writes-done}
+use Rattle.wire.proofs.Outputs.{wrote-so, wrote-front}
 use Rattle.moldudp64.specs.Header.{numberOf, countOf, header}
 use Rattle.moldudp64.specs.Blocks.{lengthOf, sizeOf, afterBlock, allFit, afterBlocks, messages, blocksRefusal, blocksOf, fits}
 use Rattle.moldudp64.specs.Downstream.{Kind, data-packet, heartbeat, end-of-session, kindOfCount, kindOf, blockCount, valuesOf, refusalOf, readOf, sessionOf, messagesOf}
-use Rattle.moldudp64_writer.specs.Writer.{packet, packetOf, cut, total, lengthsOf, joined, packetGround, endPacket, endGround}
-use Rattle.moldudp64.specs.Request.{wanted, requestGround, requestRefusal, requestOf, requestSession}
+use Rattle.moldudp64_writer.specs.Writer.{packet, packetOf, cut, lengthsOf, joined, packetGround, endPacket, endGround}
+use Rattle.moldudp64.specs.Request.{requestGround, requestRefusal, requestOf, requestSession}
 use Rattle.moldudp64_writer.specs.RoundTrips.{ReadsAs, WritesTo, kindOfMessages, valuesOfMessages, AsksFor, PacketReadsBack, PacketWritesBack, EndReadsBack, EndWritesBack, RequestReadsBack, RequestWritesBack, PacketRoundTrip, EndRoundTrip, RequestRoundTrip}
 use Rattle.moldudp64_writer.proofs.HeaderLaws.{length-header, header-session, header-number, header-count, header-rest, header-again, drop-bytes}
-use Rattle.moldudp64.proofs.BlockLaws.{fits-so, sound-fit, sound-end, first-fits, rest-fit, length-messages}
-use Rattle.moldudp64.proofs.DownstreamLaws.{kind-heartbeat, kind-end, kind-data, count-end, count-blocks, Sound, sound, accepted, said, messages-sound, count-sound}
+use Rattle.moldudp64.proofs.BlockLaws.{fits-so, sound-fit, sound-end, first-fits, rest-fit}
+use Rattle.moldudp64.proofs.DownstreamLaws.{kind-heartbeat, kind-end, kind-data, count-end, count-blocks, sound, accepted, said, messages-sound, count-sound}
 use Rattle.moldudp64_writer.proofs.CutLaws.{laid, laid-front, laid-size, cut-count, cut-short, cut-size, join-again, lengths-count, lengths-total, joined-size}
-use Rattle.moldudp64_writer.proofs.WriterLaws.{Writable, writable, not-writable, end-good}
+use Rattle.moldudp64_writer.proofs.WriterLaws.{writable, not-writable, end-good}
 use Rattle.moldudp64.proofs.RequestLaws.{request-sound}
 
 -- ---- one block in front of others

@@ -1,27 +1,23 @@
 -- Laws of the writers: l is the lent output at entry, m at exit, g a ground, bs the bytes, n a number, ks lengths, d data.
 use mathlib.Core.Path.{_≡_, refl, ap, sym, _∙_}
-use mathlib.Core.List.{List, [], _∷_, _++_, append-assoc}
+use mathlib.Core.List.{List, []}
 use mathlib.Core.Bool.{Bool, true, false, not}
 use Prim.Native.Nat.{ℕ, zero, suc, _+_, _*_, _-_, _≤_, _<_}
 use native.Mathlib.Omega.{arith}
 use native.Mathlib.Numerals.{add-one}
-use lib.ListN.{length, getD, take, drop, length-append, length-take, length-drop, drop-of-length-le}
+use lib.ListN.{length, getD, drop, length-append, drop-of-length-le}
 use lib.Seq.{drop-cons}
-use lib.Dec.{leb, ltb, eqb}
-use borrow.Author.Tests.{lt-ltb, le-ltb, ltb-false, eq-eqb, ne-eqb, eqb-true, eqb-false, not-true, not-false}
+use lib.Dec.{ltb, eqb}
+use borrow.Author.Tests.{lt-ltb, le-ltb, ltb-false, eq-eqb, ne-eqb, eqb-true, eqb-false, not-false}
 use mir.Val.{Fits}
 use mir.Syntax.{w16, w64}
-use Rattle.wire.specs.Choice.{if_then_else_}
-use Rattle.wire.specs.Refusals.{outputShort}
-use Rattle.wire.specs.Bytes.{bytes}
 use Rattle.wire.specs.declared.refusal.Refusal.{Refusal}
 use Rattle.wire.specs.declared.output.Written.the-variants.{Wrote, Refused}
 use Rattle.wire.specs.Output.{put, Writes}
-use Rattle.wire.proofs.Numbers.{length-bytes, part-to-end}
-use Rattle.wire.proofs.Outputs.{writes-ground, writes-short, writes-done, put-put, put-empty, length-put}
+use Rattle.wire.proofs.Outputs.{writes-ground, writes-short, writes-done, put-put, length-put}
 use Rattle.moldudp64.specs.Header.{header}
 use Rattle.moldudp64.specs.Blocks.{blocksOf}
-use Rattle.moldudp64_writer.specs.Writer.{packet, cut, packetOf, total, addUp, packetSize, packetGround, endPacket, endGround}
+use Rattle.moldudp64_writer.specs.Writer.{packet, cut, packetOf, total, addUp, packetGround, endPacket, endGround}
 use Rattle.moldudp64_writer.proofs.HeaderLaws.{length-header}
 use Rattle.moldudp64_writer.proofs.CutLaws.{cut-count, cut-size}
 use Rattle.moldudp64.proofs.DownstreamLaws.{past-ground}

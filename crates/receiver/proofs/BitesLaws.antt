@@ -1,24 +1,23 @@
 -- Condition 3 speaks of something, and rules something out: one feed, and receivers that idle, do too much or too little.
 use Prim.Native.Nat.{ℕ, zero, suc, _+_, _-_, _<_, _≤_}
 use mathlib.Core.Path.{_≡_, refl, ap, sym, _∙_}
-use mathlib.Core.List.{List, [], _∷_, _++_, List·Memᴰ, List·Memᴰ·cases-cons, List·Memᴰ·not-nil}
+use mathlib.Core.List.{List, [], _∷_, List·Memᴰ, List·Memᴰ·cases-cons, List·Memᴰ·not-nil}
 use mathlib.Core.Logic.{⊎-elim}
-use mathlib.Core.Bool.{Bool, true, false}
+use mathlib.Core.Bool.{true}
 use native.Mathlib.Omega.{arith}
 use lib.ListN.{length, getD, replicate}
-use Rattle.wire.specs.Words.{Words, answer, refused, says, refuses}
 use Rattle.wire.specs.Bytes.{number, bytes, sameBytes}
 use Rattle.wire.proofs.Words.{which-of}
 use Rattle.moldudp64.specs.Header.{numberOf, countOf, header}
 use Rattle.moldudp64.specs.Blocks.{lengthOf, fits, allFit, afterBlocks, messages, blocksRefusal, blocksOf}
-use Rattle.moldudp64.specs.Downstream.{Kind, data-packet, heartbeat, end-of-session, kindOfCount, kindOf, blockCount, refusalOf, messagesOf}
+use Rattle.moldudp64.specs.Downstream.{Kind, data-packet, kindOfCount, kindOf, blockCount, refusalOf, messagesOf}
 use Rattle.receiver.specs.declared.receiver.Receiver.{Receiver}
-use Rattle.receiver.specs.Table.{Reply, Outcome, Row, data-reaches, data-below, heartbeat-below, heartbeat-at, any-above, end-at, delivers, table}
-use Rattle.receiver.specs.Receiver.{receiver, otherSession, endBelow, refusalFor, moved, answerOf, receiverAfter}
-use Rattle.receiver.specs.Statements.{Answers, Steps, Follows, FollowsTheTable}
+use Rattle.receiver.specs.Table.{Outcome, Row, data-reaches, data-below, heartbeat-below, heartbeat-at, any-above, end-at, delivers, table}
+use Rattle.receiver.specs.Receiver.{otherSession, endBelow, refusalFor, moved, answerOf, receiverAfter}
+use Rattle.receiver.specs.Statements.{Answers, Steps, FollowsTheTable}
 use Rattle.receiver.specs.Delivery.{deliveredIn, deliveredBy}
-use Rattle.receiver.specs.Feed.{Datagram, Message, Session, lastOf, IsMessage, messagesFrom, OfKind, not-well-formed, any-heartbeat, true-data, true-end, AllOfKind, after, delivered, Faithful}
-use Rattle.receiver.specs.Condition3.{machineOf, plain}
+use Rattle.receiver.specs.Feed.{Datagram, Message, IsMessage, messagesFrom, OfKind, not-well-formed, any-heartbeat, true-data, true-end, AllOfKind, after, delivered, Faithful}
+use Rattle.receiver.specs.Condition3.{machineOf}
 use Rattle.receiver.specs.Bites.{a, b, c, session, dataAt, heartbeatAt, endAt, fresh, feed, NotVacuous, stays, refusesAll, oldToAll, asksAlways, allAtOnce, movesPastAll, overlapOld, overlapStays, jumpDelivers, jumps, NotWeak}
 use Rattle.receiver.proofs.FeedLaws.{none-from, Keeps, faithful}
 

@@ -1,23 +1,20 @@
 -- Condition 3 holds of the plain receiver: what one datagram of its kind does to it, and to two of which one is behind.
-use Prim.Native.Nat.{ℕ, suc, _+_, _-_, _<_, _≤_}
+use Prim.Native.Nat.{ℕ, _+_, _-_, _<_, _≤_}
 use mathlib.Core.Path.{_≡_, refl, sym, ap, _∙_}
-use mathlib.Core.List.{List, [], _∷_, _++_}
-use mathlib.Core.Bool.{Bool, true, false, true≢false, not}
-use mathlib.Core.Logic.{_⊎_, inl, inr, ⊎-elim}
+use mathlib.Core.List.{[]}
+use mathlib.Core.Bool.{Bool, true, false, true≢false}
 use native.Mathlib.Omega.{arith}
-use lib.ListN.{length, take, drop, getD}
-use lib.Dec.{ltb, eqb}
+use lib.ListN.{take, drop}
 use lib.Seq.{drop-at}
-use borrow.Author.Tests.{lt-ltb, le-ltb, ne-eqb}
-use Rattle.wire.specs.Choice.{if_then_else_}
-use Rattle.wire.specs.Words.{Words, says}
+use borrow.Author.Tests.{le-ltb, ne-eqb}
+use Rattle.wire.specs.Words.{Words}
 use Rattle.moldudp64.specs.Header.{numberOf, countOf}
 use Rattle.moldudp64.specs.Downstream.{Kind, data-packet, heartbeat, end-of-session, kindOf, refusalOf, messagesOf}
 use Rattle.receiver.specs.declared.receiver.Receiver.{Receiver}
 use Rattle.receiver.specs.Table.{Reply, Outcome, delivers, olds, quiets, asks, endsNow, table}
-use Rattle.receiver.specs.Receiver.{receiver, startReceiver, otherSession, endBelow, refusalFor, rowOf, moved, answerOf, receiverAfter}
+use Rattle.receiver.specs.Receiver.{receiver, otherSession, endBelow, refusalFor, rowOf, moved, answerOf, receiverAfter}
 use Rattle.receiver.specs.Delivery.{deliveredIn, deliveredBy}
-use Rattle.receiver.specs.Feed.{Datagram, Message, Session, lastOf, IsMessage, messagesFrom, OfKind, Faithful}
+use Rattle.receiver.specs.Feed.{Datagram, Session, lastOf, messagesFrom, OfKind}
 use Rattle.receiver.specs.Condition3.{plain, Condition3}
 use Rattle.receiver.proofs.StartLaws.{started}
 use Rattle.receiver.proofs.TableLaws.{refused-stays, row-answer, row-after}

@@ -1,18 +1,16 @@
 -- What a deliver answer says of the datagram, and that the cursor visits what it delivers.
-use mathlib.Core.Path.{_≡_, refl, ap, sym, _∙_}
+use mathlib.Core.Path.{_≡_, ap, sym, _∙_}
 use mathlib.Core.List.{List, [], _∷_}
-use mathlib.Core.Bool.{Bool, true, false}
+use mathlib.Core.Bool.{true}
 use Prim.Native.Nat.{ℕ, zero, suc, _+_, _-_, _≤_, _<_}
 use native.Mathlib.Omega.{arith}
 use native.Mathlib.Nat.{zero-add, suc-add}
 use lib.ListN.{length, getD, drop, length-drop}
 use lib.Seq.{getD-drop}
-use lib.Dec.{ltb}
 use mir.Val.{Fits}
 use mir.Syntax.{w16}
 use borrow.Author.Tests.{lt-ltb, le-ltb}
-use Rattle.wire.specs.Choice.{if_then_else_}
-use Rattle.wire.specs.Words.{Words, answer, says}
+use Rattle.wire.specs.Words.{answer, says}
 use Rattle.wire.specs.Bytes.{AreBytes}
 use Rattle.wire.proofs.Words.{which-of, values-of}
 use Rattle.wire.proofs.Numbers.{small-number}
@@ -24,9 +22,9 @@ use Rattle.moldudp64_messages.specs.declared.cursor.Located.{Located}
 use Rattle.moldudp64_messages.specs.Cursor.{moved, movedBy, firstOf, startOf, located, part, locateOf, WalksTheMessages, PartIsMessage}
 use Rattle.moldudp64_messages.proofs.CursorLaws.{walks-the-messages, part-is-message}
 use Rattle.receiver.specs.declared.receiver.Receiver.{Receiver}
-use Rattle.receiver.specs.Table.{Reply, deliver, Outcome, Row, data-reaches, data-below, heartbeat-below, heartbeat-at, any-above, end-at, delivers}
-use Rattle.receiver.specs.Receiver.{refusalFor, rowOf, answerOf}
-use Rattle.receiver.specs.Delivery.{deliveredIn, deliveredBy, deliveryOf, Visits, DeliveryVisits}
+use Rattle.receiver.specs.Table.{deliver, Outcome, Row, data-reaches, data-below, heartbeat-below, heartbeat-at, any-above, end-at, delivers}
+use Rattle.receiver.specs.Receiver.{refusalFor, answerOf}
+use Rattle.receiver.specs.Delivery.{deliveredIn, deliveryOf, DeliveryVisits}
 use Rattle.receiver.proofs.TableLaws.{row-answer}
 use Rattle.receiver.proofs.Promises.{row-of, refused-answers, whether, well-read}
 

@@ -1,13 +1,13 @@
 -- Condition 3 for any receiver that keeps an invariant and an order of its states: what is left to show is about one datagram.
-use Prim.Native.Nat.{ℕ, suc, _+_, _-_, _<_, _≤_}
+use Prim.Native.Nat.{ℕ, _+_, _-_, _≤_}
 use mathlib.Core.Path.{_≡_, refl, sym, ap, _∙_}
-use mathlib.Core.List.{List, [], _∷_, _++_, List·Memᴰ, List·Memᴰ·head, List·Memᴰ·tail, List·Memᴰ·cases-cons, Memᴰ·append-left, Memᴰ·append-right}
+use mathlib.Core.List.{List, [], _∷_, _++_, List·Memᴰ·head, List·Memᴰ·tail, List·Memᴰ·cases-cons, Memᴰ·append-left, Memᴰ·append-right}
 use mathlib.Core.Logic.{⊎-elim}
-use mathlib.Core.Bool.{Bool, true}
+use mathlib.Core.Bool.{true}
 use native.Mathlib.Omega.{arith}
-use lib.ListN.{length, take, drop, getD, length-take, length-drop, length-append}
+use lib.ListN.{length, length-take, length-drop}
 use lib.Seq.{take-add, drop-drop}
-use Rattle.receiver.specs.Feed.{Datagram, Message, Session, lastOf, messagesFrom, OfKind, All, AllOfKind, Machine, after, delivered, numberAfter, DeliversTrue, DoesNoWorse, Faithful}
+use Rattle.receiver.specs.Feed.{Datagram, Session, lastOf, messagesFrom, OfKind, All, AllOfKind, Machine, after, delivered, numberAfter, DeliversTrue, Faithful}
 
 -- The messages from a to b and those from b to c are those from a to c.
 module _ (s : Session) where

@@ -1,24 +1,21 @@
 -- Laws of the refusals: r is the receiver, l the datagram, p what the reader found in it.
-use mathlib.Core.Path.{_≡_, refl, ap, sym, _∙_}
+use mathlib.Core.Path.{_≡_, refl, sym, _∙_}
 use mathlib.Core.List.{List, [], _∷_}
 use mathlib.Core.Bool.{Bool, true, false, not}
-use Prim.Native.Nat.{ℕ, _+_, _≤_, _<_}
-use native.Mathlib.Omega.{arith}
+use Prim.Native.Nat.{ℕ, _≤_, _<_}
 use lib.ListN.{take}
 use lib.Dec.{ltb, eqb}
-use borrow.Author.Tests.{lt-ltb, le-ltb, ltb-true, ltb-false, eq-eqb, ne-eqb, eqb-true, eqb-false, not-true, not-false}
+use borrow.Author.Tests.{lt-ltb, le-ltb, ne-eqb}
 use Rattle.wire.specs.Choice.{if_then_else_}
-use Rattle.wire.specs.Words.{says, refuses}
 use Rattle.wire.specs.Bytes.{sameBytes}
 use Rattle.wire.specs.declared.refusal.Refusal.{Refusal}
 use Rattle.wire.specs.declared.kinds.SequenceNumber.{SequenceNumber}
 use Rattle.wire.specs.declared.kinds.MessageCount.{MessageCount}
-use Rattle.wire.proofs.Words.{which-of, refusal-of, values-of}
-use Rattle.moldudp64.specs.Header.{numberOf, countOf}
+use Rattle.moldudp64.specs.Header.{numberOf}
 use Rattle.moldudp64.specs.declared.downstream.Downstream.{Downstream}
 use Rattle.moldudp64.specs.declared.downstream.Downstream.the-variants.{Data, Heartbeat, EndOfSession, Refused}
-use Rattle.moldudp64.specs.Downstream.{Kind, data-packet, heartbeat, end-of-session, kindOf, refusalOf, wellFormed, readOf, downstreamWords}
-use Rattle.moldudp64.proofs.DownstreamLaws.{kind-read, refusal-read, data-read, said, refused-number, number-read}
+use Rattle.moldudp64.specs.Downstream.{Kind, data-packet, heartbeat, end-of-session, kindOf, refusalOf, readOf, downstreamWords}
+use Rattle.moldudp64.proofs.DownstreamLaws.{kind-read, refusal-read, refused-number, number-read}
 use Rattle.receiver.specs.declared.receiver.Receiver.{Receiver}
 use Rattle.receiver.specs.Receiver.{otherSession, endBelow, refusalFor, closedTo, endRefusal}
 

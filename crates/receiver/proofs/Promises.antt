@@ -1,14 +1,14 @@
 -- What the receiver promises at one datagram: the table, the request, the number, the refusal.
 use mathlib.Core.Path.{_≡_, refl, ap, sym, _∙_}
-use mathlib.Core.List.{List, [], _∷_}
+use mathlib.Core.List.{List}
 use mathlib.Core.Bool.{Bool, true, false, not}
-use Prim.Native.Nat.{ℕ, _+_, _-_, _≤_, _<_, min}
+use Prim.Native.Nat.{ℕ, _+_, _-_, _≤_, _<_}
 use native.Mathlib.Omega.{arith}
 use lib.ListN.{getD}
 use lib.Dec.{ltb, eqb}
 use borrow.Author.Tests.{lt-ltb, le-ltb, ltb-true, ltb-false, eqb-true, eqb-false, ne-eqb}
 use Rattle.wire.specs.Choice.{if_then_else_}
-use Rattle.wire.specs.Words.{Case, Words, answer, refused, says, refuses, Injective}
+use Rattle.wire.specs.Words.{Case, Words, answer, refused, refuses, Injective}
 use Rattle.wire.proofs.Words.{read-back}
 use Rattle.moldudp64.specs.Header.{numberOf, countOf}
 use Rattle.moldudp64.specs.Downstream.{Kind, data-packet, heartbeat, end-of-session, kindOf, refusalOf}
@@ -16,8 +16,8 @@ use Rattle.receiver.specs.declared.receiver.Receiver.{Receiver}
 use Rattle.receiver.specs.declared.receiver.Answer.{Answer}
 use Rattle.receiver.specs.declared.receiver.Answer.the-variants.{Deliver, Old, Quiet, Ask, Ended, Refused}
 use Rattle.receiver.specs.Table.{Reply, deliver, old, quiet, ask, ended, Outcome, Row, data-reaches, data-below, heartbeat-below, heartbeat-at, any-above, end-at, answerWords, delivers, olds, quiets, asks, endsNow, table}
-use Rattle.receiver.specs.Receiver.{otherSession, endBelow, refusalFor, rowOf, moved, answerOf, receiverAfter}
-use Rattle.receiver.specs.Statements.{FollowsTheTable, RequestExactlyWhen, NumberNeverFalls, RefusalChangesNothing, ReceiverPromises}
+use Rattle.receiver.specs.Receiver.{otherSession, endBelow, refusalFor, rowOf, answerOf, receiverAfter}
+use Rattle.receiver.specs.Statements.{FollowsTheTable, RequestExactlyWhen, NumberNeverFalls, ReceiverPromises}
 use Rattle.receiver.proofs.TableLaws.{refused-stays, row-answer, row-after}
 
 -- the two ways that a comparison can go

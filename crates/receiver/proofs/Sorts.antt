@@ -1,7 +1,7 @@
 -- Condition 3's kind, sorted by what a receiver of the session can make of the datagram. It speaks of no receiver, so that each
 -- receiver's proof goes by the same cases.
 use Prim.Native.Nat.{ℕ, _+_, _-_, _<_, _≤_}
-use mathlib.Core.Path.{_≡_, refl, ap, sym, _∙_}
+use mathlib.Core.Path.{_≡_, refl, sym, _∙_}
 use mathlib.Core.List.{List, []}
 use mathlib.Core.Bool.{Bool, true, false, true≢false}
 use native.Mathlib.Omega.{arith}
@@ -12,7 +12,7 @@ use borrow.Author.Tests.{eqb-true, eqb-false}
 use Rattle.wire.specs.Bytes.{sameBytes}
 use Rattle.wire.proofs.Same.{same-equal, same-refl}
 use Rattle.moldudp64.specs.Header.{numberOf, countOf}
-use Rattle.moldudp64.specs.Downstream.{Kind, data-packet, heartbeat, end-of-session, kindOf, blockCountOf, blockCount, refusalOf, messagesOf}
+use Rattle.moldudp64.specs.Downstream.{data-packet, heartbeat, end-of-session, kindOf, refusalOf, messagesOf}
 use Rattle.moldudp64.proofs.DownstreamLaws.{count-sound, kind-blocks}
 use Rattle.receiver.specs.Feed.{Datagram, Message, Session, lastOf, IsMessage, messagesFrom, OfKind, not-well-formed, another-name, any-heartbeat, true-data, true-end}
 use Rattle.receiver.proofs.FeedLaws.{length-from}

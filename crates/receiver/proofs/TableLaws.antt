@@ -1,28 +1,23 @@
 -- Laws of the table and of the receiver's answer: r is the receiver, n its number, f and c the datagram's number and count.
-use mathlib.Core.Path.{_≡_, refl, ap, sym, _∙_}
+use mathlib.Core.Path.{_≡_, refl, sym, _∙_}
 use mathlib.Core.List.{List, [], _∷_}
-use mathlib.Core.Bool.{Bool, true, false}
-use Prim.Native.Nat.{ℕ, _+_, _-_, _≤_, _<_, min}
+use mathlib.Core.Bool.{true}
+use Prim.Native.Nat.{ℕ, _+_, _-_, _≤_, _<_}
 use native.Mathlib.Omega.{arith}
-use lib.Dec.{ltb, eqb}
-use borrow.Author.Tests.{lt-ltb, le-ltb, eq-eqb, ne-eqb}
-use mir.Val.{Fits}
-use mir.Syntax.{w16}
-use Rattle.wire.specs.Choice.{if_then_else_}
+use borrow.Author.Tests.{lt-ltb, le-ltb, ne-eqb}
 use Rattle.wire.specs.declared.refusal.Refusal.{Refusal}
 use Rattle.wire.specs.declared.kinds.SequenceNumber.{SequenceNumber}
 use Rattle.wire.specs.declared.kinds.MessageCount.{MessageCount}
-use Rattle.moldudp64.specs.Header.{numberOf, countOf}
 use Rattle.moldudp64.specs.declared.downstream.Downstream.{Downstream}
 use Rattle.moldudp64.specs.declared.downstream.Downstream.the-variants.{Data, Heartbeat, EndOfSession}
 use Rattle.moldudp64.specs.declared.downstream.Downstream.the-variants as found
-use Rattle.moldudp64.specs.Downstream.{Kind, data-packet, heartbeat, end-of-session, kindOf, readOf, downstreamWords}
+use Rattle.moldudp64.specs.Downstream.{data-packet, heartbeat, end-of-session, readOf, downstreamWords}
 use Rattle.moldudp64.proofs.DownstreamLaws.{sound, kind-read, number-read, refusal-read, refused-number, data-read}
 use Rattle.receiver.specs.declared.receiver.Receiver.{Receiver}
 use Rattle.receiver.specs.declared.receiver.Taken.{Taken}
 use Rattle.receiver.specs.declared.receiver.Answer.{Answer}
 use Rattle.receiver.specs.declared.receiver.Answer.the-variants.{Deliver, Old, Quiet, Ask, Ended, Refused}
-use Rattle.receiver.specs.Table.{Outcome, answerWords, askFor, delivers, olds, quiets, asks, endsNow, table}
+use Rattle.receiver.specs.Table.{answerWords, askFor, asks, table}
 use Rattle.receiver.specs.Receiver.{receiver, refusalFor, rowOf, moved, answerOf, receiverAfter, Takes}
 use Rattle.receiver.proofs.LadderLaws.{for-refused}
 

@@ -4,16 +4,15 @@ use mathlib.Core.Path.{_≡_}
 use mathlib.Core.List.{List, [], _∷_, _++_}
 use mathlib.Core.Bool.{true, false}
 use lib.ListN.{length, replicate}
-use lib.Dec.{ltb, eqb}
+use lib.Dec.{ltb}
 use Rattle.wire.specs.Choice.{if_then_else_}
 use Rattle.wire.specs.Refusals.{datagramShort}
-use Rattle.wire.specs.Words.{Words, says, refuses}
-use Rattle.wire.specs.Bytes.{bytes}
+use Rattle.wire.specs.Words.{says, refuses}
 use Rattle.moldudp64.specs.Header.{endCount, numberOf, countOf, header}
 use Rattle.moldudp64.specs.Blocks.{blocksOf}
 use Rattle.receiver.specs.declared.receiver.Receiver.{Receiver}
-use Rattle.receiver.specs.Table.{Reply, deliver, old, ask, delivers}
-use Rattle.receiver.specs.Receiver.{receiver, moved, startReceiver, answerOf, receiverAfter}
+use Rattle.receiver.specs.Table.{deliver, old, ask, delivers}
+use Rattle.receiver.specs.Receiver.{receiver, moved, answerOf, receiverAfter}
 use Rattle.receiver.specs.Statements.{Answers, Steps, FollowsTheTable}
 use Rattle.receiver.specs.Feed.{Datagram, Message, Session, AllOfKind, after, delivered, Faithful}
 use Rattle.receiver.specs.Condition3.{machineOf, plain}

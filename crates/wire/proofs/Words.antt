@@ -1,5 +1,4 @@
 -- Equal words are equal in each part; and words that can be read back tell all answers apart.
-use Prim.Native.Nat.{ℕ}
 use mathlib.Core.Path.{_≡_, ap, sym, _∙_}
 use Rattle.wire.specs.Words.{Words, Injective}
 

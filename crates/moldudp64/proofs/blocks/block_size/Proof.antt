@@ -1,3 +1,4 @@
+-- The length field doesn't count itself.
 use Rattle.moldudp64.proofs.Rules.{blocks}
 use Rattle.moldudp64.proofs.blocks.block_size.Statement.{statement}
 use Rattle.moldudp64.proofs.blocks.block_size.Tie as tie

@@ -1,3 +1,4 @@
+-- What the walk answers from any block on is what it answers from the first.
 use mathlib.Core.Path.{_≡_}
 use Rattle.moldudp64.specs.Blocks.{blocksRefusal}
 use Rattle.moldudp64.proofs.Rules.{blocks}

@@ -1,3 +1,4 @@
+-- 65,535 is no count of blocks, and 0 is 0.
 use Rattle.moldudp64.proofs.Rules.{downstreams}
 use Rattle.moldudp64.proofs.downstream.block_count.Statement.{statement}
 use Rattle.moldudp64.proofs.downstream.block_count.Tie as tie

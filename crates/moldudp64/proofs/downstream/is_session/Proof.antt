@@ -1,3 +1,4 @@
+-- A session has at most ten bytes, so its first ten are all of it.
 use Rattle.moldudp64.proofs.Rules.{downstreams}
 use Rattle.moldudp64.proofs.downstream.is_session.Statement.{statement}
 use Rattle.moldudp64.proofs.downstream.is_session.Tie as tie

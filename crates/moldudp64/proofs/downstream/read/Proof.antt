@@ -1,3 +1,4 @@
+-- Refused, or by the count one of the three kinds.
 use Rattle.moldudp64.proofs.Rules.{downstreams}
 use Rattle.moldudp64.proofs.downstream.read.Statement.{statement}
 use Rattle.moldudp64.proofs.downstream.read.Tie as tie

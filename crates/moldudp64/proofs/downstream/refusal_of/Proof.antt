@@ -1,3 +1,4 @@
+-- One law for each rung of the ladder, in the order of the tests.
 use Rattle.moldudp64.proofs.Rules.{downstreams}
 use Rattle.moldudp64.proofs.downstream.refusal_of.Statement.{statement}
 use Rattle.moldudp64.proofs.downstream.refusal_of.Tie as tie

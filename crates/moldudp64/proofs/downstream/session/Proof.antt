@@ -1,3 +1,4 @@
+-- An accepted datagram has at least ten bytes.
 use Rattle.moldudp64.proofs.Rules.{downstreams}
 use Rattle.moldudp64.proofs.downstream.session.Statement.{statement}
 use Rattle.moldudp64.proofs.downstream.session.Tie as tie

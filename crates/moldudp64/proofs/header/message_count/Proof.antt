@@ -1,3 +1,4 @@
+-- The count stands at 18.
 use Rattle.moldudp64.proofs.Rules.{headers}
 use Rattle.moldudp64.proofs.header.message_count.Statement.{statement}
 use Rattle.moldudp64.proofs.header.message_count.Tie as tie

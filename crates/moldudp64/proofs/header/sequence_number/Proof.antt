@@ -1,3 +1,4 @@
+-- The number stands at 10.
 use Rattle.moldudp64.proofs.Rules.{headers}
 use Rattle.moldudp64.proofs.header.sequence_number.Statement.{statement}
 use Rattle.moldudp64.proofs.header.sequence_number.Tie as tie

@@ -1,3 +1,4 @@
+-- One law for each ground, in the order of the tests.
 use Rattle.moldudp64.proofs.Rules.{requests}
 use Rattle.moldudp64.proofs.request.ground.Statement.{statement}
 use Rattle.moldudp64.proofs.request.ground.Tie as tie

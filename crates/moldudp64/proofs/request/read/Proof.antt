@@ -1,3 +1,4 @@
+-- Refused, or the number and the count.
 use Rattle.moldudp64.proofs.Rules.{requests}
 use Rattle.moldudp64.proofs.request.read.Statement.{statement}
 use Rattle.moldudp64.proofs.request.read.Tie as tie

@@ -1,3 +1,4 @@
+-- 47, and then the grounds of the number and the count.
 use Rattle.moldudp64.proofs.Rules.{requests}
 use Rattle.moldudp64.proofs.request.refusal_of.Statement.{statement}
 use Rattle.moldudp64.proofs.request.refusal_of.Tie as tie

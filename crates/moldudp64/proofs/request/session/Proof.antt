@@ -1,3 +1,4 @@
+-- An accepted request has twenty bytes.
 use Rattle.moldudp64.proofs.Rules.{requests}
 use Rattle.moldudp64.proofs.request.session.Statement.{statement}
 use Rattle.moldudp64.proofs.request.session.Tie as tie

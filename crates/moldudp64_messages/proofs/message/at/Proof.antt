@@ -1,3 +1,4 @@
+-- The start, moved.
 use Rattle.moldudp64_messages.proofs.Rules.{placing}
 use Rattle.moldudp64_messages.proofs.message.at.Statement.{statement}
 use Rattle.moldudp64_messages.proofs.message.at.Tie as tie

@@ -1,3 +1,4 @@
+-- k moves from the start stand at message k.
 use Rattle.moldudp64_messages.proofs.Rules.{placing}
 use Rattle.moldudp64_messages.proofs.message.locate.Statement.{statement}
 use Rattle.moldudp64_messages.proofs.message.locate.Tie as tie

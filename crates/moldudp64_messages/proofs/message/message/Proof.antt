@@ -1,3 +1,4 @@
+-- k moves from the start stand at message k, which is the bytes at its place.
 use Rattle.moldudp64_messages.proofs.Rules.{placing}
 use Rattle.moldudp64_messages.proofs.message.message.Statement.{statement}
 use Rattle.moldudp64_messages.proofs.message.message.Tie as tie

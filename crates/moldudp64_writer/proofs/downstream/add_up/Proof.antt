@@ -1,3 +1,4 @@
+-- The lengths from i on have to make what is left.
 use mathlib.Core.Path.{_≡_}
 use native.Mathlib.Omega.{arith}
 use Prim.Native.Nat.{_-_}

@@ -1,3 +1,4 @@
+-- One law for each rung of the ladder, in the order of the tests.
 use Rattle.moldudp64_writer.proofs.Rules.{grounds}
 use Rattle.moldudp64_writer.proofs.downstream.ground.Statement.{statement}
 use Rattle.moldudp64_writer.proofs.downstream.ground.Tie as tie

@@ -1,3 +1,4 @@
+-- What is still to be laid makes the whole.
 use native.Mathlib.Omega.{arith}
 use Prim.Native.Nat.{_-_}
 use lib.ListN.{length}

@@ -1,3 +1,4 @@
+-- An end of session is a header.
 use Rattle.moldudp64_writer.proofs.Rules.{ends}
 use Rattle.moldudp64_writer.proofs.downstream.write_end_of_session.Statement.{statement}
 use Rattle.moldudp64_writer.proofs.downstream.write_end_of_session.Tie as tie

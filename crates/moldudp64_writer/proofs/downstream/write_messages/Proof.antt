@@ -1,3 +1,4 @@
+-- The header and the blocks are adjacent, so both writes are one of the packet.
 use Rattle.moldudp64_writer.proofs.Rules.{packets}
 use Rattle.moldudp64_writer.proofs.downstream.write_messages.Statement.{statement}
 use Rattle.moldudp64_writer.proofs.downstream.write_messages.Tie as tie

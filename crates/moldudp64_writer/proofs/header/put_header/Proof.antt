@@ -1,3 +1,4 @@
+-- Three adjacent writes are one.
 use Rattle.moldudp64_writer.proofs.Rules.{headers}
 use Rattle.moldudp64_writer.proofs.header.put_header.Statement.{statement}
 use Rattle.moldudp64_writer.proofs.header.put_header.Tie as tie

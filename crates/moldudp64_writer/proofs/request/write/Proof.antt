@@ -1,3 +1,4 @@
+-- A request is a header.
 use Rattle.moldudp64_writer.proofs.Rules.{requests}
 use Rattle.moldudp64_writer.proofs.request.write.Statement.{statement}
 use Rattle.moldudp64_writer.proofs.request.write.Tie as tie

@@ -1,3 +1,4 @@
+-- A datagram has at most 65,535 messages, so larger numbers are forged.
 use Rattle.receiver.proofs.Rules.{deliveries}
 use Rattle.receiver.proofs.delivery.start.Statement.{statement}
 use Rattle.receiver.proofs.delivery.start.Tie as tie

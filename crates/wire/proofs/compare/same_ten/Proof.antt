@@ -1,6 +1,5 @@
+-- From i on the bytes decide: those before were equal.
 use Prim.Native.Nat.{_-_}
-use mir.Syntax.{w8}
-use borrow.Kind.Array.{good-length, eInt}
 use Rattle.wire.proofs.Rules.{names}
 use Rattle.wire.proofs.Same.{SameFrom}
 use Rattle.wire.proofs.compare.same_ten.Statement.{statement}

@@ -1,3 +1,4 @@
+-- Past the end every number is 0; else the two bytes make the number as the definition has it.
 use Rattle.wire.proofs.Rules.{numbers}
 use Rattle.wire.proofs.number.be16.Statement.{statement}
 use Rattle.wire.proofs.number.be16.Tie as tie

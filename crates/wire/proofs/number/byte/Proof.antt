@@ -1,3 +1,4 @@
+-- The byte of the definition is 0 past the end, and so is the answer.
 use Rattle.wire.proofs.Rules.{numbers}
 use Rattle.wire.proofs.number.byte.Statement.{statement}
 use Rattle.wire.proofs.number.byte.Tie as tie

@@ -1,3 +1,4 @@
+-- The width is 2.
 use Rattle.wire.proofs.Rules.{outputs}
 use Rattle.wire.proofs.output.put16.Statement.{statement}
 use Rattle.wire.proofs.output.put16.Tie as tie

@@ -1,3 +1,4 @@
+-- The width is 8.
 use Rattle.wire.proofs.Rules.{outputs}
 use Rattle.wire.proofs.output.put64.Statement.{statement}
 use Rattle.wire.proofs.output.put64.Tie as tie

@@ -1,3 +1,4 @@
+-- After i bytes the output is the entry's with the first i laid over it.
 use Prim.Native.Nat.{_-_}
 use lib.ListN.{length}
 use Rattle.wire.proofs.Rules.{copies}

@@ -1,3 +1,4 @@
+-- What is still to be laid makes the whole: at first it is all of it, at the end nothing.
 use Rattle.wire.proofs.Lowering.{Lowering}
 use Rattle.wire.proofs.Rules.{outputs}
 use Rattle.wire.proofs.output.put_number.Statement.{statement}

@@ -1,3 +1,4 @@
+-- The first block stands after the header.
 use Rattle.moldudp64_messages.proofs.Rules.{starting}
 use Rattle.moldudp64_messages.proofs.cursor.Cursor.first.Statement.{statement}
 use Rattle.moldudp64_messages.proofs.cursor.Cursor.first.Tie as tie

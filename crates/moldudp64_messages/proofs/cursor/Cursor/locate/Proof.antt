@@ -1,3 +1,4 @@
+-- One law for each way in which no message is there, and one for the message.
 use Rattle.moldudp64_messages.proofs.Rules.{locating}
 use Rattle.moldudp64_messages.proofs.cursor.Cursor.locate.Statement.{statement}
 use Rattle.moldudp64_messages.proofs.cursor.Cursor.locate.Tie as tie

@@ -1,3 +1,4 @@
+-- What is located ends within the datagram.
 use Rattle.moldudp64_messages.proofs.Rules.{locating}
 use Rattle.moldudp64_messages.proofs.cursor.Cursor.message.Statement.{statement}
 use Rattle.moldudp64_messages.proofs.cursor.Cursor.message.Tie as tie

@@ -1,3 +1,4 @@
+-- It moves exactly where a message is there, and then some were left.
 use Rattle.moldudp64_messages.proofs.Rules.{moving}
 use Rattle.moldudp64_messages.proofs.cursor.Cursor.next.Statement.{statement}
 use Rattle.moldudp64_messages.proofs.cursor.Cursor.next.Tie as tie

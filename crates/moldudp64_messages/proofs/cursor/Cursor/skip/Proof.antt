@@ -1,3 +1,4 @@
+-- The moves that are left lead where all of them lead; a cursor that stays is there already.
 use mathlib.Core.Path.{_≡_}
 use Rattle.moldudp64_messages.specs.Cursor.{movedBy}
 use Rattle.moldudp64_messages.proofs.Rules.{moving}

@@ -1,3 +1,4 @@
+-- Data has as many messages as its count; any other datagram has none.
 use Rattle.moldudp64_messages.proofs.Rules.{starting}
 use Rattle.moldudp64_messages.proofs.cursor.Cursor.start.Statement.{statement}
 use Rattle.moldudp64_messages.proofs.cursor.Cursor.start.Tie as tie

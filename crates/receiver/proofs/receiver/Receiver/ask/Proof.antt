@@ -1,3 +1,4 @@
+-- The smaller of the distance and the limit is the one that the test picks.
 use Rattle.receiver.proofs.Rules.{rows}
 use Rattle.receiver.proofs.receiver.Receiver.ask.Statement.{statement}
 use Rattle.receiver.proofs.receiver.Receiver.ask.Tie as tie

@@ -1,3 +1,4 @@
+-- 17, then 18.
 use Rattle.receiver.proofs.Rules.{ladder}
 use Rattle.receiver.proofs.receiver.Receiver.closed_to.Statement.{statement}
 use Rattle.receiver.proofs.receiver.Receiver.closed_to.Tie as tie

@@ -1,3 +1,4 @@
+-- 20 after 17 and 18.
 use Rattle.receiver.proofs.Rules.{ladder}
 use Rattle.receiver.proofs.receiver.Receiver.end_refusal.Statement.{statement}
 use Rattle.receiver.proofs.receiver.Receiver.end_refusal.Tie as tie

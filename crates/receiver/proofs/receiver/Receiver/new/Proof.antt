@@ -1,3 +1,4 @@
+-- One law for each bound, and condition 3 with what it rules out.
 use Rattle.receiver.specs.Condition3.{Condition3}
 use Rattle.receiver.specs.Bites.{NotVacuous, NotWeak}
 use Rattle.receiver.proofs.ConditionLaws.{condition-3}

@@ -1,3 +1,4 @@
+-- One law for each thing that the reader can find.
 use Rattle.receiver.proofs.Rules.{ladder}
 use Rattle.receiver.proofs.receiver.Receiver.refusal_for.Statement.{statement}
 use Rattle.receiver.proofs.receiver.Receiver.refusal_for.Tie as tie

@@ -1,3 +1,4 @@
+-- A refusal, or the row for what the reader found; what the reader refuses the ladder does too.
 use Rattle.receiver.proofs.Promises.{receiver-promises}
 use Rattle.receiver.proofs.Rules.{takes}
 use Rattle.receiver.proofs.receiver.Receiver.take.Statement.{statement}

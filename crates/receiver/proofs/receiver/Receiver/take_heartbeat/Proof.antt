@@ -1,3 +1,4 @@
+-- One law for each row.
 use Rattle.receiver.proofs.Rules.{rows}
 use Rattle.receiver.proofs.receiver.Receiver.take_heartbeat.Statement.{statement}
 use Rattle.receiver.proofs.receiver.Receiver.take_heartbeat.Tie as tie
