@@ -12,10 +12,10 @@ use Rattle.moldudp64.specs.Header.{numberOf, countOf}
 use Rattle.moldudp64.specs.Downstream.{Kind, data-packet, heartbeat, end-of-session, kindOf, refusalOf, messagesOf}
 use Rattle.receiver.specs.declared.receiver.Receiver.{Receiver}
 use Rattle.receiver.specs.Table.{Reply, Outcome, delivers, olds, quiets, asks, endsNow, table}
-use Rattle.receiver.specs.Receiver.{receiver, otherSession, endBelow, refusalFor, rowOf, moved, answerOf, receiverAfter}
+use Rattle.receiver.specs.Receiver.{receiver, otherSession, endBelow, ownRefusal, refusalFor, rowOf, moved, answerOf, receiverAfter}
 use Rattle.receiver.specs.Delivery.{deliveredIn, deliveredBy}
 use Rattle.receiver.specs.Feed.{Datagram, Session, lastOf, messagesFrom, OfKind}
-use Rattle.receiver.specs.Condition3.{plain, Condition3}
+use Rattle.receiver.specs.Condition3.{plain, Condition3For, Condition3}
 use Rattle.receiver.proofs.StartLaws.{started}
 use Rattle.receiver.proofs.TableLaws.{refused-stays, row-answer, row-after}
 use Rattle.receiver.proofs.Promises.{either, row-above, row-reaches, row-below, row-beat-below, row-beat-at, row-end, refused-answers}
@@ -44,14 +44,14 @@ bad-stays : (r : Receiver) (d : Datagram) → (refusalOf d ≡ 0 → ⊥) → St
 bad-stays r d z = refusal-stays r d (λ e. z (sym (ladder-bad r d z) ∙ e))
 
 ladder-other : (r : Receiver) (d : Datagram) → refusalOf d ≡ 0 → (take 10 d ≡ r .session → ⊥) → refusalFor r d ≡ 17
-unfolding refusalFor otherSession
+unfolding refusalFor ownRefusal otherSession
 ladder-other r d w z = rw (w, other-name (take 10 d) (r .session) z)
 
 other-stays : (r : Receiver) (d : Datagram) → refusalOf d ≡ 0 → (take 10 d ≡ r .session → ⊥) → Stays r d
 other-stays r d w z = let k = ladder-other r d w z in refusal-stays r d (λ e. omega arith)
 
 ladder-ended : (r : Receiver) (d : Datagram) → refusalOf d ≡ 0 → take 10 d ≡ r .session → r .ended ≡ true → refusalFor r d ≡ 18
-unfolding refusalFor otherSession
+unfolding refusalFor ownRefusal otherSession
 ladder-ended r d w n e = rw (w, same-name (take 10 d) (r .session) n, e)
 
 ended-stays : (r : Receiver) (d : Datagram) → refusalOf d ≡ 0 → take 10 d ≡ r .session → r .ended ≡ true → Stays r d
@@ -59,7 +59,7 @@ ended-stays r d w n e = let k = ladder-ended r d w n e in refusal-stays r d (λ 
 
 ladder-open : (r : Receiver) (d : Datagram) → refusalOf d ≡ 0 → take 10 d ≡ r .session → r .ended ≡ false
     → endBelow (kindOf d) (numberOf d) (r .next .0) ≡ false → refusalFor r d ≡ 0
-unfolding refusalFor otherSession
+unfolding refusalFor ownRefusal otherSession
 ladder-open r d w n e b = rw (w, same-name (take 10 d) (r .session) n, e, b)
 
 not-below : (k : Kind) (f n : ℕ) → n ≤ f → endBelow k f n ≡ false
@@ -286,7 +286,7 @@ module _ (s : Session) where
       }
 
 pub condition-3 : Condition3
-unfolding Condition3
+unfolding Condition3For
 condition-3 s start limit e h l =
     rw (started (s .name) start limit e)
     (faithful plain s (Inv s) (Behind s) (keeps s) (receiver (s .name) start limit false)

@@ -1,7 +1,7 @@
 -- What a deliver answer says of the datagram, and that the cursor visits what it delivers.
 use mathlib.Core.Path.{_≡_, ap, sym, _∙_}
 use mathlib.Core.List.{List, [], _∷_}
-use mathlib.Core.Bool.{true}
+use mathlib.Core.Bool.{true, false}
 use Prim.Native.Nat.{ℕ, zero, suc, _+_, _-_, _≤_, _<_}
 use native.Mathlib.Omega.{arith}
 use native.Mathlib.Nat.{zero-add, suc-add}
@@ -81,6 +81,10 @@ there-at : (l : List ℕ) (k : ℕ) → k < length (messagesOf l) → locateOf l
 unfolding locateOf
 there-at l k h = rw (lt-ltb _ _ h)
 
+gone-at : (l : List ℕ) (k : ℕ) → length (messagesOf l) ≤ k → locateOf l k .exists ≡ false
+unfolding locateOf
+gone-at l k h = rw (le-ltb _ _ h)
+
 message-at : (l : List ℕ) (k i : ℕ) → messageOf l (k + i) ≡ getD (drop k (messagesOf l)) i []
 unfolding messageOf
 message-at l k i = sym (getD-drop k (messagesOf l) i [])
@@ -110,5 +114,6 @@ delivery-visits r l first count skipped small e =
     (record {
       as-many = omega (arith, length-drop skipped (messagesOf l));
       there = λ i g. ap (λ (p : Located). p .exists) (at i) ∙ there-at l (skipped + i) (omega arith);
+      stops = λ i g. ap (λ (p : Located). p .exists) (at i) ∙ gone-at l (skipped + i) (omega arith);
       each = λ i. ap (part l) (at i) ∙ part-is-message l (skipped + i) ∙ message-at l skipped i;
     })

@@ -6,5 +6,5 @@ pub mod FeedLaws
 pub mod Sorts
 pub mod ConditionLaws
 pub mod DeliveryLaws
-pub mod BitesLaws
+pub mod WitnessLaws
 pub mod Rules

@@ -1,7 +1,7 @@
 -- What the receiver promises at one datagram: the table, the request, the number, the refusal.
 use mathlib.Core.Path.{_≡_, refl, ap, sym, _∙_}
 use mathlib.Core.List.{List}
-use mathlib.Core.Bool.{Bool, true, false, not}
+use mathlib.Core.Bool.{Bool, true, false}
 use Prim.Native.Nat.{ℕ, _+_, _-_, _≤_, _<_}
 use native.Mathlib.Omega.{arith}
 use lib.ListN.{getD}
@@ -16,7 +16,7 @@ use Rattle.receiver.specs.declared.receiver.Receiver.{Receiver}
 use Rattle.receiver.specs.declared.receiver.Answer.{Answer}
 use Rattle.receiver.specs.declared.receiver.Answer.the-variants.{Deliver, Old, Quiet, Ask, Ended, Refused}
 use Rattle.receiver.specs.Table.{Reply, deliver, old, quiet, ask, ended, Outcome, Row, data-reaches, data-below, heartbeat-below, heartbeat-at, any-above, end-at, answerWords, delivers, olds, quiets, asks, endsNow, table}
-use Rattle.receiver.specs.Receiver.{otherSession, endBelow, refusalFor, rowOf, answerOf, receiverAfter}
+use Rattle.receiver.specs.Receiver.{otherSession, endBelow, ownRefusal, refusalFor, rowOf, answerOf, receiverAfter}
 use Rattle.receiver.specs.Statements.{FollowsTheTable, RequestExactlyWhen, NumberNeverFalls, ReceiverPromises}
 use Rattle.receiver.proofs.TableLaws.{refused-stays, row-answer, row-after}
 
@@ -68,28 +68,35 @@ module _ (limit n f c : ℕ) where
 
 -- ---- an accepted datagram: an end of session isn't below n
 
-not-below : (r : Receiver) (l : List ℕ) → refusalFor r l ≡ 0 → kindOf l ≡ end-of-session → r .next .0 ≤ numberOf l
-unfolding refusalFor endBelow
-not-below r l e k = go (eqb (refusalOf l) 0) refl (otherSession r l) (r .ended) (ltb (numberOf l) (r .next .0)) refl (rw k at e)
-  where
-    go : (a : Bool) → eqb (refusalOf l) 0 ≡ a → (b d t : Bool) → ltb (numberOf l) (r .next .0) ≡ t
-        → (if not a then refusalOf l else if b then 17 else if d then 18 else if t then 20 else 0) ≡ 0 → r .next .0 ≤ numberOf l
-    go false x b d t y z = absurd (eqb-false _ _ x z)
-    go true x true d t y z = absurd (omega arith)
-    go true x false true t y z = absurd (omega arith)
-    go true x false false true y z = absurd (omega arith)
-    go true x false false false y z = ltb-false _ _ y
+-- a datagram that is not refused was found sound, and no rung of the receiver's own applies
+record Open (r : Receiver) (l : List ℕ) : Type 0 where
+  well : refusalOf l ≡ 0
+  own : ownRefusal r l (endBelow (kindOf l) (numberOf l) (r .next .0)) ≡ 0
 
--- and its blocks were found sound
-pub well-read : (r : Receiver) (l : List ℕ) → refusalFor r l ≡ 0 → refusalOf l ≡ 0
+open-so : (r : Receiver) (l : List ℕ) → refusalFor r l ≡ 0 → Open r l
 unfolding refusalFor
-well-read r l e = go (eqb (refusalOf l) 0) refl e
+open-so r l e = go (eqb (refusalOf l) 0) refl e
   where
-    go : (a : Bool) → eqb (refusalOf l) 0 ≡ a
-        → (if not a then refusalOf l else if otherSession r l then 17 else if r .ended then 18 else if endBelow (kindOf l) (numberOf l) (r .next .0) then 20 else 0) ≡ 0
-        → refusalOf l ≡ 0
-    go true x z = eqb-true _ _ x
-    go false x z = z
+    go : (a : Bool) → eqb (refusalOf l) 0 ≡ a → (if a then ownRefusal r l (endBelow (kindOf l) (numberOf l) (r .next .0)) else refusalOf l) ≡ 0 → Open r l
+    go true x z = record { well = eqb-true _ _ x; own = z }
+    go false x z = absurd (eqb-false _ _ x z)
+
+pub well-read : (r : Receiver) (l : List ℕ) → refusalFor r l ≡ 0 → refusalOf l ≡ 0
+well-read r l e = open-so r l e .well
+
+own-none : (r : Receiver) (l : List ℕ) (t : Bool) → ownRefusal r l t ≡ 0 → t ≡ false
+unfolding ownRefusal
+own-none r l t e = go (otherSession r l) (r .ended) t e
+  where
+    go : (b d t : Bool) → _≡_ {A = ℕ} (if b then 17 else if d then 18 else if t then 20 else 0) 0 → t ≡ false
+    go true d t z = absurd (omega arith)
+    go false true t z = absurd (omega arith)
+    go false false true z = absurd (omega arith)
+    go false false false z = refl
+
+not-below : (r : Receiver) (l : List ℕ) → refusalFor r l ≡ 0 → kindOf l ≡ end-of-session → r .next .0 ≤ numberOf l
+unfolding endBelow
+not-below r l e k = ltb-false _ _ (rw k at (own-none r l _ (open-so r l e .own)))
 
 pub row-of : (r : Receiver) (l : List ℕ) → refusalFor r l ≡ 0 → Row (r .limit .0) (r .next .0) (kindOf l) (numberOf l) (countOf l) (rowOf r l)
 row-of r l e = rows (r .limit .0) (r .next .0) (numberOf l) (countOf l) (kindOf l) (not-below r l e)

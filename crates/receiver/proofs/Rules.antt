@@ -2,12 +2,12 @@
 use borrow.Author.Needs.{needs}
 use Rattle.receiver.proofs.StartLaws.{start-19, start-refused, least-number, largest-number, least-limit, largest-limit, start-good, start-fresh}
 use Rattle.receiver.proofs.DeliveryLaws.{delivery-none, delivery-start, delivery-visits}
-use Rattle.receiver.proofs.LadderLaws.{closed-17, closed-18, closed-0, end-closed, end-20, end-0, for-refused, for-data, for-heartbeat, for-end}
+use Rattle.receiver.proofs.LadderLaws.{own-17, own-18, own-20, own-0, for-refused, for-data, for-heartbeat, for-end}
 use Rattle.receiver.proofs.TableLaws.{ask-gap, ask-limit, data-ask, data-deliver, data-old, beat-ask, beat-old, beat-quiet, end-ask, end-now, refused-answer, refused-stays, data-answer, data-after, heartbeat-answer, heartbeat-after, end-answer, end-after, never-refused, data-fits}
 
 pub ruleset starts = (start-19, start-refused, least-number, largest-number, least-limit, largest-limit, start-good, start-fresh, needs)
 
-pub ruleset ladder = (closed-17, closed-18, closed-0, end-closed, end-20, end-0, for-refused, for-data, for-heartbeat, for-end, needs)
+pub ruleset ladder = (own-17, own-18, own-20, own-0, for-refused, for-data, for-heartbeat, for-end, needs)
 
 pub ruleset rows = (ask-gap, ask-limit, data-ask, data-deliver, data-old, beat-ask, beat-old, beat-quiet, end-ask, end-now, needs)
 

@@ -23,6 +23,10 @@ abbrev pub plain : Machine Datagram
 plain = machineOf answerOf receiverAfter
 
 -- for every session, and every receiver that is started on its name, without refusal, at a number from 1 to one past the last
-unfoldable pub Condition3 : Type 0
-Condition3 = (s : Session) (start limit : ℕ) → startRefusal start limit ≡ 0 → 1 ≤ start → start ≤ lastOf s + 1
-    → Faithful plain s start (startReceiver (s .name) start limit)
+unfoldable pub Condition3For : Answers → Steps → Type 0
+Condition3For answers step = (s : Session) (start limit : ℕ) → startRefusal start limit ≡ 0 → 1 ≤ start → start ≤ lastOf s + 1
+    → Faithful (machineOf answers step) s start (startReceiver (s .name) start limit)
+
+-- condition 3 of the receiver of the table
+abbrev pub Condition3 : Type 0
+Condition3 = Condition3For answerOf receiverAfter

@@ -1,7 +1,7 @@
 -- What a deliver answer delivers, and the cursor that visits it.
-use Prim.Native.Nat.{ℕ, _+_, _<_}
+use Prim.Native.Nat.{ℕ, _+_, _<_, _≤_}
 use mathlib.Core.List.{List, [], _∷_}
-use mathlib.Core.Bool.{true}
+use mathlib.Core.Bool.{true, false}
 use mathlib.Core.Path.{_≡_}
 use lib.ListN.{length, getD, drop}
 use lib.Dec.{ltb}
@@ -27,17 +27,23 @@ deliveredIn refused values l = []
 abbrev pub deliveredBy : Words Reply → List ℕ → List (List ℕ)
 deliveredBy w l = deliveredIn (w .which) (w .values) l
 
--- the cursor at the first message that is not skipped, of a datagram with skipped + count messages; the two may be forged, and
--- where a datagram can't have so many none is left
-unfoldable pub deliveryOf : List ℕ → ℕ → ℕ → Cursor
-deliveryOf l count skipped = if ltb 65535 (count + skipped) then firstOf 0 else movedBy skipped l (firstOf (count + skipped))
+-- the largest count of 16 bits
+abbrev pub largestCount : ℕ
+largestCount = 65535
 
--- i moves from there stand at the message i of what is delivered: there are count, each the bytes handed back
+-- the cursor at the first message that is not skipped, of a datagram with count + skipped messages; the two may be forged, and
+-- where they make no 16-bit count none is left
+unfoldable pub deliveryOf : List ℕ → ℕ → ℕ → Cursor
+deliveryOf l count skipped = if ltb largestCount (count + skipped) then firstOf 0 else movedBy skipped l (firstOf (count + skipped))
+
+-- i moves from there stand at message i of what is delivered: there are count, each is the bytes handed back, and then it stops
 pub record Visits (l : List ℕ) (ms : List (List ℕ)) (c : Cursor) (count : ℕ) : Type 0 where
   pub as-many : length ms ≡ count
   pub there : (i : ℕ) → i < count → located l (movedBy i l c) .exists ≡ true
+  pub stops : (i : ℕ) → count ≤ i → located l (movedBy i l c) .exists ≡ false
   pub each : (i : ℕ) → part l (located l (movedBy i l c)) ≡ getD ms i []
 
+-- the cursor visits what a deliver answer delivers
 unfoldable pub DeliveryVisits : Type 0
 DeliveryVisits = (r : Receiver) (l : List ℕ) (first count skipped : ℕ) → AreBytes l → answerOf r l ≡ says deliver (first ∷ count ∷ skipped ∷ [])
     → Visits l (deliveredBy (answerOf r l) l) (deliveryOf l count skipped) count

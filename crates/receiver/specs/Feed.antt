@@ -20,6 +20,7 @@ pub record Session : Type 0 where
   pub name : List ℕ
   pub messages : List Message
 
+-- the number of its last message
 abbrev pub lastOf : Session → ℕ
 lastOf s = length (s .messages)
 
@@ -53,8 +54,8 @@ All {E} Kind es = (e : E) → List·Memᴰ e es → Kind e
 abbrev pub AllOfKind : Session → List Datagram → Type 0
 AllOfKind s ds = All (OfKind s) ds
 
--- a receiver, whatever it keeps, that takes things of a type E one by one, as datagrams: what it is after one, what that one
--- delivers, the receiver's number, whether it is ended
+-- a receiver, whatever it keeps, that takes inputs of a type E one by one (E is Datagram, or a datagram with what is lent beside
+-- it): what it is after one, what that one delivers, the receiver's number, whether it is ended
 pub record Machine (E : Type 0) : Type 1 where
   pub State : Type 0
   pub step : State → E → State
@@ -72,6 +73,7 @@ module _ {E : Type 0} (m : Machine E) where
   delivered r [] = []
   delivered r (e ∷ es) = m .gives r e ++ delivered (m .step r e) es
 
+  -- the receiver's number after a list
   abbrev pub numberAfter : m .State → List E → ℕ
   numberAfter r es = m .number (after r es)
 

@@ -4,4 +4,4 @@ pub mod Statements
 pub mod Delivery
 pub mod Feed
 pub mod Condition3
-pub mod Bites
+pub mod Witnesses

@@ -16,11 +16,13 @@ use Rattle.receiver.specs.declared.receiver.Receiver.{Receiver}
 use Rattle.receiver.specs.declared.receiver.Taken.{Taken}
 use Rattle.receiver.specs.Table.{Reply, Outcome, table, answerWords}
 
+-- a receiver of this name, number, limit, ended or not
 abbrev pub receiver : List ℕ → ℕ → ℕ → Bool → Receiver
 receiver name n limit over = record { session = name; next = record { 0 = n }; limit = record { 0 = limit }; ended = over }
 
 -- ---- the start
 
+-- the bounds of the settings; the largest number is `largestNumber` of `wire`
 abbrev pub leastNumber : ℕ
 leastNumber = 1
 
@@ -47,6 +49,7 @@ blank = replicate sessionSize 32
 abbrev pub refusedReceiver : Receiver
 refusedReceiver = receiver blank 1 1 true
 
+-- a fresh receiver, or the refused one
 unfoldable pub startReceiver : List ℕ → ℕ → ℕ → Receiver
 startReceiver name n limit = if eqb (startRefusal n limit) 0 then receiver name n limit false else refusedReceiver
 
@@ -62,21 +65,19 @@ endBelow end-of-session f n = ltb f n
 endBelow data-packet f n = false
 endBelow heartbeat f n = false
 
+-- the receiver's own rungs: 17, 18, and 20 for an end of session that lies below
+unfoldable pub ownRefusal : Receiver → List ℕ → Bool → ℕ
+ownRefusal r l below =
+    if otherSession r l then sessionDiffers
+    else if r .ended then sessionEnded
+    else if below then endBelowExpected
+    else 0
+
 -- the lowest of 11 to 16, 17, 18 and 20 that applies, or 0
 unfoldable pub refusalFor : Receiver → List ℕ → ℕ
 refusalFor r l =
-    if not (wellFormed l) then refusalOf l
-    else if otherSession r l then sessionDiffers
-    else if r .ended then sessionEnded
-    else if endBelow (kindOf l) (numberOf l) (r .next .0) then endBelowExpected
-    else 0
-
--- its rungs that a datagram's blocks have no part in: 17 and 18, and with an end of session at f also 20
-unfoldable pub closedTo : Receiver → List ℕ → ℕ
-closedTo r l = if otherSession r l then sessionDiffers else if r .ended then sessionEnded else 0
-
-unfoldable pub endRefusal : Receiver → List ℕ → ℕ → ℕ
-endRefusal r l f = if eqb (closedTo r l) 0 then (if ltb f (r .next .0) then endBelowExpected else 0) else closedTo r l
+    if wellFormed l then ownRefusal r l (endBelow (kindOf l) (numberOf l) (r .next .0))
+    else refusalOf l
 
 -- document 01's "accepted": none of them applies
 abbrev pub accepted : Receiver → List ℕ → Bool

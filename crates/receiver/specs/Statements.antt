@@ -47,6 +47,7 @@ NumberNeverFalls step = (r : Receiver) (l : List ℕ) → r .next .0 ≤ step r 
 abbrev pub RefusalChangesNothing : Steps → Type 0
 RefusalChangesNothing step = (r : Receiver) (l : List ℕ) → (refusalFor r l ≡ 0 → ⊥) → step r l ≡ r
 
+-- what taking a datagram promises beside its answer
 pub record ReceiverPromises : Type 0 where
   pub follows-the-table : FollowsTheTable answerOf receiverAfter
   pub request-exactly-when : RequestExactlyWhen answerOf

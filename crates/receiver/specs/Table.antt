@@ -49,6 +49,7 @@ quiets n = record { reply = says quiet []; next = n; ends = false }
 abbrev pub asks : ℕ → ℕ → ℕ → Outcome
 asks limit n f = record { reply = says ask (n ∷ askFor limit n f ∷ []); next = n; ends = false }
 
+-- the session ends
 abbrev pub endsNow : ℕ → Outcome
 endsNow n = record { reply = says ended []; next = n; ends = true }
 

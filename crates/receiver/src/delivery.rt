@@ -4,6 +4,9 @@ use wire::kinds::MessageCount;
 ghost use mathlib.Core.Path.{_≡_};
 ghost use Rattle.receiver.specs.Delivery.{deliveryOf, DeliveryVisits};
 
+// The largest count of 16 bits.
+const LARGEST_COUNT: u16 = 65535;
+
 // The cursor at the first message that a deliver answer delivers: count and skipped are the answer's, and the datagram is the
 // one that was taken.
 pub fn start(datagram: &[u8], count: MessageCount, skipped: MessageCount) -> Cursor
@@ -12,7 +15,7 @@ pub fn start(datagram: &[u8], count: MessageCount, skipped: MessageCount) -> Cur
 {
     let c = count.0;
     let s = skipped.0;
-    if 65535 - c < s {
+    if LARGEST_COUNT - c < s {
         return Cursor::first(MessageCount(0));
     }
     Cursor::first(MessageCount(c + s)).skip(datagram, skipped)

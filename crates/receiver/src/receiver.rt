@@ -2,6 +2,7 @@
 use moldudp64::downstream;
 use moldudp64::downstream::Downstream;
 use moldudp64::header;
+use wire::kinds;
 use wire::kinds::MessageCount;
 use wire::kinds::SESSION_SIZE;
 use wire::kinds::SequenceNumber;
@@ -11,12 +12,13 @@ ghost use mathlib.Core.Path.{_≡_};
 ghost use Prim.Native.Nat.{_+_, _≤_, _<_};
 ghost use Rattle.wire.specs.Bounds.{largestNumber};
 ghost use Rattle.wire.specs.Refusals.{badSetting};
+ghost use Rattle.moldudp64.specs.Header.{endCount};
 ghost use Rattle.moldudp64.specs.Downstream.{data-packet, heartbeat, end-of-session, readOf, downstreamWords};
 ghost use Rattle.receiver.specs.Table.{asks, table, answerWords};
-ghost use Rattle.receiver.specs.Receiver.{receiver, refusedReceiver, startRefusal, startReceiver, closedTo, endRefusal, refusalFor, answerOf, receiverAfter, Takes};
+ghost use Rattle.receiver.specs.Receiver.{receiver, refusedReceiver, startRefusal, startReceiver, ownRefusal, refusalFor, answerOf, receiverAfter, Takes};
 ghost use Rattle.receiver.specs.Statements.{ReceiverPromises};
 ghost use Rattle.receiver.specs.Condition3.{Condition3};
-ghost use Rattle.receiver.specs.Bites.{NotVacuous, NotWeak};
+ghost use Rattle.receiver.specs.Witnesses.{NotVacuous, NotWeak};
 
 pub struct Receiver {
     pub session: [u8; SESSION_SIZE],
@@ -74,9 +76,10 @@ fn refused_start() -> Started
 }
 
 impl Receiver {
+    // The settings that a start takes: the smallest and largest number, the smallest and largest asking limit.
     pub const LEAST_NUMBER: SequenceNumber = SequenceNumber(1);
 
-    pub const LARGEST_NUMBER: SequenceNumber = SequenceNumber(18446744073709551615);
+    pub const LARGEST_NUMBER: SequenceNumber = kinds::LARGEST_NUMBER;
 
     pub const LEAST_LIMIT: MessageCount = MessageCount(1);
 
@@ -145,15 +148,15 @@ impl Receiver {
     {
         match packet {
             Downstream::Refused(r) => r,
-            Downstream::Data { first: _, count: _ } => self.closed_to(datagram),
-            Downstream::Heartbeat { next: _ } => self.closed_to(datagram),
-            Downstream::EndOfSession { next } => self.end_refusal(datagram, next),
+            Downstream::Data { first: _, count: _ } => self.own_refusal(datagram, false),
+            Downstream::Heartbeat { next: _ } => self.own_refusal(datagram, false),
+            Downstream::EndOfSession { next } => self.own_refusal(datagram, next.0 < self.next.0),
         }
     }
 
-    // 17, 18 or 0.
-    fn closed_to(self, datagram: &[u8]) -> Refusal
-        ensures { λ r. ⌜ r .number ≡ closedTo self (now (datagram .entry)) ⌝ }
+    // 17, 18, 20 for an end of session that lies below, or 0.
+    fn own_refusal(self, datagram: &[u8], below: bool) -> Refusal
+        ensures { λ r. ⌜ r .number ≡ ownRefusal self (now (datagram .entry)) below ⌝ }
     {
         let name = self.session;
         if !header::has_session(datagram, name) {
@@ -162,18 +165,7 @@ impl Receiver {
         if self.ended {
             return refusal::SESSION_ENDED;
         }
-        refusal::NONE
-    }
-
-    // 17, 18, 20 or 0.
-    fn end_refusal(self, datagram: &[u8], at: SequenceNumber) -> Refusal
-        ensures { λ r. ⌜ r .number ≡ endRefusal self (now (datagram .entry)) (at .0) ⌝ }
-    {
-        let closed = self.closed_to(datagram);
-        if closed.number != 0 {
-            return closed;
-        }
-        if at.0 < self.next.0 {
+        if below {
             return refusal::END_BELOW_EXPECTED;
         }
         refusal::NONE
@@ -269,7 +261,7 @@ impl Receiver {
 
     // The rows for an end of session that isn't below n.
     fn take_end(self, at: SequenceNumber) -> Taken
-        ensures { λ r. ⌜ Takes r self (table (self .limit .0) (self .next .0) end-of-session (at .0) 65535) ⌝ }
+        ensures { λ r. ⌜ Takes r self (table (self .limit .0) (self .next .0) end-of-session (at .0) endCount) ⌝ }
     {
         let next = self.next;
         if next.0 < at.0 {

@@ -1,8 +1,8 @@
 -- One law for each bound, and condition 3 with what it rules out.
 use Rattle.receiver.specs.Condition3.{Condition3}
-use Rattle.receiver.specs.Bites.{NotVacuous, NotWeak}
+use Rattle.receiver.specs.Witnesses.{NotVacuous, NotWeak}
 use Rattle.receiver.proofs.ConditionLaws.{condition-3}
-use Rattle.receiver.proofs.BitesLaws.{not-vacuous, not-weak}
+use Rattle.receiver.proofs.WitnessLaws.{not-vacuous, not-weak}
 use Rattle.receiver.proofs.Rules.{starts}
 use Rattle.receiver.proofs.receiver.Receiver.new.Statement.{statement}
 use Rattle.receiver.proofs.receiver.Receiver.new.Tie as tie

@@ -9,20 +9,20 @@ enum-known-packet c = search ladder
 enum-told : tie.Need-enum-told
 enum-told c = search ladder
 
-closed-to-requires : tie.Need-closed-to-requires
-closed-to-requires c κs = search ladder
+own-refusal-requires : tie.Need-own-refusal-requires
+own-refusal-requires c κs = search ladder
 
 enum-told-2 : tie.Need-enum-told-2
 enum-told-2 c = search ladder
 
-closed-to-requires-2 : tie.Need-closed-to-requires-2
-closed-to-requires-2 c κs = search ladder
+own-refusal-requires-2 : tie.Need-own-refusal-requires-2
+own-refusal-requires-2 c κs = search ladder
 
 enum-known-packet-2 : tie.Need-enum-known-packet-2
 enum-known-packet-2 c = search ladder
 
-end-refusal-requires : tie.Need-end-refusal-requires
-end-refusal-requires c κs = search ladder
+own-refusal-requires-3 : tie.Need-own-refusal-requires-3
+own-refusal-requires-3 c κs = search ladder
 
 returns : tie.Need-returns
 returns c = search ladder
@@ -42,11 +42,11 @@ refusal-for-spec =
     (tie.spec
     enum-known-packet
     enum-told
-    closed-to-requires
+    own-refusal-requires
     enum-told-2
-    closed-to-requires-2
+    own-refusal-requires-2
     enum-known-packet-2
-    end-refusal-requires
+    own-refusal-requires-3
     returns
     returns-2
     returns-3

@@ -1,9 +1,9 @@
 -- Condition 3 speaks of something, and rules something out: one feed, and receivers that idle, do too much or too little.
 use Prim.Native.Nat.{ℕ, zero, suc, _+_, _-_, _<_, _≤_}
 use mathlib.Core.Path.{_≡_, refl, ap, sym, _∙_}
-use mathlib.Core.List.{List, [], _∷_, List·Memᴰ, List·Memᴰ·cases-cons, List·Memᴰ·not-nil}
+use mathlib.Core.List.{List, [], _∷_, _++_, List·Memᴰ, List·Memᴰ·cases-cons, List·Memᴰ·not-nil}
 use mathlib.Core.Logic.{⊎-elim}
-use mathlib.Core.Bool.{true}
+use mathlib.Core.Bool.{true, false}
 use native.Mathlib.Omega.{arith}
 use lib.ListN.{length, getD, replicate}
 use Rattle.wire.specs.Bytes.{number, bytes, sameBytes}
@@ -13,12 +13,13 @@ use Rattle.moldudp64.specs.Blocks.{lengthOf, fits, allFit, afterBlocks, message
 use Rattle.moldudp64.specs.Downstream.{Kind, data-packet, kindOfCount, kindOf, blockCount, refusalOf, messagesOf}
 use Rattle.receiver.specs.declared.receiver.Receiver.{Receiver}
 use Rattle.receiver.specs.Table.{Outcome, Row, data-reaches, data-below, heartbeat-below, heartbeat-at, any-above, end-at, delivers, table}
-use Rattle.receiver.specs.Receiver.{otherSession, endBelow, refusalFor, moved, answerOf, receiverAfter}
-use Rattle.receiver.specs.Statements.{Answers, Steps, FollowsTheTable}
+use Rattle.receiver.specs.Receiver.{receiver, blank, otherSession, endBelow, ownRefusal, refusalFor, moved, startRefusal, startReceiver, answerOf, receiverAfter}
+use Rattle.receiver.proofs.StartLaws.{started}
+use Rattle.receiver.specs.Statements.{Answers, Steps}
 use Rattle.receiver.specs.Delivery.{deliveredIn, deliveredBy}
-use Rattle.receiver.specs.Feed.{Datagram, Message, IsMessage, messagesFrom, OfKind, not-well-formed, any-heartbeat, true-data, true-end, AllOfKind, after, delivered, Faithful}
-use Rattle.receiver.specs.Condition3.{machineOf}
-use Rattle.receiver.specs.Bites.{a, b, c, session, dataAt, heartbeatAt, endAt, fresh, feed, NotVacuous, stays, refusesAll, oldToAll, asksAlways, allAtOnce, movesPastAll, overlapOld, overlapStays, jumpDelivers, jumps, NotWeak}
+use Rattle.receiver.specs.Feed.{Datagram, Message, Session, lastOf, IsMessage, messagesFrom, OfKind, not-well-formed, another-name, any-heartbeat, true-data, true-end, AllOfKind, after, delivered, Faithful}
+use Rattle.receiver.specs.Condition3.{machineOf, Condition3For}
+use Rattle.receiver.specs.Witnesses.{a, b, c, session, dataAt, heartbeatAt, endAt, fresh, feed, NotVacuous, stays, refusesAll, oldToAll, asksAlways, allAtOnce, movesPastAll, overlapOld, overlapStays, jumpDelivers, jumps, FollowsAtFirst, NotWeak}
 use Rattle.receiver.proofs.FeedLaws.{none-from, Keeps, faithful}
 
 -- ---- datagrams of the session
@@ -76,6 +77,10 @@ broken-true : OfKind session (replicate 19 0)
 unfolding refusalOf
 broken-true = not-well-formed (λ e. let z : _≡_ {A = ℕ} 11 0 = e in omega arith)
 
+other-true : OfKind session (header blank 1 1 ++ blocksOf (c ∷ []))
+unfolding header bytes blocksOf
+other-true = another-name (λ e. let z : _≡_ {A = ℕ} 32 82 = ap (λ (l : List ℕ). getD l 0 0) e in omega arith)
+
 -- ---- the feed
 
 in-front : {d x : Datagram} {xs : List Datagram} → OfKind session x → (List·Memᴰ d xs → OfKind session d) → List·Memᴰ d (x ∷ xs) → OfKind session d
@@ -86,38 +91,42 @@ none m = absurd (List·Memᴰ·not-nil m)
 
 feed-true : AllOfKind session feed
 feed-true d m =
-    in-front last-true (in-front two-true (in-front heartbeat-true (in-front broken-true (in-front two-true (in-front end-true (in-front overlap-true (in-front end-true none))))))) m
+    in-front last-true (in-front two-true (in-front other-true (in-front heartbeat-true (in-front broken-true (in-front two-true (in-front end-true (in-front overlap-true (in-front end-true none)))))))) m
 
 pub not-vacuous : NotVacuous
-unfolding number bytes header blocksOf numberOf countOf kindOfCount blockCount lengthOf fits allFit afterBlocks messages blocksRefusal refusalOf messagesOf sameBytes otherSession endBelow refusalFor table answerOf receiverAfter deliveredIn after delivered
-not-vacuous = record { of-kind = feed-true; delivers = refl; ends = refl }
+unfolding number bytes header blocksOf numberOf countOf kindOfCount blockCount lengthOf fits allFit afterBlocks messages blocksRefusal refusalOf messagesOf sameBytes otherSession endBelow ownRefusal refusalFor table answerOf receiverAfter deliveredIn after delivered startRefusal startReceiver
+not-vacuous = record { not-refused = refl; starts = refl; of-kind = feed-true; delivers = refl; ends = refl }
 
 -- ---- idle receivers: the receiver stays, and nothing is delivered
 
-module _ (answers : Answers) (nothing : (r : Receiver) (d : Datagram) → deliveredBy (answers r d) d ≡ []) where
+module _ (answers : Answers) (nothing : (r : Receiver) (d : Datagram) → deliveredBy (answers r d) d ≡ []) (s : Session) where
   record InRange (r : Receiver) : Type 0 where
     from-one : 1 ≤ r .next .0
-    to-last : r .next .0 ≤ 4
+    to-last : r .next .0 ≤ lastOf s + 1
 
   record NotAhead (r q : Receiver) : Type 0 where
     number-too : r .next .0 ≤ q .next .0
     ended-too : r .ended ≡ true → q .ended ≡ true
 
-  keeps : Keeps (machineOf answers stays) session (OfKind session) InRange NotAhead
+  keeps : Keeps (machineOf answers stays) s (OfKind s) InRange NotAhead
   keeps =
       record {
         in-range = λ r i. (i .from-one, i .to-last);
         kept = λ r d i o. i;
         rises = λ r d i o. omega arith;
-        exact = λ r d i o. nothing r d ∙ sym (none-from session (r .next .0));
+        exact = λ r d i o. nothing r d ∙ sym (none-from s (r .next .0));
         ahead = λ r d i o. record { number-too = omega arith; ended-too = λ e. e };
         still-behind = λ r q d i j x o. x;
         behind-number = λ r q x. x .number-too;
         behind-ended = λ r q x. x .ended-too;
       }
 
-  idle : Faithful (machineOf answers stays) session 1 fresh
-  idle = faithful (machineOf answers stays) session InRange NotAhead keeps fresh (record { from-one = omega arith; to-last = omega arith })
+idle : (answers : Answers) → ((r : Receiver) (d : Datagram) → deliveredBy (answers r d) d ≡ []) → Condition3For answers stays
+unfolding Condition3For
+idle answers nothing s start limit e h l =
+    rw (started (s .name) start limit e)
+    (faithful (machineOf answers stays) s (InRange answers nothing s) (NotAhead answers nothing s) (keeps answers nothing s) (receiver (s .name) start limit false)
+    (record { from-one = h; to-last = l }))
 
 -- ---- the table at a fresh receiver and the first message
 
@@ -129,29 +138,39 @@ one-delivered limit n k f x o (heartbeat-at p q e) g h i = let z : _≡_ {A = �
 one-delivered limit n k f x o (any-above q e) g h i = absurd (omega arith)
 one-delivered limit n k f x o (end-at p q e) g h i = let z : _≡_ {A = ℕ} 0 1 = cc in absurd (omega arith)
 
-first-row : (answers : Answers) (step : Steps) → FollowsTheTable answers step
+first-row : (answers : Answers) (step : Steps) → FollowsAtFirst answers step
     → (answers fresh (dataAt 1 (a ∷ [])) ≡ delivers 1 1 1 .reply) × (step fresh (dataAt 1 (a ∷ [])) ≡ moved fresh (delivers 1 1 1))
-unfolding number bytes header blocksOf numberOf countOf kindOfCount blockCount lengthOf fits allFit afterBlocks blocksRefusal refusalOf sameBytes otherSession endBelow refusalFor
-first-row answers step t =
-    let f = t .accepts fresh (dataAt 1 (a ∷ [])) refl in
+unfolding number bytes header blocksOf numberOf countOf kindOfCount
+first-row answers step f =
     let e = one-delivered 100 1 data-packet 1 1 (f .outcome) (f .its-row) refl (omega arith) (omega arith) in
     (f .its-answer ∙ ap (λ (o : Outcome). o .reply) e, f .its-receiver ∙ ap (moved fresh) e)
 
--- ---- receivers that lose messages
+-- ---- receivers that double or lose messages: what condition 3 says of them at the session
 
 one-of : (x : Datagram) → OfKind session x → AllOfKind session (x ∷ [])
 one-of x o d m = in-front o none m
 
-overlap-breaks : Faithful (machineOf overlapOld overlapStays) session 1 fresh → ⊥
-unfolding number bytes header blocksOf numberOf countOf kindOfCount blockCount lengthOf fits allFit afterBlocks messages blocksRefusal refusalOf messagesOf sameBytes otherSession endBelow refusalFor table answerOf receiverAfter deliveredIn after delivered
-overlap-breaks f =
-    let w : 3 ≤ 2 = f .one-more [] (dataAt 1 (a ∷ b ∷ c ∷ []) ∷ []) (dataAt 1 (a ∷ b ∷ [])) (one-of _ three-true) two-true .as-many in
+at-session : (answers : Answers) (step : Steps) → Condition3For answers step → Faithful (machineOf answers step) session 1 fresh
+unfolding Condition3For startRefusal startReceiver
+at-session answers step f = f session 1 100 refl (omega arith) (omega arith)
+
+never-moves-breaks : Condition3For answerOf stays → ⊥
+unfolding number bytes header blocksOf numberOf countOf kindOfCount blockCount lengthOf fits allFit afterBlocks messages blocksRefusal refusalOf messagesOf sameBytes otherSession endBelow ownRefusal refusalFor table answerOf deliveredIn after delivered messagesFrom
+never-moves-breaks f =
+    let e : a ∷ b ∷ [] ≡ [] = at-session answerOf stays f .delivers-true (dataAt 1 (a ∷ b ∷ []) ∷ []) (one-of _ two-true) .exactly in
+    let w : _≡_ {A = ℕ} 2 0 = ap length e in
     omega arith
 
-jump-breaks : Faithful (machineOf jumpDelivers jumps) session 1 fresh → ⊥
-unfolding number bytes header blocksOf numberOf countOf kindOfCount blockCount lengthOf fits allFit afterBlocks messages blocksRefusal refusalOf messagesOf sameBytes otherSession endBelow refusalFor table answerOf receiverAfter deliveredIn after delivered messagesFrom
+overlap-breaks : Condition3For overlapOld overlapStays → ⊥
+unfolding number bytes header blocksOf numberOf countOf kindOfCount blockCount lengthOf fits allFit afterBlocks messages blocksRefusal refusalOf messagesOf sameBytes otherSession endBelow ownRefusal refusalFor table answerOf receiverAfter deliveredIn after delivered
+overlap-breaks f =
+    let w : 3 ≤ 2 = at-session overlapOld overlapStays f .one-more [] (dataAt 1 (a ∷ b ∷ c ∷ []) ∷ []) (dataAt 1 (a ∷ b ∷ [])) (one-of _ three-true) two-true .as-many in
+    omega arith
+
+jump-breaks : Condition3For jumpDelivers jumps → ⊥
+unfolding number bytes header blocksOf numberOf countOf kindOfCount blockCount lengthOf fits allFit afterBlocks messages blocksRefusal refusalOf messagesOf sameBytes otherSession endBelow ownRefusal refusalFor table answerOf receiverAfter deliveredIn after delivered messagesFrom
 jump-breaks f =
-    let e : c ∷ [] ≡ a ∷ b ∷ c ∷ [] = f .delivers-true (dataAt 3 (c ∷ []) ∷ []) (one-of _ last-true) .exactly in
+    let e : c ∷ [] ≡ a ∷ b ∷ c ∷ [] = at-session jumpDelivers jumps f .delivers-true (dataAt 3 (c ∷ []) ∷ []) (one-of _ last-true) .exactly in
     let w : _≡_ {A = ℕ} 1 3 = ap length e in
     omega arith
 
@@ -166,6 +185,7 @@ not-weak =
       asks-always = idle asksAlways (λ r d. refl);
       asks-always-breaks = λ t. let w = which-of (first-row asksAlways stays t .0) in let z : _≡_ {A = ℕ} 0 1 = cc in omega arith;
       all-at-once-breaks = λ t. let n : _≡_ {A = ℕ} 4 2 = ap (λ (r : Receiver). r .next .0) (first-row allAtOnce movesPastAll t .1) in omega arith;
+      never-moves-breaks = never-moves-breaks;
       overlap-old-breaks = overlap-breaks;
       jumps-breaks = jump-breaks;
     }

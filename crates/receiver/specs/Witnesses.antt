@@ -1,0 +1,141 @@
+-- Condition 3 speaks of something, and rules something out.
+use Prim.Native.Nat.{ℕ, _+_}
+use mathlib.Core.Path.{_≡_}
+use mathlib.Core.List.{List, [], _∷_, _++_}
+use mathlib.Core.Bool.{Bool, true, false}
+use lib.ListN.{length, replicate}
+use lib.Dec.{ltb, eqb}
+use Rattle.wire.specs.Choice.{if_then_else_}
+use Rattle.wire.specs.Refusals.{datagramShort}
+use Rattle.wire.specs.Words.{says, refuses}
+use Rattle.moldudp64.specs.Header.{endCount, numberOf, countOf, header}
+use Rattle.moldudp64.specs.Blocks.{blocksOf}
+use Rattle.moldudp64.specs.Downstream.{Kind, data-packet, heartbeat, end-of-session, kindOf}
+use Rattle.receiver.specs.declared.receiver.Receiver.{Receiver}
+use Rattle.receiver.specs.Table.{deliver, old, ask, delivers}
+use Rattle.receiver.specs.Receiver.{receiver, blank, accepted, moved, startRefusal, startReceiver, answerOf, receiverAfter}
+use Rattle.receiver.specs.Statements.{Answers, Steps, Follows}
+use Rattle.receiver.specs.Feed.{Datagram, Message, Session, AllOfKind, after, delivered}
+use Rattle.receiver.specs.Condition3.{plain, Condition3For}
+
+-- ---- a session of three messages, one of them empty, and datagrams of it
+
+-- READROOM01
+abbrev pub name : List ℕ
+name = 82 ∷ 69 ∷ 65 ∷ 68 ∷ 82 ∷ 79 ∷ 79 ∷ 77 ∷ 48 ∷ 49 ∷ []
+
+abbrev pub a : Message
+a = 97 ∷ []
+
+abbrev pub b : Message
+b = []
+
+abbrev pub c : Message
+c = 99 ∷ 100 ∷ []
+
+abbrev pub session : Session
+session = record { name = name; messages = a ∷ b ∷ c ∷ [] }
+
+abbrev pub dataAt : ℕ → List Message → Datagram
+dataAt f ms = header name f (length ms) ++ blocksOf ms
+
+abbrev pub heartbeatAt : ℕ → Datagram
+heartbeatAt f = header name f 0
+
+abbrev pub endAt : ℕ → Datagram
+endAt f = header name f endCount
+
+abbrev pub fresh : Receiver
+fresh = receiver name 1 100 false
+
+-- ---- one list of condition 3's kind: a datagram that came early and is lost so, a doubled one, another session's data, a heartbeat
+-- that is far off, broken bytes and an end; and what it delivers
+
+abbrev pub feed : List Datagram
+feed =
+    dataAt 3 (c ∷ [])
+    ∷ dataAt 1 (a ∷ b ∷ [])
+    ∷ (header blank 1 1 ++ blocksOf (c ∷ []))
+    ∷ heartbeatAt 9
+    ∷ replicate 19 0
+    ∷ dataAt 1 (a ∷ b ∷ [])
+    ∷ endAt 4
+    ∷ dataAt 2 (b ∷ c ∷ [])
+    ∷ endAt 4
+    ∷ []
+
+pub record NotVacuous : Type 0 where
+  pub not-refused : startRefusal 1 100 ≡ 0
+  pub starts : startReceiver name 1 100 ≡ fresh
+  pub of-kind : AllOfKind session feed
+  pub delivers : delivered plain fresh feed ≡ a ∷ b ∷ c ∷ []
+  pub ends : after plain fresh feed ≡ receiver name 4 100 true
+
+-- ---- receivers that idle: they stay as they are, and deliver nothing
+
+abbrev pub stays : Steps
+stays r d = r
+
+-- refuses everything
+abbrev pub refusesAll : Answers
+refusesAll r d = refuses datagramShort
+
+-- says old to everything
+abbrev pub oldToAll : Answers
+oldToAll r d = says old []
+
+-- asks at everything, and never moves its number
+abbrev pub asksAlways : Answers
+asksAlways r d = says ask (r .next .0 ∷ r .limit .0 ∷ [])
+
+-- ---- receivers that do too much or too little
+
+-- delivers everything at the first datagram: its number is then past all three messages, and from there it goes by the table
+abbrev pub allAtOnce : Answers
+allAtOnce r d = if eqb (r .next .0) 1 then says deliver (1 ∷ 3 ∷ 0 ∷ []) else answerOf r d
+
+abbrev pub movesPastAll : Steps
+movesPastAll r d = if eqb (r .next .0) 1 then receiver (r .session) 4 (r .limit .0) (r .ended) else receiverAfter r d
+
+-- treats a datagram that begins before n as wholly old
+abbrev pub overlapOld : Answers
+overlapOld r d = if ltb (numberOf d) (r .next .0) then says old [] else answerOf r d
+
+abbrev pub overlapStays : Steps
+overlapStays r d = if ltb (numberOf d) (r .next .0) then r else receiverAfter r d
+
+abbrev pub isData : Kind → Bool
+isData data-packet = true
+isData heartbeat = false
+isData end-of-session = false
+
+-- data ahead of n that it accepts
+abbrev pub ahead : Receiver → Datagram → Bool
+ahead r d = if accepted r d then (if isData (kindOf d) then ltb (r .next .0) (numberOf d) else false) else false
+
+-- delivers data ahead, and jumps over the gap before it
+abbrev pub jumpDelivers : Answers
+jumpDelivers r d = if ahead r d then says deliver (numberOf d ∷ countOf d ∷ 0 ∷ []) else answerOf r d
+
+abbrev pub jumps : Steps
+jumps r d = if ahead r d then moved r (delivers (numberOf d) (numberOf d) (countOf d)) else receiverAfter r d
+
+-- ---- what condition 3 lets through and what it stops
+
+-- the table's row at a fresh receiver and the first message
+abbrev pub FollowsAtFirst : Answers → Steps → Type 0
+FollowsAtFirst answers step = Follows answers step fresh (dataAt 1 (a ∷ []))
+
+-- the idle receivers meet condition 3 and break the table at the first message, and so does the one that delivers everything there;
+-- the one that delivers and never moves its number, the one that calls an overlap old and the one that jumps break condition 3
+pub record NotWeak : Type 0 where
+  pub refuses-all : Condition3For refusesAll stays
+  pub refuses-all-breaks : FollowsAtFirst refusesAll stays → ⊥
+  pub old-to-all : Condition3For oldToAll stays
+  pub old-to-all-breaks : FollowsAtFirst oldToAll stays → ⊥
+  pub asks-always : Condition3For asksAlways stays
+  pub asks-always-breaks : FollowsAtFirst asksAlways stays → ⊥
+  pub all-at-once-breaks : FollowsAtFirst allAtOnce movesPastAll → ⊥
+  pub never-moves-breaks : Condition3For answerOf stays → ⊥
+  pub overlap-old-breaks : Condition3For overlapOld overlapStays → ⊥
+  pub jumps-breaks : Condition3For jumpDelivers jumps → ⊥
