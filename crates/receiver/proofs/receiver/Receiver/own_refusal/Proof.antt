@@ -1,3 +1,4 @@
+-- 17, then 18, then 20.
 use Rattle.receiver.proofs.Rules.{ladder}
 use Rattle.receiver.proofs.receiver.Receiver.own_refusal.Statement.{statement}
 use Rattle.receiver.proofs.receiver.Receiver.own_refusal.Tie as tie
