@@ -2,8 +2,10 @@
 use mathlib.Core.Path.{_≡_, refl, sym, _∙_}
 use mathlib.Core.List.{List, [], _∷_}
 use mathlib.Core.Bool.{true}
-use Prim.Native.Nat.{ℕ, _+_, _-_, _≤_, _<_}
+use Prim.Native.Nat.{ℕ, _+_, _-_, _≤_, _<_, min}
 use native.Mathlib.Omega.{arith}
+use mir.Val.{Fits}
+use mir.Syntax.{w16}
 use borrow.Author.Tests.{lt-ltb, le-ltb, ne-eqb}
 use Rattle.wire.specs.declared.refusal.Refusal.{Refusal}
 use Rattle.wire.specs.declared.kinds.SequenceNumber.{SequenceNumber}
@@ -17,7 +19,7 @@ use Rattle.receiver.specs.declared.receiver.Receiver.{Receiver}
 use Rattle.receiver.specs.declared.receiver.Taken.{Taken}
 use Rattle.receiver.specs.declared.receiver.Answer.{Answer}
 use Rattle.receiver.specs.declared.receiver.Answer.the-variants.{Deliver, Old, Quiet, Ask, Ended, Refused}
-use Rattle.receiver.specs.Table.{answerWords, askFor, asks, table}
+use Rattle.receiver.specs.Table.{answerWords, asks, table}
 use Rattle.receiver.specs.Receiver.{receiver, refusalFor, rowOf, moved, answerOf, receiverAfter, Takes}
 use Rattle.receiver.proofs.LadderLaws.{for-refused}
 
@@ -26,15 +28,13 @@ stays r a = record { answer = a; receiver = r }
 
 -- ---- the row for a number above n
 
-pub ask-gap : (r : Receiver) (a : ℕ) → r .next .0 < a → a - r .next .0 < r .limit .0
-    → Takes (stays r (Ask (r .next) (record { 0 = a - r .next .0 }))) r (asks (r .limit .0) (r .next .0) a)
-unfolding answerWords
-ask-gap r a h i = let e : a - r .next .0 ≡ askFor (r .limit .0) (r .next .0) a = omega arith in record { answers = rw (← e); leaves = refl }
+pub ask-fits : (r : Receiver) (a k : ℕ) → Fits w16 (r .limit .0) → k ≡ min (a - r .next .0) (r .limit .0) → Fits w16 k
+ask-fits r a k f e = record { fits = omega arith }
 
-pub ask-limit : (r : Receiver) (a : ℕ) → r .next .0 < a → r .limit .0 ≤ a - r .next .0
-    → Takes (stays r (Ask (r .next) (r .limit))) r (asks (r .limit .0) (r .next .0) a)
+pub ask-for : (r : Receiver) (a k : ℕ) → k ≡ min (a - r .next .0) (r .limit .0)
+    → Takes (stays r (Ask (r .next) (record { 0 = k }))) r (asks (r .limit .0) (r .next .0) a)
 unfolding answerWords
-ask-limit r a h i = let e : r .limit .0 ≡ askFor (r .limit .0) (r .next .0) a = omega arith in record { answers = rw (← e); leaves = refl }
+ask-for r a k e = rw (← e) (record { answers = refl; leaves = refl })
 
 -- ---- data
 

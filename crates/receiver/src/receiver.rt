@@ -9,7 +9,7 @@ use wire::kinds::SequenceNumber;
 use wire::refusal;
 use wire::refusal::Refusal;
 ghost use mathlib.Core.Path.{_≡_};
-ghost use Prim.Native.Nat.{_+_, _≤_, _<_};
+ghost use Prim.Native.Nat.{_+_, _≤_, _<_, min};
 ghost use Rattle.wire.specs.Bounds.{largestNumber};
 ghost use Rattle.wire.specs.Refusals.{badSetting};
 ghost use Rattle.moldudp64.specs.Header.{endCount};
@@ -73,6 +73,12 @@ fn refused_start() -> Started
             ended: true,
         },
     }
+}
+
+fn smaller(a: u64, b: u64) -> u64
+    ensures { λ r. ⌜ r ≡ min a b ⌝ }
+{
+    if a < b { a } else { b }
 }
 
 impl Receiver {
@@ -191,21 +197,12 @@ impl Receiver {
         ensures { λ r. ⌜ Takes r self (asks (self .limit .0) (self .next .0) (above .0)) ⌝ }
     {
         let next = self.next;
-        let limit = self.limit;
         let gap = above.0 - next.0;
-        if gap < limit.0 as u64 {
-            return Taken {
-                answer: Answer::Ask {
-                    from: next,
-                    count: MessageCount(gap as u16),
-                },
-                receiver: self,
-            };
-        }
+        let most = self.limit.0 as u64;
         Taken {
             answer: Answer::Ask {
                 from: next,
-                count: limit,
+                count: MessageCount(smaller(gap, most) as u16),
             },
             receiver: self,
         }

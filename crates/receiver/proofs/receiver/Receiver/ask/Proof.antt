@@ -6,17 +6,17 @@ use Rattle.receiver.proofs.receiver.Receiver.ask.Tie as tie
 sub-gap : tie.Need-sub-gap
 sub-gap c = search rows
 
-cast-if1 : tie.Need-cast-if1
-cast-if1 c = search rows
+cast-most : tie.Need-cast-most
+cast-most c = search rows
 
-cast-t8 : tie.Need-cast-t8
-cast-t8 c = search rows
+smaller-requires : tie.Need-smaller-requires
+smaller-requires c κs = search rows
+
+cast-t7 : tie.Need-cast-t7
+cast-t7 c = search rows
 
 returns : tie.Need-returns
 returns c = search rows
 
-returns-2 : tie.Need-returns-2
-returns-2 c = search rows
-
 pub ask-spec : {M : Type 1} → statement M
-ask-spec = tie.close (tie.spec sub-gap cast-if1 cast-t8 returns returns-2)
+ask-spec = tie.close (tie.spec sub-gap cast-most smaller-requires cast-t7 returns)
