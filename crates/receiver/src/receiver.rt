@@ -199,10 +199,11 @@ impl Receiver {
         let next = self.next;
         let gap = above.0 - next.0;
         let most = self.limit.0 as u64;
+        let count = smaller(gap, most) as u16;
         Taken {
             answer: Answer::Ask {
                 from: next,
-                count: MessageCount(smaller(gap, most) as u16),
+                count: MessageCount(count),
             },
             receiver: self,
         }

@@ -12,11 +12,11 @@ cast-most c = search rows
 smaller-requires : tie.Need-smaller-requires
 smaller-requires c κs = search rows
 
-cast-t7 : tie.Need-cast-t7
-cast-t7 c = search rows
+cast-count : tie.Need-cast-count
+cast-count c = search rows
 
 returns : tie.Need-returns
 returns c = search rows
 
 pub ask-spec : {M : Type 1} → statement M
-ask-spec = tie.close (tie.spec sub-gap cast-most smaller-requires cast-t7 returns)
+ask-spec = tie.close (tie.spec sub-gap cast-most smaller-requires cast-count returns)
