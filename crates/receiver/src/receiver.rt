@@ -75,6 +75,7 @@ fn refused_start() -> Started
     }
 }
 
+// The smaller of two numbers.
 fn smaller(a: u64, b: u64) -> u64
     ensures { λ r. ⌜ r ≡ min a b ⌝ }
 {
