@@ -31,6 +31,7 @@ blockCountOf data-packet c = c
 blockCountOf heartbeat c = 0
 blockCountOf end-of-session c = 0
 
+-- how many blocks a datagram has
 unfoldable pub blockCount : List ℕ → ℕ
 blockCount l = blockCountOf (kindOf l) (countOf l)
 

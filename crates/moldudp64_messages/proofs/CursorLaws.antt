@@ -11,9 +11,10 @@ use lib.Seq.{drop-drop}
 use lib.Dec.{ltb, eqb}
 use mir.Val.{Fits}
 use mir.Syntax.{w64}
-use borrow.Author.Tests.{lt-ltb, le-ltb, ltb-true, ltb-false, ne-eqb, eqb-true, eqb-false, not-true}
+use borrow.Author.Tests.{lt-ltb, le-ltb, ltb-true, ltb-false, ne-eqb, eqb-false, not-true}
 use Rattle.wire.specs.Choice.{if_then_else_}
 use Rattle.wire.specs.Bytes.{bytes}
+use Rattle.wire.proofs.Cases.{zero-or-not}
 use Rattle.wire.proofs.Numbers.{part-to-end, length-bytes}
 use Rattle.moldudp64.specs.Blocks.{lengthOf, sizeOf, fits, afterBlock, allFit, messages, blocksOf}
 use Rattle.wire.specs.Words.{says}
@@ -259,16 +260,9 @@ parts (suc n) (suc k) l at h f =
 
 -- ---- every datagram and every place
 
-cases : (P : Type 0) (l : List ℕ) → (refusalOf l ≡ 0 → P) → ((refusalOf l ≡ 0 → ⊥) → P) → P
-cases P l f g = go (eqb (refusalOf l) 0) refl
-  where
-    go : (b : Bool) → eqb (refusalOf l) 0 ≡ b → P
-    go true e = f (eqb-true _ _ e)
-    go false e = g (eqb-false _ _ e)
-
 pub walks-the-messages : WalksTheMessages
 unfolding WalksTheMessages locateOf messageOf
-walks-the-messages l k = cases _ l good bad
+walks-the-messages l k = zero-or-not _ (refusalOf l) good bad
   where
     good : refusalOf l ≡ 0 → located l (movedBy k l (startOf l)) ≡ among (messagesOf l) 20 k
     good e =
@@ -284,7 +278,7 @@ walks-the-messages l k = cases _ l good bad
 
 pub part-is-message : PartIsMessage
 unfolding PartIsMessage locateOf messageOf
-part-is-message l k = cases _ l good bad
+part-is-message l k = zero-or-not _ (refusalOf l) good bad
   where
     good : refusalOf l ≡ 0 → part l (among (messagesOf l) 20 k) ≡ getD (messagesOf l) k []
     good e =

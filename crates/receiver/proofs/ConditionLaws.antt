@@ -8,6 +8,7 @@ use lib.ListN.{take, drop}
 use lib.Seq.{drop-at}
 use borrow.Author.Tests.{le-ltb, ne-eqb}
 use Rattle.wire.specs.Words.{Words}
+use Rattle.wire.proofs.Cases.{below-or-not}
 use Rattle.moldudp64.specs.Header.{numberOf, countOf}
 use Rattle.moldudp64.specs.Downstream.{Kind, data-packet, heartbeat, end-of-session, kindOf, refusalOf, messagesOf}
 use Rattle.receiver.specs.declared.receiver.Receiver.{Receiver}
@@ -18,7 +19,7 @@ use Rattle.receiver.specs.Feed.{Datagram, Session, lastOf, messagesFrom,
 use Rattle.receiver.specs.Condition3.{plain, Condition3For, Condition3}
 use Rattle.receiver.proofs.StartLaws.{started}
 use Rattle.receiver.proofs.TableLaws.{refused-stays, row-answer, row-after}
-use Rattle.receiver.proofs.Promises.{either, row-above, row-reaches, row-below, row-beat-below, row-beat-at, row-end, refused-answers}
+use Rattle.receiver.proofs.Promises.{row-above, row-reaches, row-below, row-beat-below, row-beat-at, row-end, refused-answers}
 use Rattle.receiver.proofs.FeedLaws.{join, length-from, none-from, Keeps, faithful}
 use Rattle.receiver.proofs.Sorts.{Named, TrueData, TrueEnd, Sort, is-bad, is-other, is-heartbeat, is-data, is-end, sort, data-begin, data-end, data-run, same-name, other-name}
 
@@ -101,9 +102,9 @@ heartbeat-stays : (r : Receiver) (d : Datagram) → refusalOf d ≡ 0 → take 1
 unfolding deliveredIn
 heartbeat-stays r d w n o k =
     let a = ladder-open r d w n o (no-end (kindOf d) _ _ (heartbeat-end (kindOf d) k)) in
-    either _ (r .next .0) (numberOf d) (λ h. ahead-stays r d w n o h)
+    below-or-not _ (r .next .0) (numberOf d) (λ h. ahead-stays r d w n o h)
     (λ h.
-    either _ (numberOf d) (r .next .0)
+    below-or-not _ (numberOf d) (r .next .0)
     (λ i. row-stays r d (olds (r .next .0)) a (kind-row r d heartbeat _ k (row-beat-below (r .limit .0) (r .next .0) (numberOf d) (countOf d) i)) refl refl)
     (λ i.
     let e : numberOf d ≡ r .next .0 = omega arith in
@@ -199,9 +200,9 @@ module _ (s : Session) where
           let k = t .kind in
           open-or (t .named)
           (λ o.
-          either _ (r .next .0) (numberOf d) (λ h. nothing (ahead-stays r d w n o h))
+          below-or-not _ (r .next .0) (numberOf d) (λ h. nothing (ahead-stays r d w n o h))
           (λ g.
-          either _ (r .next .0) (numberOf d + countOf d)
+          below-or-not _ (r .next .0) (numberOf d + countOf d)
           (λ h. delivers-now t g h o (take-moves r d w n o k g h) (take-delivers r d w n o k g h))
           (λ h. nothing (old-stays r d w n o k h))))
       effect-of (is-end t) =
@@ -210,7 +211,7 @@ module _ (s : Session) where
           let k = t .kind in
           open-or (t .named)
           (λ o.
-          either _ (r .next .0) (numberOf d) (λ h. nothing (ahead-stays r d w n o h))
+          below-or-not _ (r .next .0) (numberOf d) (λ h. nothing (ahead-stays r d w n o h))
           (λ g.
           let e : r .next .0 ≡ lastOf s + 1 = omega (arith, t .number, i .to-last) in
           let f : numberOf d ≡ r .next .0 = omega (arith, t .number) in
@@ -254,7 +255,7 @@ module _ (s : Session) where
           let n = t .named .name ∙ sym (j .name) in
           ended-or-not _ q (λ x. rw (ended-stays q d w n x .same) (omega (arith, j .at-end x, data-end s d t some)))
           (λ x.
-          either _ (q .next .0) (numberOf d + countOf d) (λ h. rw (take-moves q d w n x (t .kind) g h) (omega arith))
+          below-or-not _ (q .next .0) (numberOf d + countOf d) (λ h. rw (take-moves q d w n x (t .kind) g h) (omega arith))
           (λ h. rw (old-stays q d w n x (t .kind) h .same) h))
 
       end-takes : TrueEnd s d → q .next .0 ≡ lastOf s + 1 → receiverAfter q d .ended ≡ true

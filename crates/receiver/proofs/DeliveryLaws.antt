@@ -12,6 +12,7 @@ use mir.Syntax.{w16}
 use borrow.Author.Tests.{lt-ltb, le-ltb}
 use Rattle.wire.specs.Words.{answer, says}
 use Rattle.wire.specs.Bytes.{AreBytes}
+use Rattle.wire.proofs.Cases.{zero-or-not}
 use Rattle.wire.proofs.Words.{which-of, values-of}
 use Rattle.wire.proofs.Numbers.{small-number}
 use Rattle.moldudp64.specs.Header.{numberOf, countOf}
@@ -26,7 +27,7 @@ use Rattle.receiver.specs.Table.{deliver, Outcome, Row, data-reaches, da
 use Rattle.receiver.specs.Receiver.{refusalFor, answerOf}
 use Rattle.receiver.specs.Delivery.{deliveredIn, deliveryOf, DeliveryVisits}
 use Rattle.receiver.proofs.TableLaws.{row-answer}
-use Rattle.receiver.proofs.Promises.{row-of, refused-answers, whether, well-read}
+use Rattle.receiver.proofs.Promises.{row-of, refused-answers, well-read}
 
 -- ---- only the first row delivers
 
@@ -51,7 +52,7 @@ record Delivering (l : List ℕ) (count skipped : ℕ) : Type 0 where
   all : count + skipped ≡ countOf l
 
 delivering : (r : Receiver) (l : List ℕ) (first count skipped : ℕ) → answerOf r l ≡ says deliver (first ∷ count ∷ skipped ∷ []) → Delivering l count skipped
-delivering r l first count skipped e = whether _ r l good bad
+delivering r l first count skipped e = zero-or-not _ (refusalFor r l) good bad
   where
     good : refusalFor r l ≡ 0 → Delivering l count skipped
     good z =

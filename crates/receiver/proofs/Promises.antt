@@ -5,10 +5,11 @@ use mathlib.Core.Bool.{Bool, true, false}
 use Prim.Native.Nat.{ℕ, _+_, _-_, _≤_, _<_}
 use native.Mathlib.Omega.{arith}
 use lib.ListN.{getD}
-use lib.Dec.{ltb, eqb}
-use borrow.Author.Tests.{lt-ltb, le-ltb, ltb-true, ltb-false, eqb-true, eqb-false, ne-eqb}
+use lib.Dec.{eqb}
+use borrow.Author.Tests.{lt-ltb, le-ltb, ltb-false, eqb-true, eqb-false, ne-eqb}
 use Rattle.wire.specs.Choice.{if_then_else_}
 use Rattle.wire.specs.Words.{Case, Words, answer, refused, refuses, Injective}
+use Rattle.wire.proofs.Cases.{below-or-not, zero-or-not}
 use Rattle.wire.proofs.Words.{read-back}
 use Rattle.moldudp64.specs.Header.{numberOf, countOf}
 use Rattle.moldudp64.specs.Downstream.{Kind, data-packet, heartbeat, end-of-session, kindOf, refusalOf}
@@ -19,14 +20,6 @@ use Rattle.receiver.specs.Table.{Reply, deliver, old, quiet, ask, ended,
 use Rattle.receiver.specs.Receiver.{otherSession, endBelow, ownRefusal, refusalFor, rowOf, answerOf, receiverAfter}
 use Rattle.receiver.specs.Statements.{FollowsTheTable, RequestExactlyWhen, NumberNeverFalls, ReceiverPromises}
 use Rattle.receiver.proofs.TableLaws.{refused-stays, row-answer, row-after}
-
--- the two ways that a comparison can go
-pub either : (P : Type 0) (a b : ℕ) → (a < b → P) → (b ≤ a → P) → P
-either P a b f g = go (ltb a b) refl
-  where
-    go : (t : Bool) → ltb a b ≡ t → P
-    go true e = f (ltb-true a b e)
-    go false e = g (ltb-false a b e)
 
 -- ---- the table is its rows; at an end of session n isn't above f
 
@@ -58,12 +51,12 @@ module _ (limit n f c : ℕ) where
   row-end h = rw (le-ltb _ _ h)
 
   rows : (k : Kind) → (k ≡ end-of-session → n ≤ f) → Row limit n k f c (table limit n k f c)
-  rows k g = either _ n f (λ h. any-above h (row-above k h)) (λ h. at-or-below k g h)
+  rows k g = below-or-not _ n f (λ h. any-above h (row-above k h)) (λ h. at-or-below k g h)
     where
       at-or-below : (k : Kind) → (k ≡ end-of-session → n ≤ f) → f ≤ n → Row limit n k f c (table limit n k f c)
-      at-or-below data-packet g h = either _ n (f + c) (λ i. data-reaches refl h i (row-reaches h i)) (λ i. data-below refl i (row-below i))
+      at-or-below data-packet g h = below-or-not _ n (f + c) (λ i. data-reaches refl h i (row-reaches h i)) (λ i. data-below refl i (row-below i))
       at-or-below heartbeat g h =
-          either _ f n (λ i. heartbeat-below refl i (row-beat-below i)) (λ i. let e : f ≡ n = omega arith in heartbeat-at refl e (row-beat-at e))
+          below-or-not _ f n (λ i. heartbeat-below refl i (row-beat-below i)) (λ i. let e : f ≡ n = omega arith in heartbeat-at refl e (row-beat-at e))
       at-or-below end-of-session g h = let i = g refl in let e : f ≡ n = omega arith in end-at refl e (row-end h)
 
 -- ---- an accepted datagram: an end of session isn't below n
@@ -139,16 +132,9 @@ row-rises limit n k f c o (heartbeat-at a b e) = rw e (omega arith)
 row-rises limit n k f c o (any-above h e) = rw e (omega arith)
 row-rises limit n k f c o (end-at a b e) = rw e (omega arith)
 
-pub whether : (P : Type 0) (r : Receiver) (l : List ℕ) → (refusalFor r l ≡ 0 → P) → ((refusalFor r l ≡ 0 → ⊥) → P) → P
-whether P r l f g = go (eqb (refusalFor r l) 0) refl
-  where
-    go : (b : Bool) → eqb (refusalFor r l) 0 ≡ b → P
-    go true e = f (eqb-true _ _ e)
-    go false e = g (eqb-false _ _ e)
-
 number-never-falls : NumberNeverFalls receiverAfter
 number-never-falls r l =
-    whether _ r l (λ e. rw (row-after r l e) (row-rises _ _ _ _ _ _ (row-of r l e))) (λ z. rw (← refused-stays r l (refusalFor r l) refl z) (omega arith))
+    zero-or-not _ (refusalFor r l) (λ e. rw (row-after r l e) (row-rises _ _ _ _ _ _ (row-of r l e))) (λ z. rw (← refused-stays r l (refusalFor r l) refl z) (omega arith))
 
 -- ---- the words tell all answers apart: they read back
 

@@ -13,7 +13,7 @@ use Rattle.wire.specs.declared.kinds.MessageCount.{MessageCount}
 use Rattle.moldudp64.specs.declared.downstream.Downstream.{Downstream}
 use Rattle.moldudp64.specs.declared.downstream.Downstream.the-variants.{Data, Heartbeat, EndOfSession}
 use Rattle.moldudp64.specs.declared.downstream.Downstream.the-variants as found
-use Rattle.moldudp64.specs.Downstream.{data-packet, heartbeat, end-of-session, readOf, downstreamWords}
+use Rattle.moldudp64.specs.Downstream.{Kind, data-packet, heartbeat, end-of-session, readOf, downstreamWords}
 use Rattle.moldudp64.proofs.DownstreamLaws.{sound, kind-read, number-read, refusal-read, refused-number, data-read}
 use Rattle.receiver.specs.declared.receiver.Receiver.{Receiver}
 use Rattle.receiver.specs.declared.receiver.Taken.{Taken}
@@ -36,12 +36,15 @@ pub ask-for : (r : Receiver) (a k : ℕ) → k ≡ min (a - r .next .0) (r .limi
 unfolding answerWords
 ask-for r a k e = rw (← e) (record { answers = refl; leaves = refl })
 
--- ---- data
-
-pub data-ask : (r : Receiver) (f c : ℕ) (x : Taken) → r .next .0 < f → Takes x r (asks (r .limit .0) (r .next .0) f)
-    → Takes x r (table (r .limit .0) (r .next .0) data-packet f c)
+-- and it is the row of every kind
+pub above-ask : (r : Receiver) (k : Kind) (f c : ℕ) (x : Taken) → r .next .0 < f → Takes x r (asks (r .limit .0) (r .next .0) f)
+    → Takes x r (table (r .limit .0) (r .next .0) k f c)
 unfolding table
-data-ask r f c x h t = rw (lt-ltb _ _ h) t
+above-ask r data-packet f c x h t = rw (lt-ltb _ _ h) t
+above-ask r heartbeat f c x h t = rw (lt-ltb _ _ h) t
+above-ask r end-of-session f c x h t = rw (lt-ltb _ _ h) t
+
+-- ---- data
 
 pub data-deliver : (r m : Receiver) (f c : ℕ) → f ≤ r .next .0 → r .next .0 < f + c → m ≡ receiver (r .session) (f + c) (r .limit .0) (r .ended)
     → Takes (record { answer = Deliver (record { 0 = r .next .0 }) (record { 0 = f + c - r .next .0 }) (record { 0 = r .next .0 - f }); receiver = m }) r
@@ -55,11 +58,6 @@ data-old r f c h i = rw (le-ltb _ _ h, le-ltb _ _ i) (record { answers = refl; l
 
 -- ---- heartbeat
 
-pub beat-ask : (r : Receiver) (f : ℕ) (x : Taken) → r .next .0 < f → Takes x r (asks (r .limit .0) (r .next .0) f)
-    → Takes x r (table (r .limit .0) (r .next .0) heartbeat f 0)
-unfolding table
-beat-ask r f x h t = rw (lt-ltb _ _ h) t
-
 pub beat-old : (r : Receiver) (f : ℕ) → f ≤ r .next .0 → f < r .next .0 → Takes (stays r Old) r (table (r .limit .0) (r .next .0) heartbeat f 0)
 unfolding table answerWords
 beat-old r f h i = rw (le-ltb _ _ h, lt-ltb _ _ i) (record { answers = refl; leaves = refl })
@@ -69,11 +67,6 @@ unfolding table answerWords
 beat-quiet r f h i = rw (le-ltb _ _ h, le-ltb _ _ i) (record { answers = refl; leaves = refl })
 
 -- ---- end of session
-
-pub end-ask : (r : Receiver) (f : ℕ) (x : Taken) → r .next .0 < f → Takes x r (asks (r .limit .0) (r .next .0) f)
-    → Takes x r (table (r .limit .0) (r .next .0) end-of-session f 65535)
-unfolding table
-end-ask r f x h t = rw (lt-ltb _ _ h) t
 
 pub end-now : (r m : Receiver) (f : ℕ) → f ≤ r .next .0 → m ≡ receiver (r .session) (r .next .0) (r .limit .0) true
     → Takes (record { answer = Ended; receiver = m }) r (table (r .limit .0) (r .next .0) end-of-session f 65535)

@@ -24,6 +24,7 @@ deliveredIn (answer ask) values l = []
 deliveredIn (answer ended) values l = []
 deliveredIn refused values l = []
 
+-- what an answer in document 01's words delivers of a datagram
 abbrev pub deliveredBy : Words Reply → List ℕ → List (List ℕ)
 deliveredBy w l = deliveredIn (w .which) (w .values) l
 

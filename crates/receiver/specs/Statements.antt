@@ -9,9 +9,11 @@ use Rattle.receiver.specs.declared.receiver.Receiver.{Receiver}
 use Rattle.receiver.specs.Table.{Reply, ask, Outcome, Row, answerWords}
 use Rattle.receiver.specs.Receiver.{refusalFor, moved, answerOf, receiverAfter}
 
+-- how a receiver answers
 abbrev pub Answers : Type 0
 Answers = Receiver → List ℕ → Words Reply
 
+-- what a receiver is then
 abbrev pub Steps : Type 0
 Steps = Receiver → List ℕ → Receiver
 

@@ -48,8 +48,8 @@ endAt f = header name f endCount
 abbrev pub fresh : Receiver
 fresh = receiver name 1 100 false
 
--- ---- one list of condition 3's kind: a datagram that came early and is lost so, a doubled one, another session's data, a heartbeat
--- that is far off, broken bytes and an end; and what it delivers
+-- ---- one list of condition 3's kind: a datagram lost because it came early, a doubled one, another session's data, a heartbeat that
+-- is far off, broken bytes and an end; and what it delivers
 
 abbrev pub feed : List Datagram
 feed =
@@ -104,6 +104,7 @@ overlapOld r d = if ltb (numberOf d) (r .next .0) then says old [] else answerOf
 abbrev pub overlapStays : Steps
 overlapStays r d = if ltb (numberOf d) (r .next .0) then r else receiverAfter r d
 
+-- whether a kind is data
 abbrev pub isData : Kind → Bool
 isData data-packet = true
 isData heartbeat = false
@@ -126,8 +127,9 @@ jumps r d = if ahead r d then moved r (delivers (numberOf d) (numberOf d) (count
 abbrev pub FollowsAtFirst : Answers → Steps → Type 0
 FollowsAtFirst answers step = Follows answers step fresh (dataAt 1 (a ∷ []))
 
--- the idle receivers meet condition 3 and break the table at the first message, and so does the one that delivers everything there;
--- the one that delivers and never moves its number, the one that calls an overlap old and the one that jumps break condition 3
+-- the idle receivers meet condition 3 and break the table's row at the first message; the one that delivers everything there breaks
+-- that row; the one that delivers and never moves its number, the one that calls an overlap old and the one that jumps break
+-- condition 3
 pub record NotWeak : Type 0 where
   pub refuses-all : Condition3For refusesAll stays
   pub refuses-all-breaks : FollowsAtFirst refusesAll stays → ⊥

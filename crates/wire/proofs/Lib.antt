@@ -1,3 +1,4 @@
+pub mod Cases
 pub mod Words
 pub mod Numbers
 pub mod Outputs
