@@ -13,7 +13,8 @@ use Rattle.moldudp64.specs.Blocks.{lengthOf, fits, allFit, afterBlocks, message
 use Rattle.moldudp64.specs.Downstream.{Kind, data-packet, kindOfCount, kindOf, blockCount, refusalOf, messagesOf}
 use Rattle.receiver.specs.declared.receiver.Receiver.{Receiver}
 use Rattle.receiver.specs.Table.{Outcome, Row, data-reaches, data-below, heartbeat-below, heartbeat-at, any-above, end-at, delivers, table}
-use Rattle.receiver.specs.Receiver.{receiver, blank, otherSession, endBelow, ownRefusal, refusalFor, moved, startRefusal, startReceiver, answerOf, receiverAfter}
+use Rattle.wire.specs.Bounds.{blank}
+use Rattle.receiver.specs.Receiver.{receiver, otherSession, endBelow, ownRefusal, refusalFor, moved, startRefusal, startReceiver, answerOf, receiverAfter}
 use Rattle.receiver.proofs.StartLaws.{started}
 use Rattle.receiver.specs.Statements.{Answers, Steps}
 use Rattle.receiver.specs.Delivery.{deliveredIn, deliveredBy}

@@ -3,11 +3,11 @@ use Prim.Native.Nat.{ℕ}
 use mathlib.Core.List.{List}
 use mathlib.Core.Bool.{Bool, true, false, not}
 use mathlib.Core.Path.{_≡_}
-use lib.ListN.{take, replicate}
+use lib.ListN.{take}
 use lib.Dec.{ltb, eqb}
 use Rattle.wire.specs.Choice.{if_then_else_}
 use Rattle.wire.specs.Refusals.{badSetting, sessionDiffers, sessionEnded, endBelowExpected}
-use Rattle.wire.specs.Bounds.{largestNumber, sessionSize}
+use Rattle.wire.specs.Bounds.{leastNumber, largestNumber, leastLimit, largestLimit, sessionSize, blank}
 use Rattle.wire.specs.Words.{Words, refuses}
 use Rattle.wire.specs.Bytes.{sameBytes}
 use Rattle.moldudp64.specs.Header.{numberOf, countOf}
@@ -22,16 +22,6 @@ receiver name n limit over = record { session = name; next = record { 0 = n }; l
 
 -- ---- the start
 
--- the bounds of the settings; the largest number is `largestNumber` of `wire`
-abbrev pub leastNumber : ℕ
-leastNumber = 1
-
-abbrev pub leastLimit : ℕ
-leastLimit = 1
-
-abbrev pub largestLimit : ℕ
-largestLimit = 65534
-
 -- 19 where the number or the limit is out of its bounds
 unfoldable pub startRefusal : ℕ → ℕ → ℕ
 startRefusal n limit =
@@ -40,10 +30,6 @@ startRefusal n limit =
     else if ltb limit leastLimit then badSetting
     else if ltb largestLimit limit then badSetting
     else 0
-
--- document 01's "blank": ten spaces
-abbrev pub blank : List ℕ
-blank = replicate sessionSize 32
 
 -- a refused start gives an ended receiver, its name blank, its numbers 1
 abbrev pub refusedReceiver : Receiver

@@ -13,7 +13,8 @@ use Rattle.moldudp64.specs.Blocks.{blocksOf}
 use Rattle.moldudp64.specs.Downstream.{Kind, data-packet, heartbeat, end-of-session, kindOf}
 use Rattle.receiver.specs.declared.receiver.Receiver.{Receiver}
 use Rattle.receiver.specs.Table.{deliver, old, ask, delivers}
-use Rattle.receiver.specs.Receiver.{receiver, blank, accepted, moved, startRefusal, startReceiver, answerOf, receiverAfter}
+use Rattle.wire.specs.Bounds.{blank}
+use Rattle.receiver.specs.Receiver.{receiver, accepted, moved, startRefusal, startReceiver, answerOf, receiverAfter}
 use Rattle.receiver.specs.Statements.{Answers, Steps, Follows}
 use Rattle.receiver.specs.Feed.{Datagram, Message, Session, AllOfKind, after, delivered}
 use Rattle.receiver.specs.Condition3.{plain, Condition3For}

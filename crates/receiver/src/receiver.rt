@@ -67,7 +67,7 @@ fn refused_start() -> Started
     Started {
         refusal: refusal::BAD_SETTING,
         receiver: Receiver {
-            session: [b' '; SESSION_SIZE],
+            session: kinds::BLANK,
             next: SequenceNumber(1),
             limit: MessageCount(1),
             ended: true,
@@ -84,13 +84,13 @@ fn smaller(a: u64, b: u64) -> u64
 
 impl Receiver {
     // The settings that a start takes: the smallest and largest number, the smallest and largest asking limit.
-    pub const LEAST_NUMBER: SequenceNumber = SequenceNumber(1);
+    pub const LEAST_NUMBER: SequenceNumber = kinds::LEAST_NUMBER;
 
     pub const LARGEST_NUMBER: SequenceNumber = kinds::LARGEST_NUMBER;
 
-    pub const LEAST_LIMIT: MessageCount = MessageCount(1);
+    pub const LEAST_LIMIT: MessageCount = kinds::LEAST_LIMIT;
 
-    pub const LARGEST_LIMIT: MessageCount = MessageCount(65534);
+    pub const LARGEST_LIMIT: MessageCount = kinds::LARGEST_LIMIT;
 
     // A fresh receiver, or the refusal 19.
     pub fn new(session: [u8; SESSION_SIZE], next: SequenceNumber, limit: MessageCount) -> Started

@@ -1,5 +1,11 @@
--- Bounds that both protocols share.
+-- Bounds that more than one crate names.
 use Prim.Native.Nat.{ℕ}
+use mathlib.Core.List.{List}
+use lib.ListN.{replicate}
+
+-- the smallest number that a message has
+abbrev pub leastNumber : ℕ
+leastNumber = 1
 
 -- the largest sequence number, 2^64 - 1
 abbrev pub largestNumber : ℕ
@@ -8,3 +14,14 @@ largestNumber = 18446744073709551615
 -- the bytes of a session name
 abbrev pub sessionSize : ℕ
 sessionSize = 10
+
+-- document 01's "blank": a name of ten spaces
+abbrev pub blank : List ℕ
+blank = replicate sessionSize 32
+
+-- the fewest and the most messages that one request may ask for
+abbrev pub leastLimit : ℕ
+leastLimit = 1
+
+abbrev pub largestLimit : ℕ
+largestLimit = 65534

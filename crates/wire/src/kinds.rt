@@ -9,8 +9,19 @@ pub struct MessageCount(pub u16);
 // A place in a slice of bytes, from 0.
 pub struct ByteOffset(pub usize);
 
+// The smallest number that a message has, and that a receiver starts at.
+pub const LEAST_NUMBER: SequenceNumber = SequenceNumber(1);
+
 // The largest sequence number, 2^64 - 1.
 pub const LARGEST_NUMBER: SequenceNumber = SequenceNumber(18446744073709551615);
 
+// The fewest and the most messages that one request may ask for.
+pub const LEAST_LIMIT: MessageCount = MessageCount(1);
+
+pub const LARGEST_LIMIT: MessageCount = MessageCount(65534);
+
 // Bytes of a session name.
 pub const SESSION_SIZE: usize = 10;
+
+// A blank name: ten spaces.
+pub const BLANK: [u8; SESSION_SIZE] = [b' '; SESSION_SIZE];

@@ -12,17 +12,19 @@ fn join16(a: u8, b: u8) -> u16
     (a as u16) * 256 + (b as u16)
 }
 
+fn join32(a: u16, b: u16) -> u64
+    ensures { λ r. ⌜ r ≡ a * 65536 + b ⌝ }
+{
+    (a as u64) * 65536 + (b as u64)
+}
+
+// Joined as a tree, two by two, which the compiler turns into one load of eight bytes.
 fn join64(a: u8, b: u8, c: u8, d: u8, e: u8, f: u8, g: u8, h: u8) -> u64
     ensures { λ r. ⌜ r ≡ ((((((a * 256 + b) * 256 + c) * 256 + d) * 256 + e) * 256 + f) * 256 + g) * 256 + h ⌝ }
 {
-    (a as u64) * 72057594037927936
-        + (b as u64) * 281474976710656
-        + (c as u64) * 1099511627776
-        + (d as u64) * 4294967296
-        + (e as u64) * 16777216
-        + (f as u64) * 65536
-        + (g as u64) * 256
-        + (h as u64)
+    let high = join32(join16(a, b), join16(c, d));
+    let low = join32(join16(e, f), join16(g, h));
+    high * 4294967296 + low
 }
 
 fn byte(s: &[u8], at: ByteOffset) -> u8

@@ -1,0 +1,3 @@
+// A capture read piece by piece, and whole: its settings, its records, and what it prints.
+pub mod reading;
+pub mod whole;

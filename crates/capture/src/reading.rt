@@ -1,0 +1,214 @@
+// A capture that comes in pieces. What is there is fed; the bytes that were not used are kept, and fed again in front of the next
+// piece.
+use capture_records::records;
+use capture_records::records::Front;
+use capture_settings::settings;
+use capture_tally::report::Report;
+use capture_text::report_text;
+use receiver::receiver::Receiver;
+use wire::kinds;
+use wire::kinds::MessageCount;
+use wire::kinds::SequenceNumber;
+use wire::output::Written;
+ghost use mathlib.Core.Path.{_≡_};
+ghost use lib.ListN.{length};
+ghost use Rattle.wire.specs.Output.{Writes};
+ghost use Rattle.capture.specs.Reading.{fed, startReading, takeOf, openOf, endOf, advanceOf, waits, isOver, feedOf, finishOf, textOf};
+ghost use Rattle.capture.specs.Whole.{CapturePromises};
+
+// What comes next of a capture: its settings, or records; or nothing, at its end or where its settings are refused.
+pub enum Stage {
+    Settings,
+    Records,
+    Done,
+    Refused,
+}
+
+// How far a capture was read.
+pub struct Reading {
+    pub stage: Stage,
+    pub report: Report,
+}
+
+// A reading after some bytes, and how many of them were used.
+pub struct Fed {
+    pub reading: Reading,
+    pub used: usize,
+}
+
+// The report after every whole record in front of some bytes, at most as many as are read, and how many bytes those take.
+fn take_records(start: Report, bytes: &[u8]) -> Fed
+    ensures { λ r. ⌜ r ≡ takeOf start (now (bytes .entry)) ⌝ }
+{
+    let mut report = start;
+    let mut rest = bytes;
+    let mut left = Report::MOST_RECORDS - start.records;
+    while 0 < left {
+        match records::read(rest) {
+            Front::Short => {
+                return Fed {
+                    reading: Reading {
+                        stage: Stage::Records,
+                        report: report,
+                    },
+                    used: bytes.len() - rest.len(),
+                };
+            }
+            Front::Whole { size } => {
+                report = report.step(&rest[records::LENGTH_SIZE..size]);
+                rest = &rest[size..];
+                left -= 1;
+            }
+        }
+    }
+    Fed {
+        reading: Reading {
+            stage: Stage::Records,
+            report: report,
+        },
+        used: bytes.len() - rest.len(),
+    }
+}
+
+// The settings in front, and the records after them. A report that had none stays, where the settings are bad.
+fn open(report: Report, bytes: &[u8]) -> Fed
+    ensures { λ r. ⌜ r ≡ openOf report (now (bytes .entry)) ⌝ }
+{
+    let opened = settings::read(bytes);
+    if opened.refusal.number != 0 {
+        return Fed {
+            reading: Reading {
+                stage: Stage::Refused,
+                report: report,
+            },
+            used: bytes.len(),
+        };
+    }
+    let settings = opened.settings;
+    let size = opened.size;
+    let session = settings.session;
+    let next = settings.next;
+    let limit = settings.limit;
+    let receiver = Receiver::new(session, next, limit).receiver;
+    let fed = take_records(Report::new(receiver), &bytes[size..]);
+    let reading = fed.reading;
+    Fed {
+        reading: reading,
+        used: size + fed.used,
+    }
+}
+
+// The report at the end of the input, where so many bytes are left.
+fn end(report: Report, left: usize) -> Report
+    ensures { λ r. ⌜ r ≡ endOf report left ⌝ }
+{
+    if left == 0 {
+        return report;
+    }
+    report.cut()
+}
+
+impl Reading {
+    // Nothing read yet: the receiver is a refused one.
+    pub fn new() -> Reading
+        ensures { λ r. ⌜ r ≡ startReading ⌝ }
+    {
+        let refused = Receiver::new(kinds::BLANK, SequenceNumber(0), MessageCount(0)).receiver;
+        Reading {
+            stage: Stage::Settings,
+            report: Report::new(refused),
+        }
+    }
+
+    // What the bytes make of a reading, taken as enough to tell the settings.
+    fn advance(self, bytes: &[u8]) -> Fed
+        ensures { λ r. ⌜ r ≡ advanceOf self (now (bytes .entry)) ⌝ }
+    {
+        let report = self.report;
+        match self.stage {
+            Stage::Settings => open(report, bytes),
+            Stage::Records => take_records(report, bytes),
+            Stage::Done => self.pass(bytes),
+            Stage::Refused => self.pass(bytes),
+        }
+    }
+
+    // Bytes that change nothing: all are used.
+    fn pass(self, bytes: &[u8]) -> Fed
+        ensures { λ r. ⌜ r ≡ fed self (length (now (bytes .entry))) ⌝ }
+    {
+        Fed {
+            reading: self,
+            used: bytes.len(),
+        }
+    }
+
+    // Whether the settings may still be longer than so many bytes.
+    fn waits(self, size: usize) -> bool
+        ensures { λ r. ⌜ r ≡ waits (self .stage) size ⌝ }
+    {
+        match self.stage {
+            Stage::Settings => size < settings::LONGEST,
+            Stage::Records => false,
+            Stage::Done => false,
+            Stage::Refused => false,
+        }
+    }
+
+    // Whether nothing that follows changes it.
+    pub fn is_over(self) -> bool
+        ensures { λ r. ⌜ r ≡ isOver (self .stage) ⌝ }
+    {
+        match self.stage {
+            Stage::Settings => false,
+            Stage::Records => false,
+            Stage::Done => true,
+            Stage::Refused => true,
+        }
+    }
+
+    // Feeds some bytes, after which more may come.
+    pub fn feed(self, bytes: &[u8]) -> Fed
+        ensures { λ r. ⌜ r ≡ feedOf self (now (bytes .entry)) ⌝ }
+        ensures promises { λ _. ⌜ CapturePromises ⌝ }
+    {
+        if self.waits(bytes.len()) {
+            return Fed {
+                reading: self,
+                used: 0,
+            };
+        }
+        self.advance(bytes)
+    }
+
+    // Feeds the last bytes: what is left of them is a record that is cut short, and counts as one refusal.
+    pub fn finish(self, bytes: &[u8]) -> Reading
+        ensures { λ r. ⌜ r ≡ finishOf self (now (bytes .entry)) ⌝ }
+    {
+        let fed = self.advance(bytes);
+        let reading = fed.reading;
+        let report = reading.report;
+        match reading.stage {
+            Stage::Settings => reading,
+            Stage::Records => Reading {
+                stage: Stage::Done,
+                report: end(report, bytes.len() - fed.used),
+            },
+            Stage::Done => reading,
+            Stage::Refused => reading,
+        }
+    }
+
+    // Writes what a reading prints: the report, or that the settings are refused, as they also are while none were read.
+    pub fn write(self, out: &mut [u8]) -> Written
+        ensures { λ r. ⌜ Writes r (now (out .entry)) (now (out .exit)) 0 0 (textOf self) ⌝ }
+    {
+        let report = self.report;
+        match self.stage {
+            Stage::Settings => report_text::write_refused(out),
+            Stage::Records => report_text::write_report(out, report),
+            Stage::Done => report_text::write_report(out, report),
+            Stage::Refused => report_text::write_refused(out),
+        }
+    }
+}

@@ -1,0 +1,136 @@
+-- The record in front, as the code has it, and the bytes that the records make.
+use mathlib.Core.Path.{_≡_, refl, ap, sym, _∙_}
+use mathlib.Core.List.{List, [], _∷_, _++_, append-assoc}
+use mathlib.Core.Bool.{Bool, true, false, not}
+use Prim.Native.Nat.{ℕ, zero, suc, _+_, _-_, _≤_, _<_}
+use native.Mathlib.Omega.{arith}
+use lib.ListN.{length, getD, take, drop, length-drop, take-append-drop}
+use lib.Seq.{getD-drop, length-take-le, drop-drop}
+use lib.Dec.{ltb}
+use borrow.Author.Tests.{lt-ltb, le-ltb, ltb-true, ltb-false}
+use Rattle.wire.specs.Choice.{if_then_else_}
+use Rattle.wire.specs.Words.{Words, Case, answer, refused, says, Injective}
+use Rattle.wire.specs.Bytes.{number, bytes, AreBytes}
+use Rattle.wire.proofs.Words.{which-of, values-of, read-back}
+use Rattle.wire.proofs.Numbers.{bytes-number}
+use Rattle.capture_records.specs.declared.records.Front.{Front}
+use Rattle.capture_records.specs.declared.records.Front.the-variants.{Whole, Short}
+use Rattle.capture_records.specs.Records.{lengthSize, recordBytes, sizeOf, isWhole, datagramOf, Fronting, whole, short, frontWords, frontOf, datagramsOf, restOf, recordsBytes, RecordsMakeTheBytes, FrontPromises}
+
+-- ---- as the code of `read` has it
+
+module _ (l : List ℕ) where
+  stub : length l < 2 → isWhole l ≡ false
+  unfolding isWhole
+  stub h = simp (lt-ltb _ _ h)
+
+  cut : (k : ℕ) → 2 ≤ length l → k ≡ number l 0 2 → length l < k + 2 → isWhole l ≡ false
+  unfolding isWhole sizeOf
+  cut k h e f = let g : length l < number l 0 2 + 2 = omega arith in simp (le-ltb _ _ h, lt-ltb _ _ g)
+
+  there : (k : ℕ) → 2 ≤ length l → k ≡ number l 0 2 → k + 2 ≤ length l → isWhole l ≡ true
+  unfolding isWhole sizeOf
+  there k h e f = let g : number l 0 2 + 2 ≤ length l = omega arith in simp (le-ltb _ _ h, le-ltb _ _ g)
+
+  front-short : isWhole l ≡ false → frontWords Short ≡ frontOf l
+  unfolding frontWords frontOf
+  front-short e = simp e
+
+  pub read-stub : length l < 2 → frontWords Short ≡ frontOf l
+  read-stub h = front-short (stub h)
+
+  pub read-cut : (k : ℕ) → 2 ≤ length l → k ≡ number l 0 2 → length l < k + 2 → frontWords Short ≡ frontOf l
+  read-cut k h e f = front-short (cut k h e f)
+
+  pub read-whole : (k : ℕ) → 2 ≤ length l → k ≡ number l 0 2 → k + 2 ≤ length l → frontWords (Whole (k + 2)) ≡ frontOf l
+  unfolding frontWords frontOf sizeOf
+  read-whole k h e f = simp (there k h e f, ← e)
+
+-- ---- as a caller has it
+
+-- a whole record lies within the bytes
+pub record Within (l : List ℕ) : Type 0 where
+  pub least : 2 ≤ sizeOf l
+  pub most : sizeOf l ≤ length l
+
+pub whole-within : (l : List ℕ) → isWhole l ≡ true → Within l
+unfolding isWhole sizeOf
+whole-within l = go (ltb (length l) 2) (ltb (length l) (number l 0 2 + 2)) refl
+  where
+    go : (a b : Bool) → ltb (length l) (number l 0 2 + 2) ≡ b → if a then false else not b ≡ true → Within l
+    go false false p e = record { least = omega arith; most = ltb-false _ _ p }
+    go false true p e = let z : _≡_ {A = ℕ} 0 1 = cc in absurd (omega arith)
+    go true b p e = let z : _≡_ {A = ℕ} 0 1 = cc in absurd (omega arith)
+
+-- what the words say
+pub said-short : (l : List ℕ) → frontWords Short ≡ frontOf l → isWhole l ≡ false
+unfolding frontWords frontOf
+said-short l = go (isWhole l)
+  where
+    go : (b : Bool) → says short [] ≡ if b then says whole (sizeOf l ∷ []) else says short [] → b ≡ false
+    go false e = refl
+    go true e = let w = which-of e in let z : _≡_ {A = ℕ} 0 1 = cc in absurd (omega arith)
+
+pub record IsFront (l : List ℕ) (k : ℕ) : Type 0 where
+  pub all : isWhole l ≡ true
+  pub size : k ≡ sizeOf l
+
+pub said-whole : (l : List ℕ) (k : ℕ) → frontWords (Whole k) ≡ frontOf l → IsFront l k
+unfolding frontWords frontOf
+said-whole l k = go (isWhole l) refl
+  where
+    go : (b : Bool) → isWhole l ≡ b → says whole (k ∷ []) ≡ if b then says whole (sizeOf l ∷ []) else says short [] → IsFront l k
+    go true p e = record { all = p; size = ap (λ (vs : List ℕ). getD vs 0 0) (values-of e) }
+    go false p e = let w = which-of e in let z : _≡_ {A = ℕ} 0 1 = cc in absurd (omega arith)
+
+-- ---- the bytes that the records make
+
+bytes-drop : (k : ℕ) (l : List ℕ) → AreBytes l → AreBytes (drop k l)
+bytes-drop k l small i = rw (getD-drop k l i 0) (small (k + i))
+
+one-record : (l : List ℕ) → AreBytes l → isWhole l ≡ true → recordBytes (datagramOf l) ++ drop (sizeOf l) l ≡ l
+unfolding sizeOf
+one-record l small w =
+    let i = whole-within l w in
+    let m : number l 0 2 + 2 ≤ length l = i .most in
+    let s : number l 0 2 + 2 - 2 ≡ number l 0 2 = omega arith in
+    let n : length (take (number l 0 2) (drop 2 l)) ≡ number l 0 2 = length-take-le (number l 0 2) (drop 2 l) (omega (arith, length-drop 2 l)) in
+    let b : bytes 2 (number l 0 2) ≡ take 2 l = bytes-number 2 l small (omega arith) in
+    let c : number l 0 2 + 2 ≡ 2 + number l 0 2 = omega arith in
+    let d : drop (number l 0 2 + 2) l ≡ drop (number l 0 2) (drop 2 l) = ap (λ (k : ℕ). drop k l) c ∙ sym (drop-drop (number l 0 2) 2 l) in
+    rw (s, n, b, d, append-assoc (take 2 l) (take (number l 0 2) (drop 2 l)) (drop (number l 0 2) (drop 2 l)), take-append-drop (number l 0 2) (drop 2 l))
+    (take-append-drop 2 l)
+
+make-bytes : (k : ℕ) (l : List ℕ) → AreBytes l → recordsBytes (datagramsOf k l) ++ restOf k l ≡ l
+unfolding datagramsOf restOf recordsBytes
+make-bytes zero l small = refl
+make-bytes (suc k) l small = go (isWhole l) refl (make-bytes k (drop (sizeOf l) l) (bytes-drop (sizeOf l) l small))
+  where
+    go : (b : Bool) → isWhole l ≡ b → recordsBytes (datagramsOf k (drop (sizeOf l) l)) ++ restOf k (drop (sizeOf l) l) ≡ drop (sizeOf l) l
+        → recordsBytes (if b then datagramOf l ∷ datagramsOf k (drop (sizeOf l) l) else []) ++ (if b then restOf k (drop (sizeOf l) l) else l) ≡ l
+    go false p i = refl
+    go true p i =
+        append-assoc (recordBytes (datagramOf l)) (recordsBytes (datagramsOf k (drop (sizeOf l) l))) (restOf k (drop (sizeOf l) l))
+        ∙ rw i (one-record l small p)
+
+make-the-bytes : RecordsMakeTheBytes
+unfolding RecordsMakeTheBytes
+make-the-bytes = make-bytes
+
+-- ---- the words tell all answers apart
+
+fronted : Case Fronting → List ℕ → Front
+fronted (answer whole) vs = Whole (getD vs 0 0)
+fronted (answer short) vs = Short
+fronted refused vs = Short
+
+tells-apart : Injective frontWords
+unfolding frontWords fronted
+tells-apart = read-back frontWords (λ w. fronted (w .which) (w .values)) back
+  where
+    back : (a : Front) → fronted (frontWords a .which) (frontWords a .values) ≡ a
+    back (Whole k) = refl
+    back Short = refl
+
+pub front-promises : FrontPromises
+front-promises = record { make-the-bytes = make-the-bytes; tells-apart = tells-apart }

@@ -1,0 +1,44 @@
+-- The five counts of a report.
+use Prim.Native.Nat.{ℕ, _+_}
+use mathlib.Core.List.{List}
+use mathlib.Core.Bool.{true, false}
+use lib.ListN.{getD}
+use lib.Dec.{ltb}
+use Rattle.wire.specs.Choice.{if_then_else_}
+use Rattle.wire.specs.Words.{Words, Case, answer, refused}
+use Rattle.receiver.specs.Table.{Reply, deliver, old, quiet, ask, ended}
+use Rattle.capture_tally.specs.declared.tally.Tally.{Tally}
+
+-- messages delivered; answers old, quiet and ask; refusals
+abbrev pub tally : ℕ → ℕ → ℕ → ℕ → ℕ → Tally
+tally d o q a r = record { delivered = d; old = o; quiet = q; asked = a; refused = r }
+
+-- what an answer adds to each count: a deliver answer its messages, the second of its values
+unfoldable pub partsIn : Case Reply → List ℕ → Tally
+partsIn (answer deliver) values = tally (getD values 1 0) 0 0 0 0
+partsIn (answer old) values = tally 0 1 0 0 0
+partsIn (answer quiet) values = tally 0 0 1 0 0
+partsIn (answer ask) values = tally 0 0 0 1 0
+partsIn (answer ended) values = tally 0 0 0 0 0
+partsIn refused values = tally 0 0 0 0 1
+
+abbrev pub partsOf : Words Reply → Tally
+partsOf w = partsIn (w .which) (w .values)
+
+-- what a record that is cut short adds: one refusal
+abbrev pub cutParts : Tally
+cutParts = tally 0 0 0 0 1
+
+-- the largest count, 2^64 - 1
+abbrev pub largest : ℕ
+largest = 18446744073709551615
+
+-- a sum, capped at the largest count
+unfoldable pub upTo : ℕ → ℕ → ℕ
+upTo a b = if ltb largest (a + b) then largest else a + b
+
+-- two tallies together
+abbrev pub plusOf : Tally → Tally → Tally
+plusOf x y =
+    tally (upTo (x .delivered) (y .delivered)) (upTo (x .old) (y .old)) (upTo (x .quiet) (y .quiet)) (upTo (x .asked) (y .asked))
+    (upTo (x .refused) (y .refused))

@@ -1,0 +1,91 @@
+-- The report as text: every line ends with a line feed.
+use Prim.Native.Nat.{ℕ, _+_, _≤_}
+use mathlib.Core.List.{List, [], _∷_, _++_}
+use mathlib.Core.Bool.{Bool, true, false}
+use mathlib.Core.Path.{_≡_}
+use lib.ListN.{length}
+use Rattle.wire.specs.Output.{put}
+use Rattle.decimal.specs.Decimal.{digits}
+use Rattle.receiver.specs.declared.receiver.Receiver.{Receiver}
+use Rattle.capture_tally.specs.declared.tally.Tally.{Tally}
+use Rattle.capture_tally.specs.declared.report.Report.{Report}
+use Rattle.capture_settings.specs.Settings.{sessionKey, nextKey}
+use Rattle.capture_settings.specs.Statements.{line}
+
+-- ---- the lines
+
+-- a line with a number, without leading zeros
+unfoldable pub numberLine : List ℕ → ℕ → List ℕ
+numberLine key n = line key (digits n)
+
+-- the line with the name of the session
+unfoldable pub sessionLine : List ℕ → List ℕ
+sessionLine name = line sessionKey name
+
+-- `ended=`, `yes` and `no`
+abbrev pub endedKey : List ℕ
+endedKey = 101 ∷ 110 ∷ 100 ∷ 101 ∷ 100 ∷ 61 ∷ []
+
+abbrev pub yes : List ℕ
+yes = 121 ∷ 101 ∷ 115 ∷ []
+
+abbrev pub no : List ℕ
+no = 110 ∷ 111 ∷ []
+
+unfoldable pub endedLine : Bool → List ℕ
+endedLine true = line endedKey yes
+endedLine false = line endedKey no
+
+-- `delivered=`, `old=`, `quiet=`, `asked=`, `refused=`
+abbrev pub deliveredKey : List ℕ
+deliveredKey = 100 ∷ 101 ∷ 108 ∷ 105 ∷ 118 ∷ 101 ∷ 114 ∷ 101 ∷ 100 ∷ 61 ∷ []
+
+abbrev pub oldKey : List ℕ
+oldKey = 111 ∷ 108 ∷ 100 ∷ 61 ∷ []
+
+abbrev pub quietKey : List ℕ
+quietKey = 113 ∷ 117 ∷ 105 ∷ 101 ∷ 116 ∷ 61 ∷ []
+
+abbrev pub askedKey : List ℕ
+askedKey = 97 ∷ 115 ∷ 107 ∷ 101 ∷ 100 ∷ 61 ∷ []
+
+abbrev pub refusedKey : List ℕ
+refusedKey = 114 ∷ 101 ∷ 102 ∷ 117 ∷ 115 ∷ 101 ∷ 100 ∷ 61 ∷ []
+
+-- ---- the text
+
+unfoldable pub receiverText : Receiver → List ℕ
+receiverText r = sessionLine (r .session) ++ numberLine nextKey (r .next .0) ++ endedLine (r .ended)
+
+unfoldable pub tallyText : Tally → List ℕ
+tallyText t =
+    numberLine deliveredKey (t .delivered)
+    ++ numberLine oldKey (t .old)
+    ++ numberLine quietKey (t .quiet)
+    ++ numberLine askedKey (t .asked)
+    ++ numberLine refusedKey (t .refused)
+
+unfoldable pub reportText : Report → List ℕ
+reportText x = receiverText (x .receiver) ++ tallyText (x .tally)
+
+-- `settings=refused`
+abbrev pub settingsKey : List ℕ
+settingsKey = 115 ∷ 101 ∷ 116 ∷ 116 ∷ 105 ∷ 110 ∷ 103 ∷ 115 ∷ 61 ∷ []
+
+abbrev pub refusedWord : List ℕ
+refusedWord = 114 ∷ 101 ∷ 102 ∷ 117 ∷ 115 ∷ 101 ∷ 100 ∷ []
+
+unfoldable pub refusedText : List ℕ
+refusedText = line settingsKey refusedWord
+
+-- the bytes that are room enough for any report
+abbrev pub room : ℕ
+room = 256
+
+-- ---- laying it, part by part
+
+-- bs was laid at a place of l, which gave m; the next place follows it, and it is no longer than most
+pub record Lays (next : ℕ) (l m : List ℕ) (at : ℕ) (bs : List ℕ) (most : ℕ) : Type 0 where
+  pub place : next ≡ at + length bs
+  pub bytes : m ≡ put l at bs
+  pub within : length bs ≤ most

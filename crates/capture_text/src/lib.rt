@@ -1,0 +1,3 @@
+// The report of a capture as text, laid at the front of a lent output.
+mod lines;
+pub mod report_text;

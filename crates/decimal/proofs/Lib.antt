@@ -1,0 +1,3 @@
+pub mod SpellLaws
+pub mod DigitLaws
+pub mod Rules

@@ -1,0 +1,3 @@
+// Decimal numbers as text: a digit read on to a number, and a number laid into a lent output without leading zeros.
+pub mod reading;
+pub mod writing;
