@@ -1,2 +1,3 @@
 pub mod RecordLaws
+pub mod BufferLaws
 pub mod Rules

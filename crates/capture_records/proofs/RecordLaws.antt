@@ -1,21 +1,21 @@
 -- The record in front, as the code has it, and the bytes that the records make.
 use mathlib.Core.Path.{_≡_, refl, ap, sym, _∙_}
-use mathlib.Core.List.{List, [], _∷_, _++_, append-assoc}
+use mathlib.Core.List.{List, [], _∷_, _++_, append-assoc, List·Memᴰ·head, List·Memᴰ·tail}
 use mathlib.Core.Bool.{Bool, true, false, not}
 use Prim.Native.Nat.{ℕ, zero, suc, _+_, _-_, _≤_, _<_}
 use native.Mathlib.Omega.{arith}
-use lib.ListN.{length, getD, take, drop, length-drop, take-append-drop}
-use lib.Seq.{getD-drop, length-take-le, drop-drop}
+use lib.ListN.{length, getD, take, drop, length-append, length-drop, take-append-drop}
+use lib.Seq.{getD-drop, length-take-le, drop-drop, take-at, drop-at}
 use lib.Dec.{ltb}
 use borrow.Author.Tests.{lt-ltb, le-ltb, ltb-true, ltb-false}
 use Rattle.wire.specs.Choice.{if_then_else_}
 use Rattle.wire.specs.Words.{Words, Case, answer, refused, says, Injective}
 use Rattle.wire.specs.Bytes.{number, bytes, AreBytes}
 use Rattle.wire.proofs.Words.{which-of, values-of, read-back}
-use Rattle.wire.proofs.Numbers.{bytes-number}
+use Rattle.wire.proofs.Numbers.{bytes-number, number-bytes, length-bytes}
 use Rattle.capture_records.specs.declared.records.Front.{Front}
 use Rattle.capture_records.specs.declared.records.Front.the-variants.{Whole, Short}
-use Rattle.capture_records.specs.Records.{lengthSize, recordBytes, sizeOf, isWhole, datagramOf, Fronting, whole, short, frontWords, frontOf, datagramsOf, restOf, recordsBytes, RecordsMakeTheBytes, FrontPromises}
+use Rattle.capture_records.specs.Records.{lengthSize, recordBytes, sizeOf, isWhole, datagramOf, Fronting, whole, short, frontWords, frontOf, datagramsOf, restOf, recordsBytes, RecordsMakeTheBytes, largestLength, AllHeld, RecordsReadBack, RecordPromises}
 
 -- ---- as the code of `read` has it
 
@@ -132,5 +132,72 @@ tells-apart = read-back frontWords (λ w. fronted (w .which) (w .values)) back
     back (Whole k) = refl
     back Short = refl
 
-pub front-promises : FrontPromises
-front-promises = record { make-the-bytes = make-the-bytes; tells-apart = tells-apart }
+-- ---- records that were made are read
+
+-- the length in front of a datagram, whatever follows
+front-number : (d rest : List ℕ) → length d ≤ largestLength → number (recordBytes d ++ rest) 0 2 ≡ length d
+front-number d rest h = rw (append-assoc (bytes 2 (length d)) d rest) (number-bytes 2 (length d) (omega arith) [] (d ++ rest))
+
+-- so the record in front is that of the datagram
+pub record Reads (d rest : List ℕ) : Type 0 where
+  pub all : isWhole (recordBytes d ++ rest) ≡ true
+  pub its-datagram : datagramOf (recordBytes d ++ rest) ≡ d
+  pub after-it : drop (sizeOf (recordBytes d ++ rest)) (recordBytes d ++ rest) ≡ rest
+
+reads-record : (d rest : List ℕ) → length d ≤ largestLength → Reads d rest
+unfolding sizeOf
+reads-record d rest h =
+    let n = front-number d rest h in
+    let b = length-bytes 2 (length d) in
+    let r : length (recordBytes d) ≡ 2 + length d = length-append (bytes 2 (length d)) d ∙ ap (λ (k : ℕ). k + length d) b in
+    let t = length-append (recordBytes d) rest in
+    let s : length d + 2 ≡ length (recordBytes d) = omega arith in
+    let m : length d + 2 - 2 ≡ length d = omega arith in
+    let a : recordBytes d ++ rest ≡ bytes 2 (length d) ++ (d ++ rest) = append-assoc (bytes 2 (length d)) d rest in
+    let e : drop 2 (recordBytes d ++ rest) ≡ d ++ rest = rw a (drop-at (bytes 2 (length d)) (d ++ rest) 2 b) in
+    record {
+      all = there (recordBytes d ++ rest) (length d) (omega arith) (sym n) (omega arith);
+      its-datagram = rw (n, m, e) (take-at d rest (length d) refl);
+      after-it = rw (n, s) (drop-at (recordBytes d) rest (length (recordBytes d)) refl);
+    }
+
+module _ (rest : List ℕ) (w : isWhole rest ≡ false) where
+  datagrams-none : (k : ℕ) → datagramsOf k rest ≡ []
+  unfolding datagramsOf
+  datagrams-none zero = refl
+  datagrams-none (suc k) = simp w
+
+  left-none : (k : ℕ) → restOf k rest ≡ rest
+  unfolding restOf
+  left-none zero = refl
+  left-none (suc k) = simp w
+
+  datagrams-made : (ds : List (List ℕ)) (k : ℕ) → AllHeld ds → length ds ≤ k → datagramsOf k (recordsBytes ds ++ rest) ≡ ds
+  unfolding datagramsOf recordsBytes AllHeld
+  datagrams-made [] k held h = datagrams-none k
+  datagrams-made (d ∷ ds) zero held h = absurd (omega arith)
+  datagrams-made (d ∷ ds) (suc k) held h =
+      let r = reads-record d (recordsBytes ds ++ rest) (held d (List·Memᴰ·head refl)) in
+      let i = datagrams-made ds k (λ e m. held e (List·Memᴰ·tail m)) (omega arith) in
+      rw (append-assoc (recordBytes d) (recordsBytes ds) rest, r .all, r .its-datagram, r .after-it, i)
+
+  left-made : (ds : List (List ℕ)) (k : ℕ) → AllHeld ds → length ds ≤ k → restOf k (recordsBytes ds ++ rest) ≡ rest
+  unfolding restOf recordsBytes AllHeld
+  left-made [] k held h = left-none k
+  left-made (d ∷ ds) zero held h = absurd (omega arith)
+  left-made (d ∷ ds) (suc k) held h =
+      let r = reads-record d (recordsBytes ds ++ rest) (held d (List·Memᴰ·head refl)) in
+      let i = left-made ds k (λ e m. held e (List·Memᴰ·tail m)) (omega arith) in
+      rw (append-assoc (recordBytes d) (recordsBytes ds) rest, r .all, r .after-it, i)
+
+pub record-promises : RecordPromises
+record-promises =
+    record {
+      make-the-bytes = make-the-bytes;
+      read-back =
+          record {
+            datagrams = λ ds rest k held w h. datagrams-made rest w ds k held h;
+            left = λ ds rest k held w h. left-made rest w ds k held h;
+          };
+      tells-apart = tells-apart;
+    }

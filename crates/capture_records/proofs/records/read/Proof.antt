@@ -1,3 +1,4 @@
+-- The two tests are those of the definition, on the length that the code reads.
 use Rattle.capture_records.proofs.Rules.{fronts}
 use Rattle.capture_records.proofs.records.read.Statement.{statement}
 use Rattle.capture_records.proofs.records.read.Tie as tie
