@@ -124,8 +124,9 @@ impl Reading {
     fn advance(self, bytes: &[u8]) -> Fed
         ensures { λ r. ⌜ r ≡ advanceOf self (now (bytes .entry)) ⌝ }
     {
+        let stage = self.stage;
         let report = self.report;
-        match self.stage {
+        match stage {
             Stage::Settings => open(report, bytes),
             Stage::Records => take_records(report, bytes),
             Stage::Done => self.pass(bytes),
@@ -147,7 +148,8 @@ impl Reading {
     fn waits(self, size: usize) -> bool
         ensures { λ r. ⌜ r ≡ waits (self .stage) size ⌝ }
     {
-        match self.stage {
+        let stage = self.stage;
+        match stage {
             Stage::Settings => size < settings::LONGEST,
             Stage::Records => false,
             Stage::Done => false,
@@ -159,7 +161,8 @@ impl Reading {
     pub fn is_over(self) -> bool
         ensures { λ r. ⌜ r ≡ isOver (self .stage) ⌝ }
     {
-        match self.stage {
+        let stage = self.stage;
+        match stage {
             Stage::Settings => false,
             Stage::Records => false,
             Stage::Done => true,
@@ -187,8 +190,9 @@ impl Reading {
     {
         let fed = self.advance(bytes);
         let reading = fed.reading;
+        let stage = reading.stage;
         let report = reading.report;
-        match reading.stage {
+        match stage {
             Stage::Settings => reading,
             Stage::Records => Reading {
                 stage: Stage::Done,
@@ -203,8 +207,9 @@ impl Reading {
     pub fn write(self, out: &mut [u8]) -> Written
         ensures { λ r. ⌜ Writes r (now (out .entry)) (now (out .exit)) 0 0 (textOf self) ⌝ }
     {
+        let stage = self.stage;
         let report = self.report;
-        match self.stage {
+        match stage {
             Stage::Settings => report_text::write_refused(out),
             Stage::Records => report_text::write_report(out, report),
             Stage::Done => report_text::write_report(out, report),

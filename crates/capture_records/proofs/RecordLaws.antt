@@ -12,7 +12,7 @@ use Rattle.wire.specs.Choice.{if_then_else_}
 use Rattle.wire.specs.Words.{Words, Case, answer, refused, says, Injective}
 use Rattle.wire.specs.Bytes.{number, bytes, AreBytes}
 use Rattle.wire.proofs.Words.{which-of, values-of, read-back}
-use Rattle.wire.proofs.Numbers.{bytes-number, number-bytes, length-bytes}
+use Rattle.wire.proofs.Numbers.{bytes-number, number-bytes, length-bytes, small-number}
 use Rattle.capture_records.specs.declared.records.Front.{Front}
 use Rattle.capture_records.specs.declared.records.Front.the-variants.{Whole, Short}
 use Rattle.capture_records.specs.Records.{lengthSize, recordBytes, sizeOf, isWhole, datagramOf, Fronting, whole, short, frontWords, frontOf, datagramsOf, restOf, recordsBytes, RecordsMakeTheBytes, largestLength, AllHeld, RecordsReadBack, RecordPromises}
@@ -28,9 +28,9 @@ module _ (l : List ℕ) where
   unfolding isWhole sizeOf
   cut k h e f = let g : length l < number l 0 2 + 2 = omega arith in simp (le-ltb _ _ h, lt-ltb _ _ g)
 
-  there : (k : ℕ) → 2 ≤ length l → k ≡ number l 0 2 → k + 2 ≤ length l → isWhole l ≡ true
+  pub whole-there : (k : ℕ) → 2 ≤ length l → k ≡ number l 0 2 → k + 2 ≤ length l → isWhole l ≡ true
   unfolding isWhole sizeOf
-  there k h e f = let g : number l 0 2 + 2 ≤ length l = omega arith in simp (le-ltb _ _ h, le-ltb _ _ g)
+  whole-there k h e f = let g : number l 0 2 + 2 ≤ length l = omega arith in simp (le-ltb _ _ h, le-ltb _ _ g)
 
   front-short : isWhole l ≡ false → frontWords Short ≡ frontOf l
   unfolding frontWords frontOf
@@ -44,7 +44,7 @@ module _ (l : List ℕ) where
 
   pub read-whole : (k : ℕ) → 2 ≤ length l → k ≡ number l 0 2 → k + 2 ≤ length l → frontWords (Whole (k + 2)) ≡ frontOf l
   unfolding frontWords frontOf sizeOf
-  read-whole k h e f = simp (there k h e f, ← e)
+  read-whole k h e f = simp (whole-there k h e f, ← e)
 
 -- ---- as a caller has it
 
@@ -61,6 +61,16 @@ whole-within l = go (ltb (length l) 2) (ltb (length l) (number l 0 2 + 2)) refl
     go false false p e = record { least = omega arith; most = ltb-false _ _ p }
     go false true p e = let z : _≡_ {A = ℕ} 0 1 = cc in absurd (omega arith)
     go true b p e = let z : _≡_ {A = ℕ} 0 1 = cc in absurd (omega arith)
+
+-- less than a whole record is at most all but its last byte
+pub short-length : (l : List ℕ) → AreBytes l → isWhole l ≡ false → length l ≤ 65536
+unfolding isWhole sizeOf
+short-length l small = go (ltb (length l) 2) (ltb (length l) (number l 0 2 + 2)) refl refl
+  where
+    go : (a b : Bool) → ltb (length l) 2 ≡ a → ltb (length l) (number l 0 2 + 2) ≡ b → if a then false else not b ≡ false → length l ≤ 65536
+    go true b p q e = let h : length l < 2 = ltb-true _ _ p in omega arith
+    go false true p q e = let h : length l < number l 0 2 + 2 = ltb-true _ _ q in let n = small-number 2 l 0 small in omega arith
+    go false false p q e = let z : _≡_ {A = ℕ} 0 1 = cc in absurd (omega arith)
 
 -- what the words say
 pub said-short : (l : List ℕ) → frontWords Short ≡ frontOf l → isWhole l ≡ false
@@ -85,7 +95,7 @@ said-whole l k = go (isWhole l) refl
 
 -- ---- the bytes that the records make
 
-bytes-drop : (k : ℕ) (l : List ℕ) → AreBytes l → AreBytes (drop k l)
+pub bytes-drop : (k : ℕ) (l : List ℕ) → AreBytes l → AreBytes (drop k l)
 bytes-drop k l small i = rw (getD-drop k l i 0) (small (k + i))
 
 one-record : (l : List ℕ) → AreBytes l → isWhole l ≡ true → recordBytes (datagramOf l) ++ drop (sizeOf l) l ≡ l
@@ -156,7 +166,7 @@ reads-record d rest h =
     let a : recordBytes d ++ rest ≡ bytes 2 (length d) ++ (d ++ rest) = append-assoc (bytes 2 (length d)) d rest in
     let e : drop 2 (recordBytes d ++ rest) ≡ d ++ rest = rw a (drop-at (bytes 2 (length d)) (d ++ rest) 2 b) in
     record {
-      all = there (recordBytes d ++ rest) (length d) (omega arith) (sym n) (omega arith);
+      all = whole-there (recordBytes d ++ rest) (length d) (omega arith) (sym n) (omega arith);
       its-datagram = rw (n, m, e) (take-at d rest (length d) refl);
       after-it = rw (n, s) (drop-at (recordBytes d) rest (length (recordBytes d)) refl);
     }

@@ -1,1 +1,4 @@
 pub mod TextLaws
+pub mod LineLaws
+pub mod SettingsLaws
+pub mod Rules

@@ -5,7 +5,7 @@ use Prim.Native.Nat.{ℕ, zero, suc, _+_, _*_, _/_, _%_, _-_, _^_, _≤_, _<_}
 use native.Mathlib.Omega.{arith}
 use native.Mathlib.Nat.{add-zero, zero-add, pow-suc}
 use native.Mathlib.Numerals.{add-one}
-use lib.ListN.{length, getD, take, drop, length-append, length-drop, List·getD-eq-default}
+use lib.ListN.{length, getD, take, drop, length-append, length-drop, List·getD-eq-default, List·getD-append}
 use lib.Seq.{getD-drop, take-all, getD-at, getD-append-add, take-suc}
 use Rattle.wire.specs.Bytes.{number, bytes, AreBytes}
 
@@ -27,6 +27,14 @@ number-drop k l at (suc n) =
     let f : k + (at + n) ≡ k + at + n = omega arith in
     let i = number-drop k l at n in
     rw (e, i, f)
+
+-- a number that is there stays where bytes follow
+pub number-append : (a b : List ℕ) (at n : ℕ) → at + n ≤ length a → number (a ++ b) at n ≡ number a at n
+unfolding number
+number-append a b at zero h = refl
+number-append a b at (suc n) h =
+    let i = number-append a b at n (omega arith) in
+    rw (i, List·getD-append a b 0 (at + n) (omega arith))
 
 -- the part from a place to the end is what is left
 pub part-to-end : (k : ℕ) (l : List ℕ) → take (length l - k) (drop k l) ≡ drop k l

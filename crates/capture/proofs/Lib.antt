@@ -1,0 +1,5 @@
+pub mod TakeLaws
+pub mod StageLaws
+pub mod PieceLaws
+pub mod WholeLaws
+pub mod Rules

@@ -1,0 +1,98 @@
+-- Laws of the report's text: its parts laid one after the other, and that it is the front of what they were laid in.
+use mathlib.Core.Path.{_≡_, ap, _∙_}
+use mathlib.Core.List.{List, _++_}
+use Prim.Native.Nat.{ℕ, _+_, _≤_}
+use native.Mathlib.Omega.{arith}
+use lib.ListN.{length, take, drop, length-append}
+use lib.Seq.{take-at}
+use Rattle.wire.specs.declared.output.Written.{Written}
+use Rattle.wire.specs.Output.{Writes}
+use Rattle.wire.proofs.Outputs.{put-room}
+use Rattle.receiver.specs.declared.receiver.Receiver.{Receiver}
+use Rattle.capture_tally.specs.declared.tally.Tally.{Tally}
+use Rattle.capture_tally.specs.declared.report.Report.{Report}
+use Rattle.capture_settings.specs.Settings.{nextKey}
+use Rattle.capture_settings.specs.Statements.{line}
+use Rattle.capture_text.specs.Text.{numberLine, sessionLine, endedLine, deliveredKey, oldKey, quietKey, askedKey, refusedKey, receiverText, tallyText, reportText, settingsKey, refusedWord, refusedText, room, Lays}
+use Rattle.capture_text.proofs.LineLaws.{then-laid, laid-within, number-length, session-length, ended-length}
+
+-- ---- the parts
+
+pub receiver-laid : (x : Receiver) (l m o p : List ℕ) (a b c : ℕ) → Lays a l m 0 (sessionLine (x .session)) 19
+    → Lays b m o a (numberLine nextKey (x .next .0)) 26 → Lays c o p b (endedLine (x .ended)) 10 → room ≤ length l
+    → Lays c l p 0 (receiverText x) 60
+unfolding receiverText
+receiver-laid x l m o p a b c u v w h =
+    let s = then-laid u v (omega arith) in
+    laid-within 60 (then-laid s w (omega arith)) (omega arith)
+
+pub tally-laid : (t : Tally) (l m o p q r : List ℕ) (at a b c d e : ℕ) → Lays a l m at (numberLine deliveredKey (t .delivered)) 31
+    → Lays b m o a (numberLine oldKey (t .old)) 25 → Lays c o p b (numberLine quietKey (t .quiet)) 27
+    → Lays d p q c (numberLine askedKey (t .asked)) 27 → Lays e q r d (numberLine refusedKey (t .refused)) 29 → at + 140 ≤ length l
+    → Lays e l r at (tallyText t) 140
+unfolding tallyText
+tally-laid t l m o p q r at a b c d e x₁ x₂ x₃ x₄ x₅ h =
+    let s₂ = then-laid x₁ x₂ (omega arith) in
+    let s₃ = then-laid s₂ x₃ (omega arith) in
+    let s₄ = then-laid s₃ x₄ (omega arith) in
+    laid-within 140 (then-laid s₄ x₅ (omega arith)) (omega arith)
+
+pub report-laid : (x : Report) (l m o : List ℕ) (a b : ℕ) → Lays a l m 0 (receiverText (x .receiver)) 60
+    → Lays b m o a (tallyText (x .tally)) 140 → room ≤ length l → Lays b l o 0 (reportText x) 200
+unfolding reportText
+report-laid x l m o a b u v h = then-laid u v (omega arith)
+
+-- ---- the whole, copied from the front of a text of its own: z is that text before, t after
+
+module _ (x : Report) (z t : List ℕ) (n : ℕ) (p : Lays n z t 0 (reportText x) 200) (h : room ≤ length z) where
+  report-front : take n t ≡ reportText x
+  report-front =
+      let g : 0 + length (reportText x) ≤ length z = omega (arith, p .within) in
+      let e : t ≡ reportText x ++ drop (0 + length (reportText x)) z = p .bytes ∙ put-room z 0 (reportText x) g in
+      let k : length (reportText x) ≡ n = omega (arith, p .place) in
+      rw e (take-at (reportText x) (drop (0 + length (reportText x)) z) n k)
+
+  pub report-there : n ≡ length (take n t)
+  report-there = let e = ap length report-front in omega (arith, p .place)
+
+  pub report-written : (r : Written) (l m : List ℕ) → Writes r l m 0 0 (take n t) → Writes r l m 0 0 (reportText x)
+  report-written r l m w = rw report-front at w
+
+pub refused-written : (r : Written) (l m : List ℕ) → Writes r l m 0 0 (line settingsKey refusedWord) → Writes r l m 0 0 refusedText
+unfolding refusedText
+refused-written r l m w = w
+
+-- ---- how long the texts are
+
+receiver-length : (x : Receiver) → length (x .session) ≡ 10 → length (receiverText x) ≤ 60
+unfolding receiverText
+receiver-length x h =
+    simp length-append
+    (omega (arith, session-length (x .session) h, number-length nextKey (x .next .0), ended-length (x .ended)))
+
+tally-length : (t : Tally) → length (tallyText t) ≤ 140
+unfolding tallyText
+tally-length t =
+    simp length-append
+    (omega (
+      arith,
+      number-length deliveredKey (t .delivered),
+      number-length oldKey (t .old),
+      number-length quietKey (t .quiet),
+      number-length askedKey (t .asked),
+      number-length refusedKey (t .refused),
+    ))
+
+pub report-fits : (x : Report) → length (x .receiver .session) ≡ 10 → length (reportText x) ≤ 200
+unfolding reportText
+report-fits x h =
+    omega (
+      arith,
+      length-append (receiverText (x .receiver)) (tallyText (x .tally)),
+      receiver-length (x .receiver) h,
+      tally-length (x .tally),
+    )
+
+pub refused-fits : length refusedText ≤ 200
+unfolding refusedText
+refused-fits = omega arith
