@@ -56,30 +56,29 @@ take-reading x l = refl
 
 -- ---- settings, by whether they are refused
 
-module _ (x : Report) (l : List ℕ) where
-  pub rest : List ℕ
-  rest = drop (readOf l .size) l
+-- the records after the settings of l, and the report that they go to
+abbrev pub afterSettings : List ℕ → List ℕ
+afterSettings l = drop (readOf l .size) l
 
-  pub started : Report
-  started = freshOf (startedOf (readOf l))
+abbrev pub freshFor : List ℕ → Report
+freshFor l = freshOf (startedOf (readOf l .settings))
 
 module _ (x : Report) (l : List ℕ) (z : readOf l .refusal .number ≡ 0) where
-  open-so : openOf x l ≡ fed (takeOf (started x l) (rest x l) .reading) (readOf l .size + takeOf (started x l) (rest x l) .used)
-  unfolding openOf rest started
+  open-so : openOf x l ≡ fed (takeOf (freshFor l) (afterSettings l) .reading) (readOf l .size + takeOf (freshFor l) (afterSettings l) .used)
+  unfolding openOf
   open-so = rw (eq-eqb _ _ z)
 
-  open-left : drop (openOf x l .used) l ≡ restOf (roomOf (started x l)) (rest x l)
-  unfolding rest
+  open-left : drop (openOf x l .used) l ≡ restOf (roomOf (freshFor l)) (afterSettings l)
   open-left =
-      rw open-so (sym (drop-drop (takeOf (started x l) (rest x l) .used) (readOf l .size) l) ∙ take-left (started x l) (drop (readOf l .size) l))
+      rw open-so (sym (drop-drop (takeOf (freshFor l) (afterSettings l) .used) (readOf l .size) l) ∙ take-left (freshFor l) (drop (readOf l .size) l))
 
-  pub end-opened : finishOf (reading Settings x) l ≡ recordsEnd (started x l) (rest x l)
-  unfolding finishOf advanceAt takeOf endAt rest
+  pub end-opened : finishOf (reading Settings x) l ≡ recordsEnd (freshFor l) (afterSettings l)
+  unfolding finishOf advanceAt takeOf endAt
   end-opened =
-      let w = is-part (roomOf (started x l)) (rest x l) .within in
+      let w = is-part (roomOf (freshFor l)) (afterSettings l) .within in
       let h = size-within l in
       let n = length-drop (readOf l .size) l in
-      let e : length l - (readOf l .size + (length (drop (readOf l .size) l) - length (restOf (roomOf (started x l)) (drop (readOf l .size) l)))) ≡ length (restOf (roomOf (started x l)) (drop (readOf l .size) l)) = omega arith in
+      let e : length l - (readOf l .size + (length (drop (readOf l .size) l) - length (restOf (roomOf (freshFor l)) (drop (readOf l .size) l)))) ≡ length (restOf (roomOf (freshFor l)) (drop (readOf l .size) l)) = omega arith in
       rw (open-so, e)
 
 module _ (x : Report) (l : List ℕ) (z : readOf l .refusal .number ≡ 0 → ⊥) where
@@ -123,9 +122,9 @@ module _ (x : Report) (l b : List ℕ) (h : longest ≤ length l) where
   same-read = settled l b h
 
   piece-open : readOf l .refusal .number ≡ 0 → Piece (reading Settings x) l b
-  unfolding Piece feedOf waits advanceAt rest started
+  unfolding Piece feedOf waits advanceAt
   piece-open z =
-      let y : Report = freshOf (startedOf (readOf l)) in
+      let y : Report = freshOf (startedOf (readOf l .settings)) in
       let m : List ℕ = drop (readOf l .size) l in
       let g : readOf (l ++ b) .refusal .number ≡ 0 = rw same-read z in
       let d : drop (readOf l .size) (l ++ b) ≡ drop (readOf l .size) l ++ b = drop-append-le (readOf l .size) l b (size-within l) in
@@ -181,9 +180,8 @@ record Little (f : Fed) (l : List ℕ) : Type 0 where
   keeps : AreBytes l → f .reading .report .records < mostRecords → length (drop (f .used) l) ≤ mostKept
 
 little-open : (x : Report) (l : List ℕ) → readOf l .refusal .number ≡ 0 → Little (openOf x l) l
-unfolding rest started
 little-open x l z =
-    let y : Report = freshOf (startedOf (readOf l)) in
+    let y : Report = freshOf (startedOf (readOf l .settings)) in
     let m : List ℕ = drop (readOf l .size) l in
     let r : openOf x l .reading ≡ reading Records (over y (datagramsOf (roomOf y) m)) = ap (λ (f : Fed). f .reading) (open-so x l z) ∙ take-reading y m in
     record {

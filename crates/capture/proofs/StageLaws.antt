@@ -2,7 +2,7 @@
 use mathlib.Core.Path.{_≡_, refl, ap, sym, _∙_}
 use mathlib.Core.List.{List}
 use mathlib.Core.Bool.{Bool, true, false}
-use Prim.Native.Nat.{ℕ, _+_, _-_, _≤_, _<_}
+use Prim.Native.Nat.{ℕ, _+_, _*_, _-_, _^_, _≤_, _<_}
 use native.Mathlib.Omega.{arith}
 use lib.ListN.{length, take, drop, length-drop}
 use lib.Dec.{ltb, eqb}
@@ -17,6 +17,7 @@ use Rattle.wire.proofs.Numbers.{part-to-end}
 use Rattle.wire.proofs.Cases.{zero-or-not}
 use Rattle.receiver.specs.declared.receiver.Started.{Started}
 use Rattle.receiver.specs.Receiver.{startRefusal, startReceiver, refusedReceiver}
+use Rattle.capture_settings.specs.declared.settings.Settings as declared
 use Rattle.capture_settings.specs.declared.settings.Opened.{Opened}
 use Rattle.capture_settings.specs.Settings.{readOf}
 use Rattle.capture_settings.specs.Statements.{SizeWithin}
@@ -55,19 +56,24 @@ pub open-refused : (x : Report) (l : List ℕ) (o : Opened) → o ≡ readOf l �
 unfolding openOf
 open-refused x l o e z = rw (← e, ne-eqb _ _ z)
 
-module _ (x y : Report) (l : List ℕ) (o : Opened) (s : Started) (f : Fed) where
-  pub open-good : o ≡ readOf l → o .refusal .number ≡ 0 → s .receiver ≡ startReceiver (o .settings .session) (o .settings .next .0) (o .settings .limit .0)
-      → y ≡ freshOf (s .receiver) → f ≡ takeOf y (take (length l - o .size) (drop (o .size) l)) → fed (f .reading) (o .size + f .used) ≡ openOf x l
+pub start-fresh : (s : declared.Settings) (t : Started) (x : Report) → t .receiver ≡ startReceiver (s .session) (s .next .0) (s .limit .0)
+    → x ≡ freshOf (t .receiver) → x ≡ freshOf (startedOf s)
+start-fresh s t x e f = f ∙ ap freshOf e
+
+module _ (x y : Report) (l : List ℕ) (o : Opened) (f : Fed) where
+  pub open-good : o ≡ readOf l → o .refusal .number ≡ 0 → y ≡ freshOf (startedOf (o .settings))
+      → f ≡ takeOf y (take (length l - o .size) (drop (o .size) l)) → fed (f .reading) (o .size + f .used) ≡ openOf x l
   unfolding openOf
-  open-good e z r g t =
-      let u : f ≡ takeOf (freshOf (startedOf (readOf l))) (drop (readOf l .size) l) = t ∙ rw (part-to-end, g, r, e) in
+  open-good e z g t =
+      let u : f ≡ takeOf (freshOf (startedOf (readOf l .settings))) (drop (readOf l .size) l) = t ∙ rw (part-to-end, g, e) in
       rw (← e, eq-eqb _ _ z) (rw (u, e))
 
-  pub open-fits : o ≡ readOf l → f ≡ takeOf y (take (length l - o .size) (drop (o .size) l)) → Fits w64 (length l) → Fits w64 (o .size + f .used)
-  open-fits e t h =
-      let a = open-within l o e in
-      let b : f .used ≤ length (drop (o .size) l) = rw (t ∙ ap (takeOf y) (part-to-end (o .size) l)) (take-used y (drop (o .size) l)) in
-      record { fits = omega (arith, h .fits, length-drop (o .size) l) }
+pub open-fits : (y : Report) (l : List ℕ) (o : Opened) (f : Fed) → o ≡ readOf l → f ≡ takeOf y (take (length l - o .size) (drop (o .size) l))
+    → length l * 1 < 2 ^ 63 → Fits w64 (o .size + f .used)
+open-fits y l o f e t h =
+    let a = open-within l o e in
+    let b : f .used ≤ length (drop (o .size) l) = rw (t ∙ ap (takeOf y) (part-to-end (o .size) l)) (take-used y (drop (o .size) l)) in
+    record { fits = omega (arith, length-drop (o .size) l) }
 
 -- ---- the stages
 
@@ -144,11 +150,11 @@ unfolding openOf
 open-used x l = zero-or-not _ (readOf l .refusal .number) good bad
   where
     good : readOf l .refusal .number ≡ 0
-        → (if eqb (readOf l .refusal .number) 0 then fed (takeOf (freshOf (startedOf (readOf l))) (drop (readOf l .size) l) .reading) (readOf l .size + takeOf (freshOf (startedOf (readOf l))) (drop (readOf l .size) l) .used) else fed (reading Refused x) (length l)) .used ≤ length l
-    good z = rw (eq-eqb _ _ z) (omega (arith, size-within l, take-used (freshOf (startedOf (readOf l))) (drop (readOf l .size) l), length-drop (readOf l .size) l))
+        → (if eqb (readOf l .refusal .number) 0 then fed (takeOf (freshOf (startedOf (readOf l .settings))) (drop (readOf l .size) l) .reading) (readOf l .size + takeOf (freshOf (startedOf (readOf l .settings))) (drop (readOf l .size) l) .used) else fed (reading Refused x) (length l)) .used ≤ length l
+    good z = rw (eq-eqb _ _ z) (omega (arith, size-within l, take-used (freshOf (startedOf (readOf l .settings))) (drop (readOf l .size) l), length-drop (readOf l .size) l))
 
     bad : (readOf l .refusal .number ≡ 0 → ⊥)
-        → (if eqb (readOf l .refusal .number) 0 then fed (takeOf (freshOf (startedOf (readOf l))) (drop (readOf l .size) l) .reading) (readOf l .size + takeOf (freshOf (startedOf (readOf l))) (drop (readOf l .size) l) .used) else fed (reading Refused x) (length l)) .used ≤ length l
+        → (if eqb (readOf l .refusal .number) 0 then fed (takeOf (freshOf (startedOf (readOf l .settings))) (drop (readOf l .size) l) .reading) (readOf l .size + takeOf (freshOf (startedOf (readOf l .settings))) (drop (readOf l .size) l) .used) else fed (reading Refused x) (length l)) .used ≤ length l
     bad z = rw (ne-eqb _ _ z) (omega arith)
 
 used-at : (g : Stage) (x : Report) (l : List ℕ) → advanceAt g x l .used ≤ length l

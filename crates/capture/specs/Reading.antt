@@ -7,7 +7,7 @@ use lib.Dec.{ltb, eqb}
 use Rattle.wire.specs.Choice.{if_then_else_}
 use Rattle.receiver.specs.declared.receiver.Receiver.{Receiver}
 use Rattle.receiver.specs.Receiver.{startReceiver, refusedReceiver}
-use Rattle.capture_settings.specs.declared.settings.Opened.{Opened}
+use Rattle.capture_settings.specs.declared.settings.Settings as declared
 use Rattle.capture_settings.specs.Settings.{readOf}
 use Rattle.capture_settings.specs.Statements.{longest}
 use Rattle.capture_records.specs.Records.{mostRecords, datagramsOf, restOf}
@@ -42,15 +42,15 @@ takeOf x l = fed (reading Records (over x (datagramsOf (roomOf x) l))) (length l
 -- ---- settings, and then records
 
 -- the receiver that settings start
-abbrev pub startedOf : Opened → Receiver
-startedOf o = startReceiver (o .settings .session) (o .settings .next .0) (o .settings .limit .0)
+abbrev pub startedOf : declared.Settings → Receiver
+startedOf s = startReceiver (s .session) (s .next .0) (s .limit .0)
 
 -- settings that were read are passed, and the records after them taken; bad ones end the reading, whatever follows
 unfoldable pub openOf : Report → List ℕ → Fed
 openOf x l =
     if eqb (readOf l .refusal .number) 0
-    then fed (takeOf (freshOf (startedOf (readOf l))) (drop (readOf l .size) l) .reading)
-    (readOf l .size + takeOf (freshOf (startedOf (readOf l))) (drop (readOf l .size) l) .used)
+    then fed (takeOf (freshOf (startedOf (readOf l .settings))) (drop (readOf l .size) l) .reading)
+    (readOf l .size + takeOf (freshOf (startedOf (readOf l .settings))) (drop (readOf l .size) l) .used)
     else fed (reading Refused x) (length l)
 
 -- ---- a reading

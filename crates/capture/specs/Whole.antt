@@ -28,7 +28,7 @@ recordsReport r l = if isCut l then summedCut r (recordsOf l) else summed r (rec
 -- the settings start the receiver, and the records follow; bad settings are refused alone
 unfoldable pub captureOf : List ℕ → Reading
 captureOf l =
-    if eqb (readOf l .refusal .number) 0 then reading Done (recordsReport (startedOf (readOf l)) (drop (readOf l .size) l))
+    if eqb (readOf l .refusal .number) 0 then reading Done (recordsReport (startedOf (readOf l .settings)) (drop (readOf l .size) l))
     else reading Refused (freshOf refusedReceiver)
 
 -- what the capture program prints

@@ -3,6 +3,7 @@
 use capture_records::records;
 use capture_records::records::Front;
 use capture_settings::settings;
+use capture_settings::settings::Settings;
 use capture_tally::report::Report;
 use capture_text::report_text;
 use receiver::receiver::Receiver;
@@ -13,7 +14,8 @@ use wire::output::Written;
 ghost use mathlib.Core.Path.{_≡_};
 ghost use lib.ListN.{length};
 ghost use Rattle.wire.specs.Output.{Writes};
-ghost use Rattle.capture.specs.Reading.{fed, startReading, takeOf, openOf, endOf, advanceOf, waits, isOver, feedOf, finishOf, textOf};
+ghost use Rattle.capture_tally.specs.Report.{freshOf};
+ghost use Rattle.capture.specs.Reading.{fed, startReading, takeOf, startedOf, openOf, endOf, advanceOf, waits, isOver, feedOf, finishOf, textOf};
 ghost use Rattle.capture.specs.Whole.{CapturePromises};
 
 // What comes next of a capture: its settings, or records; or nothing, at its end or where its settings are refused.
@@ -70,6 +72,17 @@ fn take_records(start: Report, bytes: &[u8]) -> Fed
     }
 }
 
+// A report of no records yet, its receiver started by settings.
+fn fresh(settings: Settings) -> Report
+    ensures { λ r. ⌜ r ≡ freshOf (startedOf settings) ⌝ }
+{
+    let session = settings.session;
+    let next = settings.next;
+    let limit = settings.limit;
+    let receiver = Receiver::new(session, next, limit).receiver;
+    Report::new(receiver)
+}
+
 // The settings in front, and the records after them. A report that had none stays, where the settings are bad.
 fn open(report: Report, bytes: &[u8]) -> Fed
     ensures { λ r. ⌜ r ≡ openOf report (now (bytes .entry)) ⌝ }
@@ -86,11 +99,7 @@ fn open(report: Report, bytes: &[u8]) -> Fed
     }
     let settings = opened.settings;
     let size = opened.size;
-    let session = settings.session;
-    let next = settings.next;
-    let limit = settings.limit;
-    let receiver = Receiver::new(session, next, limit).receiver;
-    let fed = take_records(Report::new(receiver), &bytes[size..]);
+    let fed = take_records(fresh(settings), &bytes[size..]);
     let reading = fed.reading;
     Fed {
         reading: reading,

@@ -1,0 +1,22 @@
+-- The laws that the functions' proofs need, for `search`: one set for each task.
+use borrow.Author.Needs.{needs}
+use mathlib.Core.Path.{refl}
+use Rattle.capture.proofs.TakeLaws.{whole-least, whole-most, going-start, going-step, going-stop, going-most, going-shorter}
+use Rattle.capture.proofs.StageLaws.{start-reading, start-fresh, open-within, open-refused, open-good, open-fits, advance-settings, advance-records, advance-done, advance-refused, waits-settings, waits-records, waits-done, waits-refused, over-settings, over-records, over-done, over-refused, feed-waits, feed-advances, advance-used, end-none, end-cut, finish-settings, finish-records, finish-done, finish-refused, write-settings, write-records, write-done, write-refused}
+use Rattle.capture.proofs.WholeLaws.{capture-promises, whole-report}
+
+pub ruleset taking = (whole-least, whole-most, going-start, going-step, going-stop, going-most, going-shorter, needs)
+
+pub ruleset starting = (start-reading, start-fresh, needs)
+
+pub ruleset opening = (open-within, open-refused, open-good, open-fits, needs)
+
+pub ruleset advancing = (advance-settings, advance-records, advance-done, advance-refused, needs)
+
+pub ruleset telling = (waits-settings, waits-records, waits-done, waits-refused, over-settings, over-records, over-done, over-refused, needs)
+
+pub ruleset feeding = (feed-waits, feed-advances, capture-promises, needs)
+
+pub ruleset finishing = (advance-used, end-none, end-cut, finish-settings, finish-records, finish-done, finish-refused, needs)
+
+pub ruleset writing = (write-settings, write-records, write-done, write-refused, whole-report, needs)
