@@ -42,15 +42,19 @@ fn read_all(buf: &mut [u8]) -> Reading {
     reading.finish(&buf[..have])
 }
 
+// Prints the first bytes of a text.
+fn print_front(text: &[u8], size: usize) {
+    if size <= text.len() {
+        io::write_all(STDOUT_FILENO, &text[..size]);
+    }
+}
+
 // Prints what a capture came to.
 fn print(reading: Reading) {
     let mut text = [0u8; ROOM];
-    let size = match reading.write(&mut text) {
-        Written::Wrote { size } => size,
-        Written::Refused(_) => 0,
-    };
-    if size <= text.len() {
-        io::write_all(STDOUT_FILENO, &text[..size]);
+    match reading.write(&mut text) {
+        Written::Wrote { size } => print_front(&text, size),
+        Written::Refused(_) => {}
     }
 }
 
