@@ -10,6 +10,19 @@ def packet(number, *messages, session=ROOM, count=None, after=b""):
     return header(session, number, len(messages) if count is None else count) + blocks + after
 
 
+def heartbeat(number, session=ROOM):
+    return packet(number, session=session)
+
+
+def end(number, session=ROOM):
+    return packet(number, count=65535, session=session)
+
+
+def data_of(first, count, session=ROOM):
+    """Data whose messages tell their numbers."""
+    return packet(first, *(b"m%d" % (first + i) for i in range(count)), session=session)
+
+
 HEARTBEAT = packet(1)
 END = packet(6, count=65535)
 ONE = packet(1, b"a")

@@ -12,6 +12,9 @@ from vector_datagrams import (
     REFUSED,
     ROOM,
     TWO,
+    data_of,
+    end,
+    heartbeat,
     packet,
 )
 from vector_lines import Vectors, show_bytes, show_truth, show_written
@@ -107,19 +110,6 @@ def alone(name, number, limit, data, expected=""):
     heading(name)
     begin(number, limit)
     return take(data, expected)
-
-
-def heartbeat(number, session=ROOM):
-    return packet(number, session=session)
-
-
-def end(number, session=ROOM):
-    return packet(number, count=65535, session=session)
-
-
-def data_of(first, count, session=ROOM):
-    """Data whose messages tell their numbers."""
-    return packet(first, *(b"m%d" % (first + i) for i in range(count)), session=session)
 
 
 def starts():

@@ -1,19 +1,18 @@
 -- The pieces that a capture comes in don't matter: feeding some bytes, and then finishing with the rest, is finishing with all.
 use mathlib.Core.Path.{_≡_, refl, ap, sym, _∙_}
 use mathlib.Core.List.{List, [], _∷_, _++_, append-assoc, append-nil}
-use mathlib.Core.Bool.{Bool, true, false, true≢false}
+use mathlib.Core.Bool.{Bool, true, false}
 use Prim.Native.Nat.{ℕ, _+_, _-_, _≤_, _<_}
 use native.Mathlib.Omega.{arith}
-use lib.ListN.{length, drop, length-drop, length-append, drop-of-length-le}
+use lib.ListN.{length, drop, length-drop}
 use lib.Seq.{drop-append-le, drop-drop}
-use lib.Dec.{eqb}
 use borrow.Author.Tests.{lt-ltb, le-ltb, ltb-true, eq-eqb, ne-eqb}
 use Rattle.wire.specs.Bytes.{AreBytes}
 use Rattle.wire.proofs.Cases.{below-or-not, zero-or-not}
 use Rattle.capture_settings.specs.Settings.{readOf}
 use Rattle.capture_settings.specs.Statements.{longest, Settled}
 use Rattle.capture_settings.proofs.TextLaws.{settings-promises}
-use Rattle.capture_records.specs.Records.{mostRecords, isWhole, datagramsOf, restOf}
+use Rattle.capture_records.specs.Records.{mostRecords, datagramsOf, restOf}
 use Rattle.capture_records.proofs.RecordLaws.{short-length, bytes-drop}
 use Rattle.capture_tally.specs.declared.report.Report.{Report}
 use Rattle.capture_tally.specs.Report.{freshOf, over}

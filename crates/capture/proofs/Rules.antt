@@ -1,6 +1,5 @@
 -- The laws that the functions' proofs need, for `search`: one set for each task.
 use borrow.Author.Needs.{needs}
-use mathlib.Core.Path.{refl}
 use Rattle.capture.proofs.TakeLaws.{whole-least, whole-most, going-start, going-step, going-stop, going-most, going-shorter}
 use Rattle.capture.proofs.StageLaws.{start-reading, start-fresh, open-within, open-refused, open-good, open-fits, advance-settings, advance-records, advance-done, advance-refused, waits-settings, waits-records, waits-done, waits-refused, over-settings, over-records, over-done, over-refused, feed-waits, feed-advances, advance-used, end-none, end-cut, finish-settings, finish-records, finish-done, finish-refused, write-settings, write-records, write-done, write-refused}
 use Rattle.capture.proofs.WholeLaws.{capture-promises, whole-report}

@@ -1,5 +1,5 @@
 -- A reading by its stage, as the code has it.
-use mathlib.Core.Path.{_≡_, refl, ap, sym, _∙_}
+use mathlib.Core.Path.{_≡_, ap, sym, _∙_}
 use mathlib.Core.List.{List}
 use mathlib.Core.Bool.{Bool, true, false}
 use Prim.Native.Nat.{ℕ, _+_, _*_, _-_, _^_, _≤_, _<_}
@@ -8,7 +8,7 @@ use lib.ListN.{length, take, drop, length-drop}
 use lib.Dec.{ltb, eqb}
 use mir.Val.{Fits}
 use mir.Syntax.{w64}
-use borrow.Author.Tests.{eq-eqb, ne-eqb, eqb-true, eqb-false}
+use borrow.Author.Tests.{eq-eqb, ne-eqb}
 use Rattle.wire.specs.Choice.{if_then_else_}
 use Rattle.wire.specs.Bounds.{blank}
 use Rattle.wire.specs.Output.{Writes}
@@ -16,13 +16,12 @@ use Rattle.wire.specs.declared.output.Written.{Written}
 use Rattle.wire.proofs.Numbers.{part-to-end}
 use Rattle.wire.proofs.Cases.{zero-or-not}
 use Rattle.receiver.specs.declared.receiver.Started.{Started}
-use Rattle.receiver.specs.Receiver.{startRefusal, startReceiver, refusedReceiver}
+use Rattle.receiver.specs.Receiver.{startRefusal, startReceiver}
 use Rattle.capture_settings.specs.declared.settings.Settings as declared
 use Rattle.capture_settings.specs.declared.settings.Opened.{Opened}
 use Rattle.capture_settings.specs.Settings.{readOf}
 use Rattle.capture_settings.specs.Statements.{SizeWithin}
 use Rattle.capture_settings.proofs.TextLaws.{settings-promises}
-use Rattle.capture_records.specs.Records.{datagramsOf, restOf}
 use Rattle.capture_tally.specs.declared.report.Report.{Report}
 use Rattle.capture_tally.specs.Report.{freshOf, cutOf}
 use Rattle.capture_text.specs.Text.{reportText, refusedText}
@@ -31,7 +30,6 @@ use Rattle.capture.specs.declared.reading.Stage.the-variants.{Settings, 
 use Rattle.capture.specs.declared.reading.Reading.{Reading}
 use Rattle.capture.specs.declared.reading.Fed.{Fed}
 use Rattle.capture.specs.Reading.{reading, fed, startReading, takeOf, startedOf, openOf, advanceAt, advanceOf, waits, isOver, feedOf, endOf, endAt, finishOf, textAt, textOf}
-use Rattle.capture.proofs.TakeLaws.{is-part}
 
 -- ---- the start
 

@@ -5,7 +5,7 @@ use mathlib.Core.Bool.{Bool, true, false}
 use Prim.Native.Nat.{ℕ, zero, suc, _+_, _-_, _≤_, _<_}
 use native.Mathlib.Omega.{arith}
 use native.Mathlib.Numerals.{sub-one}
-use lib.ListN.{length, getD, take, drop, length-drop, length-append}
+use lib.ListN.{length, take, drop, length-drop, length-append}
 use lib.Seq.{take-append-le, drop-append-le, drop-drop}
 use lib.Dec.{leb}
 use borrow.Author.Tests.{leb-true, leb-false}
@@ -15,7 +15,7 @@ use Rattle.receiver.specs.Feed.{Datagram}
 use Rattle.capture_records.specs.declared.records.Front.{Front}
 use Rattle.capture_records.specs.declared.records.Front.the-variants.{Whole, Short}
 use Rattle.capture_records.specs.Records.{mostRecords, sizeOf, isWhole, datagramOf, frontWords, frontOf, datagramsOf, restOf}
-use Rattle.capture_records.proofs.RecordLaws.{Within, whole-within, IsFront, said-short, said-whole, whole-there}
+use Rattle.capture_records.proofs.RecordLaws.{whole-within, IsFront, said-short, said-whole, whole-there}
 use Rattle.capture_tally.specs.declared.report.Report.{Report}
 use Rattle.capture_tally.specs.Report.{stepOf, over}
 use Rattle.capture_tally.proofs.ReportLaws.{counted-more}

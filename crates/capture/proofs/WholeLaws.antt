@@ -2,37 +2,36 @@
 use mathlib.Core.Path.{_≡_, refl, ap, sym, _∙_}
 use mathlib.Core.List.{List, [], _∷_}
 use mathlib.Core.Bool.{Bool, true, false}
-use Prim.Native.Nat.{ℕ, zero, suc, _+_, _-_, _≤_, _<_}
+use Prim.Native.Nat.{ℕ, zero, suc, _-_, _≤_, _<_}
 use native.Mathlib.Omega.{arith}
 use lib.ListN.{length, drop}
 use borrow.Author.Tests.{lt-ltb, le-ltb, eq-eqb, ne-eqb}
 use Rattle.wire.specs.Choice.{if_then_else_}
-use Rattle.wire.specs.Bounds.{leastNumber, largestNumber, leastLimit, largestLimit, sessionSize}
 use Rattle.wire.specs.Output.{Writes}
 use Rattle.wire.specs.declared.output.Written.{Written}
 use Rattle.wire.proofs.Cases.{below-or-not, zero-or-not}
 use Rattle.receiver.specs.declared.receiver.Receiver.{Receiver}
-use Rattle.receiver.specs.Receiver.{startRefusal, startReceiver, receiverAfter, refusedReceiver, refusalFor, rowOf, moved}
+use Rattle.receiver.specs.Receiver.{startRefusal, startReceiver, receiverAfter, refusedReceiver, refusalFor}
 use Rattle.receiver.specs.Feed.{Datagram, after}
 use Rattle.receiver.specs.Condition3.{plain}
 use Rattle.receiver.proofs.TableLaws.{row-after, refused-stays}
 use Rattle.capture_settings.specs.Settings.{readOf}
 use Rattle.capture_settings.specs.Statements.{Good}
 use Rattle.capture_settings.proofs.TextLaws.{settings-promises}
-use Rattle.capture_records.specs.Records.{mostRecords, datagramsOf, restOf, recordsOf, isCut}
+use Rattle.capture_records.specs.Records.{mostRecords, restOf, recordsOf, isCut}
 use Rattle.capture_tally.specs.declared.report.Report.{Report}
-use Rattle.capture_tally.specs.Report.{freshOf, cutOf, over}
+use Rattle.capture_tally.specs.Report.{freshOf, over}
 use Rattle.capture_tally.specs.Sums.{summed, summedCut}
 use Rattle.capture_tally.proofs.ReportLaws.{cut-most}
 use Rattle.capture_tally.proofs.SumLaws.{sums}
-use Rattle.capture_text.specs.Text.{reportText, refusedText, room}
+use Rattle.capture_text.specs.Text.{room}
 use Rattle.capture_text.proofs.TextLaws.{report-fits, refused-fits}
-use Rattle.capture.specs.declared.reading.Stage.the-variants.{Settings, Done, Refused}
+use Rattle.capture.specs.declared.reading.Stage.the-variants.{Settings, Done}
 use Rattle.capture.specs.declared.reading.Reading.{Reading}
-use Rattle.capture.specs.Reading.{reading, startReading, startedOf, roomOf, endOf, finishOf, textAt, textOf}
-use Rattle.capture.specs.Whole.{recordsReport, captureOf, captureText, joined, byPieces, AnyCutting, StartTakesSettings, OverStays, FitsTheRoom, CapturePromises}
+use Rattle.capture.specs.Reading.{reading, startReading, startedOf, endOf, finishOf, textAt, textOf}
+use Rattle.capture.specs.Whole.{recordsReport, captureOf, captureText, joined, AnyCutting, StartTakesSettings, FitsTheRoom, CapturePromises}
 use Rattle.capture.proofs.TakeLaws.{few}
-use Rattle.capture.proofs.PieceLaws.{recordsEnd, end-opened, end-refused, all-pieces, keeps-little, over-stays}
+use Rattle.capture.proofs.PieceLaws.{end-opened, end-refused, all-pieces, keeps-little, over-stays}
 
 above : (n : ℕ) → (n ≡ 0 → ⊥) → 0 < n
 above zero z = absurd (z refl)

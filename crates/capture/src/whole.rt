@@ -8,5 +8,7 @@ ghost use Rattle.capture.specs.Whole.{captureText};
 pub fn report(capture: &[u8], out: &mut [u8]) -> Written
     ensures { λ r. ⌜ Writes r (now (out .entry)) (now (out .exit)) 0 0 (captureText (now (capture .entry))) ⌝ }
 {
-    Reading::new().finish(capture).write(out)
+    let start = Reading::new();
+    let end = start.finish(capture);
+    end.write(out)
 }

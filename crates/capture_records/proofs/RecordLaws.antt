@@ -9,13 +9,13 @@ use lib.Seq.{getD-drop, length-take-le, drop-drop, take-at, drop-at}
 use lib.Dec.{ltb}
 use borrow.Author.Tests.{lt-ltb, le-ltb, ltb-true, ltb-false}
 use Rattle.wire.specs.Choice.{if_then_else_}
-use Rattle.wire.specs.Words.{Words, Case, answer, refused, says, Injective}
+use Rattle.wire.specs.Words.{Case, answer, refused, says, Injective}
 use Rattle.wire.specs.Bytes.{number, bytes, AreBytes}
 use Rattle.wire.proofs.Words.{which-of, values-of, read-back}
 use Rattle.wire.proofs.Numbers.{bytes-number, number-bytes, length-bytes, small-number}
 use Rattle.capture_records.specs.declared.records.Front.{Front}
 use Rattle.capture_records.specs.declared.records.Front.the-variants.{Whole, Short}
-use Rattle.capture_records.specs.Records.{lengthSize, recordBytes, sizeOf, isWhole, datagramOf, Fronting, whole, short, frontWords, frontOf, datagramsOf, restOf, recordsBytes, RecordsMakeTheBytes, largestLength, AllHeld, RecordsReadBack, RecordPromises}
+use Rattle.capture_records.specs.Records.{recordBytes, sizeOf, isWhole, datagramOf, Fronting, whole, short, frontWords, frontOf, datagramsOf, restOf, recordsBytes, RecordsMakeTheBytes, largestLength, AllHeld, RecordPromises}
 
 -- ---- as the code of `read` has it
 

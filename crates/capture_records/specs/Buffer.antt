@@ -1,7 +1,6 @@
 -- The buffer of a program that reads piece by piece.
 use Prim.Native.Nat.{ℕ, _-_}
 use mathlib.Core.List.{List}
-use mathlib.Core.Bool.{true, false}
 use lib.ListN.{length, take, drop}
 use lib.Dec.{ltb}
 use Rattle.wire.specs.Choice.{if_then_else_}

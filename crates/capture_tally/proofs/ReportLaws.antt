@@ -1,12 +1,10 @@
 -- One more record, as the code has it.
-use mathlib.Core.Path.{_≡_, refl, ap, _∙_}
-use mathlib.Core.List.{List}
-use Prim.Native.Nat.{ℕ, _+_}
+use mathlib.Core.Path.{_≡_, ap, _∙_}
+use Prim.Native.Nat.{_+_}
 use borrow.Author.Tests.{eq-eqb, ne-eqb}
-use Rattle.wire.specs.Words.{Words}
 use Rattle.receiver.specs.declared.receiver.Receiver.{Receiver}
 use Rattle.receiver.specs.declared.receiver.Taken.{Taken}
-use Rattle.receiver.specs.Table.{Reply, answerWords}
+use Rattle.receiver.specs.Table.{answerWords}
 use Rattle.receiver.specs.Receiver.{answerOf, receiverAfter}
 use Rattle.receiver.specs.Feed.{Datagram}
 use Rattle.capture_records.specs.Records.{mostRecords}

@@ -1,6 +1,5 @@
 -- The laws that the functions' proofs need, for `search`: one set for each file of src/.
 use borrow.Author.Needs.{needs}
-use mathlib.Core.Path.{refl}
 use Rattle.capture_tally.proofs.TallyLaws.{sum-most, sum-fits, parts-deliver, parts-old, parts-quiet, parts-ask, parts-ended, parts-refused, plus-all}
 use Rattle.capture_tally.proofs.ReportLaws.{step-most, cut-most, step-counted, cut-counted}
 use Rattle.capture_tally.proofs.SumLaws.{sums}

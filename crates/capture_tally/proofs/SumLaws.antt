@@ -1,20 +1,20 @@
 -- The counts of a report are the sums of the table's answers over its records, and no sum is capped: what is delivered lies between
 -- the receiver's number and 2^64 - 1, and every other part is at most 1.
 use mathlib.Core.Path.{_≡_, refl, ap, sym, _∙_}
-use mathlib.Core.List.{List, [], _∷_, _++_}
-use Prim.Native.Nat.{ℕ, _+_, _-_, _≤_, _<_}
+use mathlib.Core.List.{List, [], _∷_}
+use Prim.Native.Nat.{ℕ, _+_, _-_, _≤_}
 use native.Mathlib.Omega.{arith}
 use native.Mathlib.Nat.{zero-add, add-zero}
-use lib.ListN.{length, drop, length-drop, length-append}
+use lib.ListN.{length, length-drop, length-append}
 use borrow.Author.Tests.{le-ltb}
 use Rattle.wire.specs.Words.{Words, Case, answer, refused, refuses}
 use Rattle.wire.proofs.Cases.{zero-or-not}
 use Rattle.moldudp64.specs.Header.{numberOf, countOf}
-use Rattle.moldudp64.specs.Downstream.{data-packet, kindOf, refusalOf, messagesOf}
+use Rattle.moldudp64.specs.Downstream.{data-packet, kindOf, messagesOf}
 use Rattle.moldudp64.proofs.DownstreamLaws.{sound, count-sound, kind-blocks}
 use Rattle.receiver.specs.declared.receiver.Receiver.{Receiver}
-use Rattle.receiver.specs.Table.{Reply, deliver, old, quiet, ask, ended, Outcome, Row, data-reaches, data-below, heartbeat-below, heartbeat-at, any-above, end-at, delivers}
-use Rattle.receiver.specs.Receiver.{refusalFor, rowOf, moved, answerOf, receiverAfter}
+use Rattle.receiver.specs.Table.{Reply, deliver, old, quiet, ask, ended, Outcome, Row, data-reaches, data-below, heartbeat-below, heartbeat-at, any-above, end-at}
+use Rattle.receiver.specs.Receiver.{refusalFor, rowOf, answerOf, receiverAfter}
 use Rattle.receiver.specs.Delivery.{deliveredIn, deliveredBy}
 use Rattle.receiver.specs.Feed.{Datagram, after, delivered}
 use Rattle.receiver.specs.Condition3.{plain}

@@ -1,7 +1,6 @@
 -- The report, from record to record.
 use Prim.Native.Nat.{ℕ, _+_}
 use mathlib.Core.List.{List, [], _∷_}
-use mathlib.Core.Bool.{true, false}
 use lib.Dec.{eqb}
 use Rattle.wire.specs.Choice.{if_then_else_}
 use Rattle.receiver.specs.declared.receiver.Receiver.{Receiver}

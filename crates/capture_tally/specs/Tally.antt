@@ -1,7 +1,6 @@
 -- The five counts of a report.
 use Prim.Native.Nat.{ℕ, _+_}
 use mathlib.Core.List.{List}
-use mathlib.Core.Bool.{true, false}
 use lib.ListN.{getD}
 use lib.Dec.{ltb}
 use Rattle.wire.specs.Choice.{if_then_else_}

@@ -60,16 +60,16 @@ impl Report {
     pub fn cut(self) -> Report
         ensures { λ r. ⌜ r ≡ cutOf self ⌝ }
     {
-        let records = self.records;
-        if records == Report::MOST_RECORDS {
+        let read = self.records;
+        if read == Report::MOST_RECORDS {
             return self;
         }
         let receiver = self.receiver;
-        let tally = self.tally;
+        let so_far = self.tally;
         Report {
             receiver: receiver,
-            records: records + 1,
-            tally: tally.plus(Tally {
+            records: read + 1,
+            tally: so_far.plus(Tally {
                 delivered: 0,
                 old: 0,
                 quiet: 0,

@@ -1,9 +1,9 @@
 -- One more digit, and the digits laid, as the code has them.
-use mathlib.Core.Path.{_≡_, refl, ap, sym, _∙_}
-use mathlib.Core.List.{List, [], _∷_, _++_}
-use Prim.Native.Nat.{ℕ, _+_, _*_, _-_, _/_, _^_, _<_, _≤_}
+use mathlib.Core.Path.{_≡_, _∙_}
+use mathlib.Core.List.{List}
+use Prim.Native.Nat.{ℕ, _+_, _*_, _-_, _/_, _<_, _≤_}
 use native.Mathlib.Omega.{arith}
-use lib.ListN.{length, take}
+use lib.ListN.{take}
 use mir.Val.{Fits}
 use mir.Syntax.{w64}
 use borrow.Author.Tests.{lt-ltb, le-ltb, le-leb, lt-leb}
@@ -11,7 +11,6 @@ use Rattle.io.specs.Digits.{digits as io-digits, Fewest}
 use Rattle.wire.specs.Bounds.{largestNumber}
 use Rattle.wire.specs.Output.{Writes}
 use Rattle.wire.specs.declared.output.Written.{Written}
-use Rattle.decimal.specs.declared.reading.Appended.{Appended}
 use Rattle.decimal.specs.declared.reading.Appended.the-variants.{Value, NoDigit, TooLarge}
 use Rattle.decimal.specs.Decimal.{isDigit, appendedWords, appendOf, digits}
 use Rattle.decimal.proofs.SpellLaws.{decimal-digits}

@@ -1,3 +1,4 @@
+-- The test says that the bytes are there.
 use Rattle.capture_report.proofs.Laws.{laws}
 use Rattle.capture_report.proofs.print_front.Statement.{statement}
 use Rattle.capture_report.proofs.print_front.Tie as tie

@@ -1,3 +1,4 @@
+-- What is left is a record that is cut short.
 use Rattle.capture.proofs.Rules.{finishing}
 use Rattle.capture.proofs.reading.end.Statement.{statement}
 use Rattle.capture.proofs.reading.end.Tie as tie

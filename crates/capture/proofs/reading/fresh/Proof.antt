@@ -1,3 +1,4 @@
+-- The receiver is the one that the settings start.
 use Rattle.capture.proofs.Rules.{starting}
 use Rattle.capture.proofs.reading.fresh.Statement.{statement}
 use Rattle.capture.proofs.reading.fresh.Tie as tie

@@ -1,3 +1,4 @@
+-- Settings that were read lie within the bytes, and so do the records used after them.
 use Rattle.capture.proofs.StageLaws.{open-fits}
 use Rattle.capture.proofs.Rules.{opening}
 use Rattle.capture.proofs.reading.open.Statement.{statement}

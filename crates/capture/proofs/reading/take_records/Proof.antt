@@ -1,3 +1,4 @@
+-- What the records still to be read make of the report so far is what all of them make of the first.
 use Rattle.capture.proofs.TakeLaws.{Going}
 use Rattle.capture.proofs.Rules.{taking}
 use Rattle.capture.proofs.reading.take_records.Statement.{statement}

@@ -1,3 +1,4 @@
+-- Finishing a fresh reading with all bytes is the whole capture.
 use Rattle.capture.proofs.Rules.{writing}
 use Rattle.capture.proofs.whole.report.Statement.{statement}
 use Rattle.capture.proofs.whole.report.Tie as tie

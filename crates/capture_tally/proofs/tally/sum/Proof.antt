@@ -1,3 +1,4 @@
+-- The test leaves room for the sum, or there is none.
 use Rattle.capture_tally.proofs.Rules.{tallies}
 use Rattle.capture_tally.proofs.tally.sum.Statement.{statement}
 use Rattle.capture_tally.proofs.tally.sum.Tie as tie

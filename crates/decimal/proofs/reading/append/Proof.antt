@@ -1,3 +1,4 @@
+-- The tests are those of the definition; the third one keeps the product and the sum within 64 bits.
 use Rattle.decimal.proofs.Rules.{readings}
 use Rattle.decimal.proofs.reading.append.Statement.{statement}
 use Rattle.decimal.proofs.reading.append.Tie as tie

@@ -1,3 +1,4 @@
+-- The fewest digits that hold a number are its digits without leading zeros.
 use Rattle.decimal.proofs.Rules.{writings}
 use Rattle.decimal.proofs.writing.put.Statement.{statement}
 use Rattle.decimal.proofs.writing.put.Tie as tie

@@ -1,3 +1,4 @@
+-- One law for each stage.
 use Rattle.capture.proofs.Rules.{advancing}
 use Rattle.capture.proofs.reading.Reading.advance.Statement.{statement}
 use Rattle.capture.proofs.reading.Reading.advance.Tie as tie

@@ -1,3 +1,4 @@
+-- It waits where the settings may be longer than what is there, and advances otherwise.
 use Rattle.capture.proofs.Rules.{feeding}
 use Rattle.capture.proofs.reading.Reading.feed.Statement.{statement}
 use Rattle.capture.proofs.reading.Reading.feed.Tie as tie

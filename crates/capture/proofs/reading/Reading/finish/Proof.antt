@@ -1,3 +1,4 @@
+-- The stage that the last bytes lead to says what the end is.
 use Rattle.capture.proofs.Rules.{finishing}
 use Rattle.capture.proofs.reading.Reading.finish.Statement.{statement}
 use Rattle.capture.proofs.reading.Reading.finish.Tie as tie

@@ -1,3 +1,4 @@
+-- One law for each stage.
 use Rattle.capture.proofs.Rules.{telling}
 use Rattle.capture.proofs.reading.Reading.is_over.Statement.{statement}
 use Rattle.capture.proofs.reading.Reading.is_over.Tie as tie

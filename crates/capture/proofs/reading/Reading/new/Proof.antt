@@ -1,3 +1,4 @@
+-- A start at number 0 is refused, and gives the refused receiver.
 use Rattle.capture.proofs.Rules.{starting}
 use Rattle.capture.proofs.reading.Reading.new.Statement.{statement}
 use Rattle.capture.proofs.reading.Reading.new.Tie as tie

@@ -1,3 +1,4 @@
+-- Each stage prints its own text.
 use Rattle.capture.proofs.Rules.{writing}
 use Rattle.capture.proofs.reading.Reading.write.Statement.{statement}
 use Rattle.capture.proofs.reading.Reading.write.Tie as tie

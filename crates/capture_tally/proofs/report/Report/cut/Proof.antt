@@ -1,3 +1,4 @@
+-- A record more and a refusal more, unless there are the most records already.
 use Rattle.capture_tally.proofs.Rules.{reports}
 use Rattle.capture_tally.proofs.report.Report.cut.Statement.{statement}
 use Rattle.capture_tally.proofs.report.Report.cut.Tie as tie

@@ -1,3 +1,4 @@
+-- The answer that was counted, and the receiver that goes on, are those of the table.
 use Rattle.capture_tally.proofs.Rules.{reports}
 use Rattle.capture_tally.proofs.report.Report.step.Statement.{statement}
 use Rattle.capture_tally.proofs.report.Report.step.Tie as tie

@@ -1,3 +1,4 @@
+-- One law for each answer.
 use Rattle.capture_tally.proofs.Rules.{tallies}
 use Rattle.capture_tally.proofs.tally.Tally.of.Statement.{statement}
 use Rattle.capture_tally.proofs.tally.Tally.of.Tie as tie

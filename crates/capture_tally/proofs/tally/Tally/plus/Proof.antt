@@ -1,3 +1,4 @@
+-- Each of the five sums is capped by itself.
 use Rattle.capture_tally.proofs.Rules.{tallies}
 use Rattle.capture_tally.proofs.tally.Tally.plus.Statement.{statement}
 use Rattle.capture_tally.proofs.tally.Tally.plus.Tie as tie
