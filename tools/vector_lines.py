@@ -53,7 +53,6 @@ def show_written(size, at, make):
 
 def show_field(field):
     if isinstance(field, bytes):
-        assert FILL not in field, "the byte of an untouched output would not be told apart"
         return show_bytes(field)
     return show_lengths(field) if isinstance(field, list) else str(field)
 
@@ -85,6 +84,9 @@ class Vectors:
         rule = self.functions[function]
         keys = inspect.signature(rule).parameters
         assert len(keys) == len(fields)
+        for field in fields:
+            told = "out" not in keys or not isinstance(field, bytes) or FILL not in field
+            assert told, "the byte of an untouched output would not be told apart"
         start = f"{self.letters[function]} {function} "
         self.lines.append(start + "| " + " ".join(f"{key}={show_field(field)}" for key, field in zip(keys, fields)))
         self.answers.append(start + rule(*fields))

@@ -1,0 +1,149 @@
+-- Laws of the table of letters: c is a letter, r its row, k the bytes of a payload.
+use mathlib.Core.Path.{_≡_, refl}
+use mathlib.Core.Bool.{Bool, true, false}
+use Prim.Native.Nat.{ℕ, _≤_, _<_}
+use native.Mathlib.Omega.{arith}
+use lib.Dec.{ltb, leb, eqb}
+use borrow.Author.Tests.{lt-ltb, le-ltb, ltb-false, leb-true, ne-eqb}
+use Rattle.wire.specs.Choice.{if_then_else_}
+use Rattle.soupbintcp.specs.declared.packet.Sender.{Sender}
+use Rattle.soupbintcp.specs.declared.packet.Sender.the-variants.{Server, Client}
+use Rattle.soupbintcp.specs.declared.letters.Row.{Row}
+use Rattle.soupbintcp.specs.Letters.{row, rowOf, sends, allows}
+
+-- ---- the rows
+
+module _ (c : ℕ) (r : Row) where
+  pub row-plus : r ≡ row true true 0 4096 → c ≡ 43 → r ≡ rowOf c
+  unfolding rowOf
+  row-plus f e = simp e f
+
+  pub row-A : r ≡ row true false 30 30 → c ≡ 65 → r ≡ rowOf c
+  unfolding rowOf
+  row-A f e = simp e f
+
+  pub row-J : r ≡ row true false 1 1 → c ≡ 74 → r ≡ rowOf c
+  unfolding rowOf
+  row-J f e = simp e f
+
+  pub row-S : r ≡ row true false 0 4096 → c ≡ 83 → r ≡ rowOf c
+  unfolding rowOf
+  row-S f e = simp e f
+
+  pub row-H : r ≡ row true false 0 0 → c ≡ 72 → r ≡ rowOf c
+  unfolding rowOf
+  row-H f e = simp e f
+
+  pub row-Z : r ≡ row true false 0 0 → c ≡ 90 → r ≡ rowOf c
+  unfolding rowOf
+  row-Z f e = simp e f
+
+  pub row-L : r ≡ row false true 46 46 → c ≡ 76 → r ≡ rowOf c
+  unfolding rowOf
+  row-L f e = simp e f
+
+  pub row-U : r ≡ row false true 0 4096 → c ≡ 85 → r ≡ rowOf c
+  unfolding rowOf
+  row-U f e = simp e f
+
+  pub row-R : r ≡ row false true 0 0 → c ≡ 82 → r ≡ rowOf c
+  unfolding rowOf
+  row-R f e = simp e f
+
+  pub row-O : r ≡ row false true 0 0 → c ≡ 79 → r ≡ rowOf c
+  unfolding rowOf
+  row-O f e = simp e f
+
+  pub row-none : r ≡ row false false 0 0
+      → (c ≡ 43 → ⊥) → (c ≡ 65 → ⊥) → (c ≡ 74 → ⊥) → (c ≡ 83 → ⊥) → (c ≡ 72 → ⊥)
+      → (c ≡ 90 → ⊥) → (c ≡ 76 → ⊥) → (c ≡ 85 → ⊥) → (c ≡ 82 → ⊥) → (c ≡ 79 → ⊥) → r ≡ rowOf c
+  unfolding rowOf
+  row-none f e0 e1 e2 e3 e4 e5 e6 e7 e8 e9 =
+      simp (
+        ne-eqb _ _ e0,
+        ne-eqb _ _ e1,
+        ne-eqb _ _ e2,
+        ne-eqb _ _ e3,
+        ne-eqb _ _ e4,
+        ne-eqb _ _ e5,
+        ne-eqb _ _ e6,
+        ne-eqb _ _ e7,
+        ne-eqb _ _ e8,
+        ne-eqb _ _ e9,
+      ) f
+
+-- ---- who sends it, and how long it may be
+
+module _ (c : ℕ) (r : Row) where
+  pub sent-server : (s : Sender) → r ≡ rowOf c → s ≡ Server → r .server ≡ sends s c
+  unfolding sends
+  sent-server s e f = simp (f, e)
+
+  pub sent-client : (s : Sender) → r ≡ rowOf c → s ≡ Client → r .client ≡ sends s c
+  unfolding sends
+  sent-client s e f = simp (f, e)
+
+  pub allowed-under : (k : ℕ) → r ≡ rowOf c → k < r .least → false ≡ allows c k
+  unfolding allows
+  allowed-under k e h = simp (← e, lt-ltb _ _ h)
+
+  pub allowed-up : (k : ℕ) → r ≡ rowOf c → r .least ≤ k → leb k (r .most) ≡ allows c k
+  unfolding allows
+  allowed-up k e h = simp (← e, le-ltb _ _ h)
+
+-- ---- a length that is allowed is within the letter's row, and no row has more than 4,096 bytes
+
+pub choice : {A : Type 0} {x y : A} (P : A → Type 0) (b : Bool) → (b ≡ true → P x) → (b ≡ false → P y) → P (if b then x else y)
+choice P true f g = f refl
+choice P false f g = g refl
+
+Small : Row → Type 0
+Small r = r .most ≤ 4096
+
+row-small : (c : ℕ) → Small (rowOf c)
+unfolding rowOf Small
+row-small c =
+    choice Small (eqb c 43) (λ e. omega arith) (λ e.
+    choice Small (eqb c 65) (λ e. omega arith) (λ e.
+    choice Small (eqb c 74) (λ e. omega arith) (λ e.
+    choice Small (eqb c 83) (λ e. omega arith) (λ e.
+    choice Small (eqb c 72) (λ e. omega arith) (λ e.
+    choice Small (eqb c 90) (λ e. omega arith) (λ e.
+    choice Small (eqb c 76) (λ e. omega arith) (λ e.
+    choice Small (eqb c 85) (λ e. omega arith) (λ e.
+    choice Small (eqb c 82) (λ e. omega arith) (λ e.
+    choice Small (eqb c 79) (λ e. omega arith) (λ e. omega arith))))))))))
+
+reaches : (k n : ℕ) (b t : Bool) → ltb k n ≡ t → if t then false else b ≡ true → n ≤ k
+reaches k n b false e h = ltb-false k n e
+reaches k n b true e h = let z : _≡_ {A = ℕ} 0 1 = cc in absurd (omega arith)
+
+keeps : (k n : ℕ) (t b : Bool) → leb k n ≡ b → if t then false else b ≡ true → k ≤ n
+keeps k n false true e h = leb-true k n e
+keeps k n false false e h = let z : _≡_ {A = ℕ} 0 1 = cc in absurd (omega arith)
+keeps k n true b e h = let z : _≡_ {A = ℕ} 0 1 = cc in absurd (omega arith)
+
+module _ (c k : ℕ) (h : allows c k ≡ true) where
+  most : k ≤ rowOf c .most
+  unfolding allows
+  most = keeps k (rowOf c .most) (ltb k (rowOf c .least)) (leb k (rowOf c .most)) refl h
+
+  pub allowed-small : k ≤ 4096
+  unfolding Small
+  allowed-small = let a = most in let b = row-small c in omega arith
+
+  least : rowOf c .least ≤ k
+  unfolding allows
+  least = reaches k (rowOf c .least) (leb k (rowOf c .most)) (ltb k (rowOf c .least)) refl h
+
+  pub least-A : c ≡ 65 → 30 ≤ k
+  unfolding rowOf
+  least-A e = rw e at least
+
+  pub least-L : c ≡ 76 → 46 ≤ k
+  unfolding rowOf
+  least-L e = rw e at least
+
+  pub least-J : c ≡ 74 → 1 ≤ k
+  unfolding rowOf
+  least-J e = rw e at least

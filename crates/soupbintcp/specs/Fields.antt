@@ -1,0 +1,86 @@
+-- The fields of a packet that is there whole, by its letter.
+use Prim.Native.Nat.{ℕ, _+_}
+use mathlib.Core.List.{List, [], _∷_}
+use mathlib.Core.Bool.{Bool, true, not}
+use lib.ListN.{getD, take, drop}
+use lib.Dec.{eqb}
+use Rattle.wire.specs.Choice.{if_then_else_}
+use Rattle.wire.specs.Bounds.{sessionSize}
+use Rattle.wire.specs.Words.{Words, Case, answer, refused, says}
+use Rattle.text_fields.specs.Session.{goodSession}
+use Rattle.text_fields.specs.Sound.{usernameSize, passwordSize}
+use Rattle.text_fields.specs.Number.{Reading, value, bad, numberSize, numberOf}
+use Rattle.soupbintcp.specs.declared.fields.Fields.{Fields}
+use Rattle.soupbintcp.specs.declared.fields.Fields.the-variants.{Good, Bad}
+use Rattle.soupbintcp.specs.Letters.{PacketKind, accepted, rejected, login, packetKind, packetValues, letterAccepted, letterRejected, letterLogin, plainOf}
+use Rattle.soupbintcp.specs.Head.{headSize, letterOf}
+
+-- ---- where they stand
+
+-- A and L have a session, and a number after it
+unfoldable pub hasFields : ℕ → Bool
+hasFields c = if eqb c letterAccepted then true else eqb c letterLogin
+
+-- in L the username and the password stand before it
+unfoldable pub sessionAt : ℕ → ℕ
+sessionAt c = if eqb c letterLogin then headSize + usernameSize + passwordSize else headSize
+
+-- the bytes of the session, and of the number: none but in A and L
+unfoldable pub sessionBytes : ℕ → List ℕ → List ℕ
+sessionBytes c l = if hasFields c then take sessionSize (drop (sessionAt c) l) else []
+
+unfoldable pub numberBytes : ℕ → List ℕ → List ℕ
+numberBytes c l = if hasFields c then take numberSize (drop (sessionAt c + sessionSize) l) else []
+
+-- ---- what they may be
+
+-- all spaces only in L
+unfoldable pub blankAllowed : ℕ → Bool
+blankAllowed c = not (eqb c letterAccepted)
+
+-- at least 1 in A
+unfoldable pub leastNumberOf : ℕ → ℕ
+leastNumberOf c = if eqb c letterAccepted then 1 else 0
+
+-- what the fields make: a packet of a kind, or one of them is bad
+pub data Fielding : Type 0 where
+  good : PacketKind → Fielding
+  bad-field : Fielding
+
+unfoldable pub fieldsWords : Fields → Words Fielding
+fieldsWords (Good p) = says (good (packetKind p)) (packetValues p)
+fieldsWords Bad = says bad-field []
+
+unfoldable pub numberedOf : ℕ → PacketKind
+numberedOf c = if eqb c letterAccepted then accepted else login
+
+-- a number that was read
+unfoldable pub numberFields : ℕ → Case Reading → List ℕ → Words Fielding
+numberFields c (answer value) vs = says (good (numberedOf c)) (getD vs 0 0 ∷ [])
+numberFields c (answer bad) vs = says bad-field []
+numberFields c refused vs = says bad-field []
+
+-- A and L: the session is good, and so is the number; the session is looked at first
+unfoldable pub withNumber : ℕ → Bool → Words Reading → Words Fielding
+withNumber c ok w = if ok then numberFields c (w .which) (w .values) else says bad-field []
+
+-- `A` or `S`
+unfoldable pub goodReason : ℕ → Bool
+goodReason b = if eqb b 65 then true else eqb b 83
+
+-- J: the reason is good
+unfoldable pub reasonFields : ℕ → Words Fielding
+reasonFields b = if goodReason b then says (good rejected) (b ∷ []) else says bad-field []
+
+-- by the letter
+unfoldable pub fieldsAt : ℕ → ℕ → Bool → Words Reading → Words Fielding
+fieldsAt c reason ok w =
+    if hasFields c then withNumber c ok w
+    else if eqb c letterRejected then reasonFields reason
+    else says (good (plainOf c)) []
+
+-- those of the packet in front of l
+unfoldable pub fieldsOf : List ℕ → Words Fielding
+fieldsOf l =
+    fieldsAt (letterOf l) (getD l headSize 0) (goodSession (blankAllowed (letterOf l)) (sessionBytes (letterOf l) l))
+    (numberOf (leastNumberOf (letterOf l)) (numberBytes (letterOf l) l))

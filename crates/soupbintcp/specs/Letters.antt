@@ -1,0 +1,128 @@
+-- The packets, and document 01's table of letters.
+use Prim.Native.Nat.{ℕ, _+_}
+use mathlib.Core.List.{List, [], _∷_}
+use mathlib.Core.Bool.{Bool, true, false}
+use lib.Dec.{ltb, leb, eqb}
+use Rattle.wire.specs.Choice.{if_then_else_}
+use Rattle.wire.specs.Bounds.{sessionSize}
+use Rattle.text_fields.specs.Number.{numberSize}
+use Rattle.text_fields.specs.Sound.{usernameSize, passwordSize}
+use Rattle.soupbintcp.specs.declared.packet.Sender.{Sender}
+use Rattle.soupbintcp.specs.declared.packet.Sender.the-variants.{Server, Client}
+use Rattle.soupbintcp.specs.declared.packet.Packet.{Packet}
+use Rattle.soupbintcp.specs.declared.packet.Packet.the-variants.{Debug, Accepted, Rejected, Sequenced, ServerHeartbeat, EndOfSession, Login, Unsequenced, ClientHeartbeat, Logout}
+use Rattle.soupbintcp.specs.declared.letters.Row.{Row}
+
+-- the kinds of packet
+pub data PacketKind : Type 0 where
+  debug accepted rejected sequenced server-heartbeat end-of-session login unsequenced client-heartbeat logout : PacketKind
+
+unfoldable pub packetKind : Packet → PacketKind
+packetKind Debug = debug
+packetKind (Accepted n) = accepted
+packetKind (Rejected reason) = rejected
+packetKind Sequenced = sequenced
+packetKind ServerHeartbeat = server-heartbeat
+packetKind EndOfSession = end-of-session
+packetKind (Login n) = login
+packetKind Unsequenced = unsequenced
+packetKind ClientHeartbeat = client-heartbeat
+packetKind Logout = logout
+
+-- the number of A and L, the reason of J
+unfoldable pub packetValues : Packet → List ℕ
+packetValues Debug = []
+packetValues (Accepted n) = n .0 ∷ []
+packetValues (Rejected reason) = reason ∷ []
+packetValues Sequenced = []
+packetValues ServerHeartbeat = []
+packetValues EndOfSession = []
+packetValues (Login n) = n .0 ∷ []
+packetValues Unsequenced = []
+packetValues ClientHeartbeat = []
+packetValues Logout = []
+
+-- ---- the letters
+
+abbrev pub letterDebug : ℕ
+letterDebug = 43
+
+abbrev pub letterAccepted : ℕ
+letterAccepted = 65
+
+abbrev pub letterRejected : ℕ
+letterRejected = 74
+
+abbrev pub letterSequenced : ℕ
+letterSequenced = 83
+
+abbrev pub letterServerHeartbeat : ℕ
+letterServerHeartbeat = 72
+
+abbrev pub letterEnd : ℕ
+letterEnd = 90
+
+abbrev pub letterLogin : ℕ
+letterLogin = 76
+
+abbrev pub letterUnsequenced : ℕ
+letterUnsequenced = 85
+
+abbrev pub letterClientHeartbeat : ℕ
+letterClientHeartbeat = 82
+
+abbrev pub letterLogout : ℕ
+letterLogout = 79
+
+-- ---- the table: letter, sender, length
+
+-- the most bytes of a payload
+abbrev pub mostPayload : ℕ
+mostPayload = 4096
+
+-- the bytes of the payload of A: session and number; of J: the reason; of L: username, password, session and number
+abbrev pub acceptedPayloadSize : ℕ
+acceptedPayloadSize = sessionSize + numberSize
+
+abbrev pub rejectedPayloadSize : ℕ
+rejectedPayloadSize = 1
+
+abbrev pub loginPayloadSize : ℕ
+loginPayloadSize = usernameSize + passwordSize + sessionSize + numberSize
+
+-- whether the server and the client send it, and the fewest and most bytes of its payload, which is the length without the letter
+abbrev pub row : Bool → Bool → ℕ → ℕ → Row
+row server client least most = record { server = server; client = client; least = least; most = most }
+
+unfoldable pub rowOf : ℕ → Row
+rowOf c =
+    if eqb c letterDebug then row true true 0 mostPayload
+    else if eqb c letterAccepted then row true false acceptedPayloadSize acceptedPayloadSize
+    else if eqb c letterRejected then row true false rejectedPayloadSize rejectedPayloadSize
+    else if eqb c letterSequenced then row true false 0 mostPayload
+    else if eqb c letterServerHeartbeat then row true false 0 0
+    else if eqb c letterEnd then row true false 0 0
+    else if eqb c letterLogin then row false true loginPayloadSize loginPayloadSize
+    else if eqb c letterUnsequenced then row false true 0 mostPayload
+    else if eqb c letterClientHeartbeat then row false true 0 0
+    else if eqb c letterLogout then row false true 0 0
+    else row false false 0 0
+
+unfoldable pub sends : Sender → ℕ → Bool
+sends Server c = rowOf c .server
+sends Client c = rowOf c .client
+
+-- a payload of k bytes has a length that is right for the letter
+unfoldable pub allows : ℕ → ℕ → Bool
+allows c k = if ltb k (rowOf c .least) then false else leb k (rowOf c .most)
+
+-- the letters that say all: S H Z U R O, and else +
+unfoldable pub plainOf : ℕ → PacketKind
+plainOf c =
+    if eqb c letterSequenced then sequenced
+    else if eqb c letterServerHeartbeat then server-heartbeat
+    else if eqb c letterEnd then end-of-session
+    else if eqb c letterUnsequenced then unsequenced
+    else if eqb c letterClientHeartbeat then client-heartbeat
+    else if eqb c letterLogout then logout
+    else debug

@@ -1,0 +1,5 @@
+pub mod Letters
+pub mod Head
+pub mod Fields
+pub mod Front
+pub mod Scan

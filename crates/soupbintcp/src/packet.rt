@@ -1,0 +1,48 @@
+// What a logical packet says.
+use wire::kinds::SequenceNumber;
+ghost use mathlib.Core.Path.{_≡_};
+ghost use Rattle.soupbintcp.specs.Fields.{goodReason};
+
+// Who sends a stream.
+pub enum Sender {
+    Server,
+    Client,
+}
+
+// A packet. Its payload, its session and what else it holds as bytes are had as parts of the stream.
+pub enum Packet {
+    Debug,
+    Accepted { number: SequenceNumber },
+    // The reason is `A` or `S`.
+    Rejected { reason: u8 },
+    Sequenced,
+    ServerHeartbeat,
+    EndOfSession,
+    Login { number: SequenceNumber },
+    Unsequenced,
+    ClientHeartbeat,
+    Logout,
+}
+
+// The bytes of the payload of A, J and L.
+pub const ACCEPTED_PAYLOAD: usize = 30;
+
+pub const REJECTED_PAYLOAD: usize = 1;
+
+pub const LOGIN_PAYLOAD: usize = 46;
+
+// Bytes before the payload: the length and the letter.
+pub const HEAD_SIZE: usize = 3;
+
+// Bytes of the length, which counts all but itself.
+pub const LENGTH_SIZE: usize = 2;
+
+// The most bytes of a payload.
+pub const MOST_PAYLOAD: usize = 4096;
+
+// Whether a byte is a reason for rejecting a login.
+pub fn is_reason(b: u8) -> bool
+    ensures { λ r. ⌜ r ≡ goodReason b ⌝ }
+{
+    if b == b'A' { true } else { b == b'S' }
+}

@@ -1,0 +1,5 @@
+pub mod WriteLaws
+pub mod BackLaws
+pub mod AgainLaws
+pub mod RoundTripLaws
+pub mod Rules

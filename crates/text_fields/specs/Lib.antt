@@ -1,0 +1,4 @@
+pub mod Letters
+pub mod Session
+pub mod Number
+pub mod Sound
