@@ -6,7 +6,6 @@ use wire::output;
 use wire::output::Written;
 ghost use Prim.Native.Nat.{_+_, _≤_};
 ghost use lib.ListN.{length};
-ghost use Rattle.wire.specs.Bounds.{sessionSize};
 ghost use Rattle.decimal.specs.Decimal.{digits};
 ghost use Rattle.capture_text.specs.Text.{Lays, numberLine, sessionLine, endedLine};
 

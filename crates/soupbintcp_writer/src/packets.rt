@@ -8,7 +8,7 @@ use wire::output::Written;
 use wire::refusal;
 ghost use mathlib.Core.Path.{_≡_};
 ghost use Prim.Native.Nat.{_+_, _≤_};
-ghost use mathlib.Core.List.{[], _∷_};
+ghost use mathlib.Core.List.{[]};
 ghost use lib.ListN.{length};
 ghost use Rattle.wire.specs.Output.{Writes, put};
 ghost use Rattle.soupbintcp.specs.Letters.{mostPayload};

@@ -10,7 +10,6 @@ use wire::kinds::SequenceNumber;
 use wire::output;
 use wire::output::Written;
 use wire::refusal;
-ghost use mathlib.Core.Path.{_≡_};
 ghost use mathlib.Core.List.{[], _∷_};
 ghost use Rattle.wire.specs.Output.{Writes};
 ghost use Rattle.soupbintcp.specs.Letters.{letterAccepted, letterDebug, letterEnd, letterRejected, letterSequenced, letterServerHeartbeat};

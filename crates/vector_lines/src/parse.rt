@@ -5,7 +5,7 @@ ghost use Prim.Native.Nat.{_-_, _≤_, _<_};
 ghost use lib.ListN.{length};
 ghost use Rattle.io.specs.Counts.{Counts};
 
-// What a lent output holds before the call. No vector's data has this byte.
+// What a lent output holds before the call. No vector with an output has this byte in its data.
 const FILL: u8 = 238;
 
 // How many bytes stand before the first one that equals `stop`: all where there is none.
