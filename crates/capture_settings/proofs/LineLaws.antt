@@ -63,22 +63,6 @@ module _ (l : List ℕ) (w : Bool) (i : ℕ) (v : isPrintable (drop i l) ≡ w) 
   unfolding isPrintable
   print-end h = rw (drop-of-length-le l h) at v
 
--- ---- the first ten bytes
-
-pub first-ten : (l : List ℕ) → sessionSize ≤ length l
-    → getD l 0 0 ∷ getD l 1 0 ∷ getD l 2 0 ∷ getD l 3 0 ∷ getD l 4 0 ∷ getD l 5 0 ∷ getD l 6 0 ∷ getD l 7 0 ∷ getD l 8 0 ∷ getD l 9 0 ∷ [] ≡ take sessionSize l
-first-ten [] h = absurd (omega arith)
-first-ten (a ∷ []) h = absurd (omega arith)
-first-ten (a ∷ b ∷ []) h = absurd (omega arith)
-first-ten (a ∷ b ∷ c ∷ []) h = absurd (omega arith)
-first-ten (a ∷ b ∷ c ∷ d ∷ []) h = absurd (omega arith)
-first-ten (a ∷ b ∷ c ∷ d ∷ e ∷ []) h = absurd (omega arith)
-first-ten (a ∷ b ∷ c ∷ d ∷ e ∷ f ∷ []) h = absurd (omega arith)
-first-ten (a ∷ b ∷ c ∷ d ∷ e ∷ f ∷ g ∷ []) h = absurd (omega arith)
-first-ten (a ∷ b ∷ c ∷ d ∷ e ∷ f ∷ g ∷ i ∷ []) h = absurd (omega arith)
-first-ten (a ∷ b ∷ c ∷ d ∷ e ∷ f ∷ g ∷ i ∷ j ∷ []) h = absurd (omega arith)
-first-ten (a ∷ b ∷ c ∷ d ∷ e ∷ f ∷ g ∷ i ∷ j ∷ k ∷ l) h = refl
-
 -- ---- one more byte of a number v, and what `append` answers to it
 
 record ValueSo (v b n : ℕ) : Type 0 where

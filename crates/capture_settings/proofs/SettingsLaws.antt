@@ -16,6 +16,8 @@ use Rattle.wire.proofs.Numbers.{part-to-end}
 use Rattle.decimal.specs.Decimal.{withDigit}
 use Rattle.capture_settings.specs.declared.lines.Line.{Line}
 use Rattle.capture_settings.specs.declared.settings.Opened.{Opened}
+use Rattle.parts.specs.Parts.{firstBytes}
+use Rattle.parts.proofs.PartLaws.{first-there}
 use Rattle.capture_settings.specs.Settings.{sessionKey, nextKey, limitKey, lineFeed, pastOf, isPrintable, noLine, further, goesOn, lineFrom, lineOf, settings, refusedOpened, fixedSize, nextLine, limitLine, numbersOf, nameLine, readOf}
 
 -- ---- how far they reach
@@ -120,9 +122,9 @@ module _ (l a : List ℕ) (z : Opened) (ea : a ≡ pastOf sessionKey l) where
     unfolding readOf nameLine
     name-unprintable n e = simp (← ea, lt-leb _ _ h, eq-eqb _ _ g, ← q, n) e
 
-    pub name-good : (name : List ℕ) → not p ≡ false → name ≡ take sessionSize a → z ≡ numbersOf name (take (length a - 11) (drop 11 a)) → z ≡ readOf l
+    pub name-good : (name : List ℕ) → not p ≡ false → name ≡ firstBytes sessionSize a → z ≡ numbersOf name (take (length a - 11) (drop 11 a)) → z ≡ readOf l
     unfolding readOf nameLine
-    name-good name n m e = simp (← ea, lt-leb _ _ h, eq-eqb _ _ g, ← q, n) (e ∙ rw (m, part-to-end))
+    name-good name n m e = simp (← ea, lt-leb _ _ h, eq-eqb _ _ g, ← q, n) (e ∙ rw (m, first-there 10 a (omega arith), part-to-end))
 
 pub ten-there : (l : List ℕ) → sessionSize < length l → sessionSize ≡ length (take sessionSize l)
 ten-there l h = sym (length-take-le 10 l (omega arith))

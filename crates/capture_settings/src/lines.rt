@@ -1,11 +1,7 @@
 // The parts of a line of settings.
 use decimal::reading;
 use decimal::reading::Appended;
-use wire::kinds::SESSION_SIZE;
 ghost use mathlib.Core.Path.{_≡_};
-ghost use Prim.Native.Nat.{_≤_};
-ghost use lib.ListN.{length, take};
-ghost use Rattle.wire.specs.Bounds.{sessionSize};
 ghost use Rattle.capture_settings.specs.Settings.{pastOf, isPrintable, lineOf};
 
 // The byte that ends a line.
@@ -49,14 +45,6 @@ pub(crate) fn is_printable(s: &[u8]) -> bool
         i += 1;
     }
     true
-}
-
-// The first ten bytes.
-pub(crate) fn name(s: &[u8]) -> [u8; SESSION_SIZE]
-    requires { ⌜ sessionSize ≤ length (now s) ⌝ }
-    ensures { λ r. ⌜ r ≡ take sessionSize (now (s .entry)) ⌝ }
-{
-    [s[0], s[1], s[2], s[3], s[4], s[5], s[6], s[7], s[8], s[9]]
 }
 
 // The number of the digits up to a line feed, the first of them no zero.

@@ -91,5 +91,5 @@ pub fn read(bytes: &[u8]) -> Opened
     if !lines::is_printable(&a[..SESSION_SIZE]) {
         return refused();
     }
-    numbers(lines::name(a), &a[SESSION_SIZE + 1..])
+    numbers(parts::ten(a), &a[SESSION_SIZE + 1..])
 }

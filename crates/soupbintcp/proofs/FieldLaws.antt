@@ -4,8 +4,7 @@ use mathlib.Core.List.{List, [], _∷_}
 use mathlib.Core.Bool.{Bool, true, false, not}
 use Prim.Native.Nat.{ℕ, _+_, _-_, _≤_, _<_}
 use native.Mathlib.Omega.{arith}
-use lib.ListN.{length, getD, take, drop, length-drop, drop-of-length-le}
-use lib.Seq.{take-all, take-nil}
+use lib.ListN.{length, getD, take, drop}
 use lib.Dec.{eqb}
 use mir.Val.{Fits}
 use mir.Syntax.{w64}
@@ -22,20 +21,6 @@ use Rattle.soupbintcp.specs.declared.fields.Fields.the-variants.{Good, B
 use Rattle.soupbintcp.specs.Letters.{packetKind, packetValues, plainOf}
 use Rattle.soupbintcp.specs.Head.{letterOf}
 use Rattle.soupbintcp.specs.Fields.{hasFields, sessionAt, sessionBytes, numberBytes, blankAllowed, leastNumberOf, numberedOf, numberFields, withNumber, goodReason, reasonFields, fieldsWords, fieldsAt}
-
--- ---- parts of the stream
-
-module _ (l : List ℕ) (at size : ℕ) where
-  pub part-none : length l < at → take 0 l ≡ take size (drop at l)
-  part-none h = rw (drop-of-length-le l {i = at} (omega arith), take-nil size) refl
-
-  pub part-rest : at ≤ length l → length l - at < size → take (length l - at) (drop at l) ≡ take size (drop at l)
-  part-rest h f =
-      let e = length-drop at l in
-      take-all (length l - at) (drop at l) (omega arith) ∙ sym (take-all size (drop at l) (omega arith))
-
-  pub part-all : at ≤ length l → size ≤ length l - at → take (at + size - at) (drop at l) ≡ take size (drop at l)
-  part-all h f = let e : at + size - at ≡ size = omega arith in ap (λ (k : ℕ). take k (drop at l)) e
 
 pub letter-read : (l : List ℕ) (r : ℕ) → r ≡ getD l 2 0 → r ≡ letterOf l
 unfolding letterOf

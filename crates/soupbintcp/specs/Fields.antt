@@ -64,9 +64,15 @@ numberFields c refused vs = says bad-field []
 unfoldable pub withNumber : ℕ → Bool → Words Reading → Words Fielding
 withNumber c ok w = if ok then numberFields c (w .which) (w .values) else says bad-field []
 
--- `A` or `S`
+-- the reasons of J: `A` for the account, `S` for the session or the number
+abbrev pub notAuthorized : ℕ
+notAuthorized = 65
+
+abbrev pub sessionNotAvailable : ℕ
+sessionNotAvailable = 83
+
 unfoldable pub goodReason : ℕ → Bool
-goodReason b = if eqb b 65 then true else eqb b 83
+goodReason b = if eqb b notAuthorized then true else eqb b sessionNotAvailable
 
 -- J: the reason is good
 unfoldable pub reasonFields : ℕ → Words Fielding

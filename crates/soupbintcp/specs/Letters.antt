@@ -74,6 +74,18 @@ letterClientHeartbeat = 82
 abbrev pub letterLogout : ℕ
 letterLogout = 79
 
+unfoldable pub letterFor : PacketKind → ℕ
+letterFor debug = letterDebug
+letterFor accepted = letterAccepted
+letterFor rejected = letterRejected
+letterFor sequenced = letterSequenced
+letterFor server-heartbeat = letterServerHeartbeat
+letterFor end-of-session = letterEnd
+letterFor login = letterLogin
+letterFor unsequenced = letterUnsequenced
+letterFor client-heartbeat = letterClientHeartbeat
+letterFor logout = letterLogout
+
 -- ---- the table: letter, sender, length
 
 -- the most bytes of a payload

@@ -26,33 +26,11 @@ pub enum Fields {
     Bad,
 }
 
-// So many bytes at a place, or as many as there are.
-pub(crate) fn part(s: &[u8], at: ByteOffset, size: usize) -> &[u8]
-    ensures { λ r. ⌜ now r ≡ take size (drop (at .0) (now (s .entry))) ⌝ }
-{
-    let from = at.0;
-    if s.len() < from {
-        return &s[..0];
-    }
-    if s.len() - from < size {
-        return &s[from..];
-    }
-    &s[from..from + size]
-}
-
-// The byte at a place, 0 past the end.
-fn byte(s: &[u8], at: ByteOffset) -> u8
-    ensures { λ r. ⌜ r ≡ getD (now (s .entry)) (at .0) 0 ⌝ }
-{
-    let i = at.0;
-    if i < s.len() { s[i] } else { 0 }
-}
-
 // The letter of the packet in front, 0 where it is not there.
 pub(crate) fn letter(stream: &[u8]) -> u8
     ensures { λ r. ⌜ r ≡ letterOf (now (stream .entry)) ⌝ }
 {
-    byte(stream, ByteOffset(LENGTH_SIZE))
+    parts::byte(stream, ByteOffset(LENGTH_SIZE))
 }
 
 // Where the session stands in a packet of a letter; the number follows it.
@@ -78,9 +56,9 @@ pub(crate) fn session_field(stream: &[u8], letter: u8) -> &[u8]
     ensures { λ r. ⌜ now r ≡ sessionBytes letter (now (stream .entry)) ⌝ }
 {
     if has_fields(letter) {
-        return part(stream, ByteOffset(session_at(letter)), SESSION_SIZE);
+        return parts::part(stream, ByteOffset(session_at(letter)), SESSION_SIZE);
     }
-    part(stream, ByteOffset(0), 0)
+    parts::part(stream, ByteOffset(0), 0)
 }
 
 // The bytes of the number field: none but in A and L.
@@ -88,13 +66,13 @@ pub(crate) fn number_field(stream: &[u8], letter: u8) -> &[u8]
     ensures { λ r. ⌜ now r ≡ numberBytes letter (now (stream .entry)) ⌝ }
 {
     if has_fields(letter) {
-        return part(
+        return parts::part(
             stream,
             ByteOffset(session_at(letter) + SESSION_SIZE),
             NUMBER_SIZE,
         );
     }
-    part(stream, ByteOffset(0), 0)
+    parts::part(stream, ByteOffset(0), 0)
 }
 
 // Whether the session may be blank: not in A.
@@ -174,7 +152,7 @@ pub(crate) fn packet(stream: &[u8], letter: u8, good: bool, number: Number) -> F
         return with_number(letter, good, number);
     }
     if letter == b'J' {
-        return with_reason(byte(stream, ByteOffset(HEAD_SIZE)));
+        return with_reason(parts::byte(stream, ByteOffset(HEAD_SIZE)));
     }
     Fields::Good {
         packet: plain(letter),

@@ -62,13 +62,13 @@ pub fn payload(stream: &[u8], sender: Sender) -> &[u8]
     ensures { λ r. ⌜ now r ≡ payloadOf sender (now (stream .entry)) ⌝ }
 {
     match read(stream, sender) {
-        Front::Whole { packet: _, size } => fields::part(
+        Front::Whole { packet: _, size } => parts::part(
             stream,
             ByteOffset(HEAD_SIZE),
             size - HEAD_SIZE,
         ),
-        Front::NeedMore => fields::part(stream, ByteOffset(0), 0),
-        Front::Refused(_) => fields::part(stream, ByteOffset(0), 0),
+        Front::NeedMore => parts::part(stream, ByteOffset(0), 0),
+        Front::Refused(_) => parts::part(stream, ByteOffset(0), 0),
     }
 }
 
@@ -77,9 +77,9 @@ fn packet_bytes(stream: &[u8], sender: Sender) -> &[u8]
     ensures { λ r. ⌜ now r ≡ packetBytes sender (now (stream .entry)) ⌝ }
 {
     match read(stream, sender) {
-        Front::Whole { packet: _, size } => fields::part(stream, ByteOffset(0), size),
-        Front::NeedMore => fields::part(stream, ByteOffset(0), 0),
-        Front::Refused(_) => fields::part(stream, ByteOffset(0), 0),
+        Front::Whole { packet: _, size } => parts::part(stream, ByteOffset(0), size),
+        Front::NeedMore => parts::part(stream, ByteOffset(0), 0),
+        Front::Refused(_) => parts::part(stream, ByteOffset(0), 0),
     }
 }
 
@@ -96,9 +96,9 @@ fn login_part(packet: &[u8], at: ByteOffset, size: usize) -> &[u8]
     ensures { λ r. ⌜ now r ≡ loginPart (now (packet .entry)) (at .0) size ⌝ }
 {
     if fields::letter(packet) == b'L' {
-        return fields::part(packet, at, size);
+        return parts::part(packet, at, size);
     }
-    fields::part(packet, ByteOffset(0), 0)
+    parts::part(packet, ByteOffset(0), 0)
 }
 
 // The username of the login request in front, no bytes where there is none.

@@ -40,9 +40,18 @@ pub const LENGTH_SIZE: usize = 2;
 // The most bytes of a payload.
 pub const MOST_PAYLOAD: usize = 4096;
 
-// Whether a byte is a reason for rejecting a login.
+// The reasons for rejecting a login: its account, or its session or number.
+pub const NOT_AUTHORIZED: u8 = b'A';
+
+pub const SESSION_NOT_AVAILABLE: u8 = b'S';
+
+// Whether a byte is such a reason.
 pub fn is_reason(b: u8) -> bool
     ensures { λ r. ⌜ r ≡ goodReason b ⌝ }
 {
-    if b == b'A' { true } else { b == b'S' }
+    if b == NOT_AUTHORIZED {
+        true
+    } else {
+        b == SESSION_NOT_AVAILABLE
+    }
 }

@@ -5,7 +5,7 @@ use Rattle.wire.proofs.Numbers.{byte-past, read-past, read-2, read-8}
 use Rattle.wire.proofs.Outputs.{output-laws, lay-beyond, lay-over, lay-done, size-bytes}
 use Rattle.wire.proofs.Lowering.{lowering-start, lowering-next, lowering-place, lowering-kept, lowering-end}
 use Rattle.wire.proofs.Copy.{copied-start, copied-step, copied-end, copied-kept}
-use Rattle.wire.proofs.Same.{same-start, same-beyond, same-cut, same-again, same-differs, same-all}
+use Rattle.wire.proofs.Same.{same-start, same-beyond, same-cut, same-again, same-differs, same-all, name-unlike, name-whole}
 
 pub ruleset numbers = (byte-past, read-past, read-2, read-8, needs)
 
@@ -13,4 +13,4 @@ pub ruleset outputs = (lowering-start, lowering-next, lowering-place, lowering-k
 
 pub ruleset copies = (copied-start, copied-step, copied-end, copied-kept, lay-beyond, lay-over, lay-done, output-laws, refl, needs)
 
-pub ruleset names = (same-start, same-beyond, same-cut, same-again, same-differs, same-all, needs)
+pub ruleset names = (same-start, same-beyond, same-cut, same-again, same-differs, same-all, name-unlike, name-whole, needs)

@@ -1,4 +1,4 @@
--- The loop of `same_ten`: the bytes from i on decide. l is the slice, at the place, m the name.
+-- Names compared: whole ones, and the loop of `same_ten`, in which the bytes from i on decide. l is the slice, at the place, m the name.
 use mathlib.Core.Path.{_≡_, refl, ap, _∙_}
 use mathlib.Core.List.{List, [], _∷_}
 use mathlib.Core.Bool.{Bool, true, false}
@@ -6,7 +6,7 @@ use Prim.Native.Nat.{ℕ, suc, _+_, _-_, _≤_, _<_}
 use native.Mathlib.Omega.{arith}
 use native.Mathlib.Numerals.{add-one}
 use lib.ListN.{length, getD, take, drop, length-take, length-drop, drop-of-length-le}
-use lib.Seq.{drop-cons, getD-take, getD-drop, length-take-le}
+use lib.Seq.{take-all, drop-cons, getD-take, getD-drop, length-take-le}
 use lib.Dec.{eqb}
 use borrow.Author.Tests.{eq-eqb, ne-eqb, eqb-true}
 use Rattle.wire.specs.Choice.{if_then_else_}
@@ -42,9 +42,18 @@ unfolding sameBytes
 same-refl [] = refl
 same-refl (a ∷ l) = simp (eq-eqb a a refl) (same-refl l)
 
-false-or-true : (t : Bool) → (t ≡ true → ⊥) → false ≡ t
+pub false-or-true : (t : Bool) → (t ≡ true → ⊥) → false ≡ t
 false-or-true true f = absurd (f refl)
 false-or-true false f = refl
+
+-- ---- a whole name: t is what comparing the first ten bytes gave
+
+module _ (l m : List ℕ) where
+  pub name-unlike : (length l ≡ 10 → ⊥) → length m ≡ 10 → false ≡ sameBytes l m
+  name-unlike h n = false-or-true (sameBytes l m) (λ e. h (same-length l m e ∙ n))
+
+  pub name-whole : (t : Bool) → length l ≡ 10 → t ≡ sameBytes (take 10 (drop 0 l)) m → t ≡ sameBytes l m
+  name-whole t h e = rw (take-all 10 l (omega arith)) at e
 
 -- ---- the loop
 

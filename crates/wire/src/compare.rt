@@ -26,3 +26,13 @@ pub fn same_ten(s: &[u8], at: ByteOffset, name: [u8; SESSION_SIZE]) -> bool
     }
     true
 }
+
+// Whether bytes are the name, no more and no fewer.
+pub fn is_name(s: &[u8], name: [u8; SESSION_SIZE]) -> bool
+    ensures { λ r. ⌜ r ≡ sameBytes (now (s .entry)) name ⌝ }
+{
+    if s.len() != SESSION_SIZE {
+        return false;
+    }
+    same_ten(s, ByteOffset(0), name)
+}

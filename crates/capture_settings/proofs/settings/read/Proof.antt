@@ -36,8 +36,8 @@ refused-requires-3 c κs = search opening
 returns-3 : tie.Need-returns-3
 returns-3 c = search opening
 
-name-requires : tie.Need-name-requires
-name-requires c κs = search opening
+ten-requires : tie.Need-ten-requires
+ten-requires c κs = search opening
 
 add-numbers : tie.Need-add-numbers
 add-numbers c = search opening
@@ -72,7 +72,7 @@ read-spec =
     is-printable-requires
     refused-requires-3
     returns-3
-    name-requires
+    ten-requires
     add-numbers
     sub-numbers
     part-numbers-start

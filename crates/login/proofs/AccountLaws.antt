@@ -1,0 +1,145 @@
+-- Laws of account records: letters without case, two fields compared byte for byte, and what a record says of an entry.
+use mathlib.Core.Path.{_≡_, refl, ap}
+use mathlib.Core.List.{List, [], _∷_}
+use mathlib.Core.Bool.{Bool, true, false, _&&_}
+use Prim.Native.Nat.{ℕ, suc, _+_, _≤_, _<_}
+use native.Mathlib.Omega.{arith}
+use native.Mathlib.Numerals.{add-one}
+use lib.ListN.{length, drop, getD, drop-of-length-le}
+use lib.Seq.{drop-cons}
+use lib.Dec.{eqb}
+use borrow.Author.Tests.{le-ltb, lt-ltb, le-leb, lt-leb}
+use Rattle.wire.specs.Choice.{if_then_else_}
+use Rattle.wire.specs.Bytes.{sameBytes}
+use Rattle.wire.specs.Words.{Case, answer, refused, Injective}
+use Rattle.wire.proofs.Same.{same-length, false-or-true}
+use Rattle.wire.proofs.Words.{read-back}
+use Rattle.text_fields.specs.Sound.{soundUsername, soundPassword}
+use Rattle.login.specs.declared.account.Account.{Account}
+use Rattle.login.specs.declared.account.Verdict.{Verdict}
+use Rattle.login.specs.declared.account.Verdict.the-variants.{Known, Unknown, TooMany}
+use Rattle.login.specs.Account.{lower, lowered, sameText, soundAccount, isOf, hasPassword, Knowing, known, unknown, verdictWords, VerdictsApart, verdictOf}
+
+-- ---- one byte
+
+module _ (b : ℕ) where
+  pub lower-below : b < 65 → b ≡ lower b
+  unfolding lower
+  lower-below h = simp (lt-ltb _ _ h)
+
+  pub lower-letter : 65 ≤ b → b ≤ 90 → b + 32 ≡ lower b
+  unfolding lower
+  lower-letter h g = simp (le-ltb _ _ h, le-leb _ _ g)
+
+  pub lower-above : 65 ≤ b → 90 < b → b ≡ lower b
+  unfolding lower
+  lower-above h g = simp (le-ltb _ _ h, lt-leb _ _ g)
+
+-- ---- two fields: of i bytes same tells whether they agree, and the bytes from i on decide the rest
+
+lowered-length : (l : List ℕ) → length (lowered l) ≡ length l
+unfolding lowered
+lowered-length [] = refl
+lowered-length (b ∷ l) = ap suc (lowered-length l)
+
+pub record SameOn (a b : List ℕ) (same : Bool) (i : ℕ) : Type 0 where
+  pub lengths : length a ≡ length b
+  pub rest : (same && sameText (drop i a) (drop i b)) ≡ sameText a b
+
+and-true : (x : Bool) → (x && true) ≡ x
+and-true true = refl
+and-true false = refl
+
+and-first : (x t s w : Bool) → (x && (if t then s else false)) ≡ w → ((x && t) && s) ≡ w
+and-first true true s w e = e
+and-first true false s w e = e
+and-first false t s w e = e
+
+-- the byte in front of what is left after i bytes
+front : (l : List ℕ) (i : ℕ) → i < length l → drop i l ≡ getD l i 0 ∷ drop (i + 1) l
+front l i h = rw (add-one, drop-cons l i 0)
+
+module _ (a b : List ℕ) where
+  pub same-unlike : (length a ≡ length b → ⊥) → false ≡ sameText a b
+  unfolding sameText
+  same-unlike h =
+      false-or-true (sameBytes (lowered a) (lowered b))
+      (λ e. let k = same-length (lowered a) (lowered b) e in h (omega (arith, lowered-length a, lowered-length b)))
+
+  pub same-start : length a ≡ length b → SameOn a b true 0
+  same-start h = record { lengths = h; rest = refl }
+
+  pub same-next : (same : Bool) (i p q : ℕ) → SameOn a b same i → i < length a → p ≡ lower (getD a i 0) → q ≡ lower (getD b i 0)
+      → SameOn a b (same && eqb p q) (i + 1)
+  unfolding sameText lowered sameBytes
+  same-next same i p q s h e f =
+      let n : i < length b = omega (arith, s .lengths) in
+      record {
+        lengths = s .lengths;
+        rest =
+            and-first same (eqb p q) (sameText (drop (i + 1) a) (drop (i + 1) b)) (sameText a b)
+            (rw (e, f) (rw (front a i h, front b i n) at (s .rest)));
+      }
+
+  pub same-end : (same : Bool) (i : ℕ) → SameOn a b same i → length a ≤ i → same ≡ sameText a b
+  unfolding sameText lowered sameBytes
+  same-end same i s h =
+      let d : drop i a ≡ [] = drop-of-length-le a h in
+      let e : drop i b ≡ [] = drop-of-length-le b {i = i} (omega (arith, s .lengths)) in
+      rw (d, e, and-true same) at (s .rest)
+
+-- ---- one record: t is what the first test gave, r what the second did
+
+module _ (a : Account) (t : Bool) where
+  pub sound-both : (r : Bool) → t ≡ soundUsername (a .username) → t ≡ true → r ≡ soundPassword (a .password) → r ≡ soundAccount a
+  unfolding soundAccount
+  sound-both r e f g = rw (← e, f) g
+
+  pub sound-not : t ≡ soundUsername (a .username) → t ≡ false → false ≡ soundAccount a
+  unfolding soundAccount
+  sound-not e f = rw (← e, f) refl
+
+module _ (a e : Account) (t : Bool) where
+  pub of-both : (r : Bool) → t ≡ soundAccount a → t ≡ true → r ≡ sameText (a .username) (e .username) → r ≡ isOf a e
+  unfolding isOf
+  of-both r f g h = rw (← f, g) h
+
+  pub of-not : t ≡ soundAccount a → t ≡ false → false ≡ isOf a e
+  unfolding isOf
+  of-not f g = rw (← f, g) refl
+
+  pub password-both : (r : Bool) → t ≡ soundAccount e → t ≡ true → r ≡ sameText (a .password) (e .password) → r ≡ hasPassword a e
+  unfolding hasPassword
+  password-both r f g h = rw (← f, g) h
+
+  pub password-not : t ≡ soundAccount e → t ≡ false → false ≡ hasPassword a e
+  unfolding hasPassword
+  password-not f g = rw (← f, g) refl
+
+  pub compared-known : t ≡ hasPassword a e → t ≡ true → verdictWords Known ≡ verdictOf (hasPassword a e)
+  unfolding verdictWords verdictOf
+  compared-known f g = rw (← f, g) refl
+
+  pub compared-unknown : t ≡ hasPassword a e → t ≡ false → verdictWords Unknown ≡ verdictOf (hasPassword a e)
+  unfolding verdictWords verdictOf
+  compared-unknown f g = rw (← f, g) refl
+
+-- ---- the words of a verdict read back
+
+verdict-of : Case Knowing → Verdict
+verdict-of (answer known) = Known
+verdict-of (answer unknown) = Unknown
+verdict-of refused = TooMany
+
+verdicts-apart : Injective verdictWords
+unfolding verdictWords verdict-of
+verdicts-apart = read-back verdictWords (λ w. verdict-of (w .which)) back
+  where
+    back : (v : Verdict) → verdict-of (verdictWords v .which) ≡ v
+    back Known = refl
+    back Unknown = refl
+    back TooMany = refl
+
+pub verdicts : VerdictsApart
+unfolding VerdictsApart
+verdicts = verdicts-apart

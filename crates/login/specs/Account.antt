@@ -1,0 +1,73 @@
+-- Account records: an entry is a username and a password like one, and the first sound record with its username decides.
+use Prim.Native.Nat.{ℕ, _+_}
+use mathlib.Core.List.{List, [], _∷_}
+use mathlib.Core.Bool.{Bool, true, false}
+use lib.ListN.{length}
+use lib.Dec.{ltb, leb}
+use Rattle.wire.specs.Choice.{if_then_else_}
+use Rattle.wire.specs.Refusals.{badSetting}
+use Rattle.wire.specs.Bytes.{sameBytes}
+use Rattle.wire.specs.Words.{Words, says, refuses, Injective}
+use Rattle.text_fields.specs.Sound.{soundUsername, soundPassword}
+use Rattle.login.specs.declared.account.Account.{Account}
+use Rattle.login.specs.declared.account.Verdict.{Verdict}
+use Rattle.login.specs.declared.account.Verdict.the-variants.{Known, Unknown, TooMany}
+
+-- ---- letters compare without case
+
+-- `A` to `Z` as `a` to `z`, every other byte as itself
+unfoldable pub lower : ℕ → ℕ
+lower b = if ltb b 65 then b else if leb b 90 then b + 32 else b
+
+unfoldable pub lowered : List ℕ → List ℕ
+lowered [] = []
+lowered (b ∷ l) = lower b ∷ lowered l
+
+-- all bytes of the field compared
+unfoldable pub sameText : List ℕ → List ℕ → Bool
+sameText a b = sameBytes (lowered a) (lowered b)
+
+-- ---- one record
+
+-- both fields are sound
+unfoldable pub soundAccount : Account → Bool
+soundAccount a = if soundUsername (a .username) then soundPassword (a .password) else false
+
+-- a sound record with the entry's username: an unsound one is skipped
+unfoldable pub isOf : Account → Account → Bool
+isOf a e = if soundAccount a then sameText (a .username) (e .username) else false
+
+-- a sound entry with the record's password
+unfoldable pub hasPassword : Account → Account → Bool
+hasPassword a e = if soundAccount e then sameText (a .password) (e .password) else false
+
+-- ---- a table of records
+
+-- the most records of a table
+abbrev pub mostAccounts : ℕ
+mostAccounts = 1024
+
+-- the first sound record with the username decides; no such record, another password, or an unsound entry: it isn't known
+unfoldable pub isKnown : List Account → Account → Bool
+isKnown [] e = false
+isKnown (a ∷ t) e = if isOf a e then hasPassword a e else isKnown t e
+
+-- what a table can say of an entry, but for a refusal
+pub data Knowing : Type 0 where
+  known unknown : Knowing
+
+unfoldable pub verdictWords : Verdict → Words Knowing
+verdictWords Known = says known []
+verdictWords Unknown = says unknown []
+verdictWords TooMany = refuses badSetting
+
+unfoldable pub VerdictsApart : Type 0
+VerdictsApart = Injective verdictWords
+
+unfoldable pub verdictOf : Bool → Words Knowing
+verdictOf true = says known []
+verdictOf false = says unknown []
+
+-- 19 for a table of too many records
+unfoldable pub lookupOf : List Account → Account → Words Knowing
+lookupOf t e = if ltb mostAccounts (length t) then refuses badSetting else verdictOf (isKnown t e)

@@ -1,0 +1,61 @@
+-- Logins either side of each rule.
+use Prim.Native.Nat.{ℕ, _-_}
+use mathlib.Core.List.{List, [], _∷_, _++_}
+use mathlib.Core.Path.{_≡_}
+use lib.ListN.{length, replicate}
+use Rattle.wire.specs.Bounds.{blank}
+use Rattle.wire.specs.Words.{says}
+use Rattle.text_fields.specs.Letters.{space}
+use Rattle.text_fields.specs.Sound.{usernameSize, passwordSize}
+use Rattle.soupbintcp.specs.Fields.{notAuthorized, sessionNotAvailable}
+use Rattle.login.specs.declared.account.Account.{Account}
+use Rattle.login.specs.Decision.{accepted, rejects, Attempt, loginOf}
+
+-- a text, and spaces up to the size of its field
+abbrev pub filled : ℕ → List ℕ → List ℕ
+filled size text = text ++ replicate (size - length text) space
+
+abbrev pub account : List ℕ → List ℕ → Account
+account username password = record { username = filled usernameSize username; password = filled passwordSize password }
+
+-- `ann` with the password `pw1`, in small letters and in capitals; with another password; and with none, which isn't sound
+abbrev pub ann : Account
+ann = account (97 ∷ 110 ∷ 110 ∷ []) (112 ∷ 119 ∷ 49 ∷ [])
+
+abbrev pub ANN : Account
+ANN = account (65 ∷ 78 ∷ 78 ∷ []) (80 ∷ 87 ∷ 49 ∷ [])
+
+abbrev pub annOther : Account
+annOther = account (97 ∷ 110 ∷ 110 ∷ []) (112 ∷ 119 ∷ 50 ∷ [])
+
+abbrev pub annNone : Account
+annNone = account (97 ∷ 110 ∷ 110 ∷ []) []
+
+-- READROOM01, and the same in small letters
+abbrev pub ours : List ℕ
+ours = 82 ∷ 69 ∷ 65 ∷ 68 ∷ 82 ∷ 79 ∷ 79 ∷ 77 ∷ 48 ∷ 49 ∷ []
+
+abbrev pub small : List ℕ
+small = 114 ∷ 101 ∷ 97 ∷ 100 ∷ 114 ∷ 111 ∷ 111 ∷ 109 ∷ 48 ∷ 49 ∷ []
+
+-- an entry that asks for a session and a number, where the last number is 5
+abbrev pub asks : List Account → Account → List ℕ → ℕ → Attempt
+asks t e asked wanted = record { table = t; entry = e; asked = asked; wanted = wanted; session = ours; last = 5 }
+
+pub record LoginExamples : Type 0 where
+  -- letters compare without case
+  pub case-differs : loginOf (asks (ann ∷ []) ANN ours 3) ≡ says accepted (3 ∷ [])
+  -- the first sound record with the username decides, and an unsound one doesn't
+  pub first-decides : loginOf (asks (annOther ∷ ann ∷ []) ann ours 3) ≡ rejects notAuthorized
+  pub unsound-is-skipped : loginOf (asks (annNone ∷ ann ∷ []) ann ours 3) ≡ says accepted (3 ∷ [])
+  pub no-record : loginOf (asks [] ann ours 3) ≡ rejects notAuthorized
+  -- the session may be blank, and is compared byte for byte
+  pub blank-session : loginOf (asks (ann ∷ []) ann blank 3) ≡ says accepted (3 ∷ [])
+  pub session-in-small : loginOf (asks (ann ∷ []) ann small 3) ≡ rejects sessionNotAvailable
+  -- J with A comes before J with S
+  pub account-first : loginOf (asks [] ann small 9) ≡ rejects notAuthorized
+  -- wanted 0, one past the last, and two past it
+  pub wanted-none : loginOf (asks (ann ∷ []) ann ours 0) ≡ says accepted (5 ∷ [])
+  pub wanted-next : loginOf (asks (ann ∷ []) ann ours 6) ≡ says accepted (6 ∷ [])
+  pub wanted-beyond : loginOf (asks (ann ∷ []) ann ours 7) ≡ rejects sessionNotAvailable
+  pub no-message-yet : loginOf (record { table = ann ∷ []; entry = ann; asked = ours; wanted = 0; session = ours; last = 0 }) ≡ says accepted (1 ∷ [])

@@ -1,0 +1,6 @@
+pub mod Account
+pub mod Table
+pub mod Decision
+pub mod Statements
+pub mod Examples
+pub mod Promises

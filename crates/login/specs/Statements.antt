@@ -1,0 +1,94 @@
+-- A login is accepted exactly when the account, session and number rules hold.
+use Prim.Native.Nat.{ℕ, _+_, _<_, _≤_}
+use mathlib.Core.List.{List, [], _∷_}
+use mathlib.Core.Bool.{true}
+use mathlib.Core.Path.{_≡_}
+use lib.ListN.{length, getD, replicate}
+use Rattle.wire.specs.Bounds.{leastNumber, blank}
+use Rattle.wire.specs.Refusals.{badSetting}
+use Rattle.wire.specs.Words.{answer, says, refuses, Injective}
+use Rattle.text_fields.specs.Letters.{space}
+use Rattle.soupbintcp.specs.Fields.{notAuthorized, sessionNotAvailable}
+use Rattle.login.specs.declared.account.Account.{Account}
+use Rattle.login.specs.Account.{soundAccount, mostAccounts}
+use Rattle.login.specs.Decision.{accepted, granted, decisionWords, rejects, Attempt, loginOf}
+
+-- ---- the rules, as document 01 says them
+
+abbrev pub noAccount : Account
+noAccount = record { username = []; password = [] }
+
+-- the record at a place of a table
+abbrev pub recordAt : List Account → ℕ → Account
+recordAt t i = getD t i noAccount
+
+-- the same letter without case, or the same byte
+pub data SameLetter (a b : ℕ) : Type 0 where
+  same : a ≡ b → SameLetter a b
+  capital : 65 ≤ a → a ≤ 90 → b ≡ a + 32 → SameLetter a b
+  small : 65 ≤ b → b ≤ 90 → a ≡ b + 32 → SameLetter a b
+
+-- all bytes of two fields compared
+pub record SameText (a b : List ℕ) : Type 0 where
+  pub size : length a ≡ length b
+  pub each : (i : ℕ) → i < length a → SameLetter (getD a i 0) (getD b i 0)
+
+-- the record at this place is sound and has the entry's username
+pub record Named (t : List Account) (e : Account) (i : ℕ) : Type 0 where
+  pub there : i < length t
+  pub sound : soundAccount (recordAt t i) ≡ true
+  pub username : SameText (recordAt t i .username) (e .username)
+
+-- the account rule: the entry is sound, and the first sound record with its username has its password
+pub record AccountRule (x : Attempt) : Type 0 where
+  pub entry-sound : soundAccount (x .entry) ≡ true
+  pub place : ℕ
+  pub named : Named (x .table) (x .entry) place
+  pub first : (i : ℕ) → i < place → Named (x .table) (x .entry) i → ⊥
+  pub password : SameText (recordAt (x .table) place .password) (x .entry .password)
+
+-- the session rule: blank, or exactly the server's
+pub data SessionRule (x : Attempt) : Type 0 where
+  asks-blank : x .asked ≡ blank → SessionRule x
+  asks-ours : x .asked ≡ x .session → SessionRule x
+
+-- the number rule: at most one past the last
+abbrev pub NumberRule : Attempt → Type 0
+NumberRule x = x .wanted ≤ x .last + 1
+
+-- a login that isn't refused: 19 is the one refusal, and its ground is the table
+abbrev pub NotRefused : Attempt → Type 0
+NotRefused x = length (x .table) ≤ mostAccounts
+
+pub record Rules (x : Attempt) : Type 0 where
+  pub account : AccountRule x
+  pub session : SessionRule x
+  pub number : NumberRule x
+
+-- ---- what is promised
+
+-- accepted with the granted number if all three hold, and only then; J with A where the account rule doesn't; J with S where it does
+-- and another doesn't
+pub record AcceptedExactlyWhen : Type 0 where
+  pub when : (x : Attempt) → NotRefused x → Rules x → loginOf x ≡ says accepted (granted (x .wanted) (x .last) ∷ [])
+  pub only-when : (x : Attempt) → loginOf x .which ≡ answer accepted → Rules x
+  pub else-A : (x : Attempt) → NotRefused x → (AccountRule x → ⊥) → loginOf x ≡ rejects notAuthorized
+  pub else-S : (x : Attempt) → NotRefused x → AccountRule x → (Rules x → ⊥) → loginOf x ≡ rejects sessionNotAvailable
+  pub too-many : (x : Attempt) → mostAccounts < length (x .table) → loginOf x ≡ refuses badSetting
+  -- the granted number is one that a message has or will have next
+  pub from-one : (x : Attempt) → leastNumber ≤ granted (x .wanted) (x .last)
+  pub up-to-next : (x : Attempt) → NumberRule x → granted (x .wanted) (x .last) ≤ x .last + 1
+
+-- a field that is no text: one of its bytes is zero, or it is nothing but spaces, or empty
+pub data NoText (l : List ℕ) : Type 0 where
+  has-zero : (i : ℕ) → i < length l → getD l i 0 ≡ 0 → NoText l
+  all-spaces : (k : ℕ) → l ≡ replicate k space → NoText l
+
+-- an entry with such a field gets J with A, whatever the table holds
+pub record NeverAccepted : Type 0 where
+  pub username : (x : Attempt) → NotRefused x → NoText (x .entry .username) → loginOf x ≡ rejects notAuthorized
+  pub password : (x : Attempt) → NotRefused x → NoText (x .entry .password) → loginOf x ≡ rejects notAuthorized
+
+-- the words tell all decisions apart
+unfoldable pub DecisionsApart : Type 0
+DecisionsApart = Injective decisionWords

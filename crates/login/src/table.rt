@@ -1,0 +1,46 @@
+// The lookup in a table that is lent as bytes, 16 to a record: username, then password. Bytes left over are no record.
+use crate::account;
+use crate::account::Account;
+use crate::account::MOST_ACCOUNTS;
+use crate::account::Verdict;
+use text_fields::sound::USERNAME_SIZE;
+ghost use mathlib.Core.Path.{_≡_};
+ghost use Prim.Native.Nat.{_≤_};
+ghost use lib.ListN.{length};
+ghost use Rattle.login.specs.Account.{verdictWords, lookupOf};
+ghost use Rattle.login.specs.Table.{recordSize, recordOf, recordsOf};
+
+// Bytes of a record.
+pub const RECORD_SIZE: usize = 16;
+
+// The first record of a table.
+fn first(table: &[u8]) -> Account
+    requires { ⌜ recordSize ≤ length (now table) ⌝ }
+    ensures { λ r. ⌜ r ≡ recordOf (now (table .entry)) ⌝ }
+{
+    Account {
+        username: parts::six(table),
+        password: parts::ten(&table[USERNAME_SIZE..]),
+    }
+}
+
+// What a table says of an entry: the first sound record with its username decides. An unsound entry is not looked for.
+pub fn lookup(table: &[u8], entry: Account) -> Verdict
+    ensures { λ r. ⌜ verdictWords r ≡ lookupOf (recordsOf (now (table .entry))) entry ⌝ }
+{
+    if MOST_ACCOUNTS < table.len() / RECORD_SIZE {
+        return Verdict::TooMany;
+    }
+    if !account::is_sound(entry) {
+        return Verdict::Unknown;
+    }
+    let mut rest = table;
+    while RECORD_SIZE <= rest.len() {
+        let account = first(rest);
+        if account::is_of(account, entry) {
+            return account::compared(account, entry);
+        }
+        rest = &rest[RECORD_SIZE..];
+    }
+    Verdict::Unknown
+}

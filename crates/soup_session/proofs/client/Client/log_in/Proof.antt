@@ -1,0 +1,44 @@
+-- 33 where the session or the number is another; else both come from A.
+use Rattle.soup_session.proofs.ClientLaws.{logged-in}
+use Rattle.soup_session.proofs.Rules.{log-ins}
+use Rattle.soup_session.proofs.client.Client.log_in.Statement.{statement}
+use Rattle.soup_session.proofs.client.Client.log_in.Tie as tie
+
+asked-session-requires : tie.Need-asked-session-requires
+asked-session-requires c κs = search log-ins
+
+stay-requires : tie.Need-stay-requires
+stay-requires c κs = search log-ins
+
+returns : tie.Need-returns
+returns c = search log-ins
+
+asked-number-requires : tie.Need-asked-number-requires
+asked-number-requires c κs = search log-ins
+
+stay-requires-2 : tie.Need-stay-requires-2
+stay-requires-2 c κs = search log-ins
+
+returns-2 : tie.Need-returns-2
+returns-2 c = search log-ins
+
+ten-requires : tie.Need-ten-requires
+ten-requires c κs = search log-ins
+
+returns-3 : tie.Need-returns-3
+returns-3 c =
+    logged-in _ _ _ _ _ _ _ (c .before .before .before .before .asked-session .ensures) (c .before .before .before .if1 .left)
+    (c .before .before .asked-number .ensures) (c .before .if2 .left) (c .ten .ensures)
+
+pub log-in-spec : {M : Type 1} → statement M
+log-in-spec =
+    tie.close
+    (tie.spec
+    asked-session-requires
+    stay-requires
+    returns
+    asked-number-requires
+    stay-requires-2
+    returns-2
+    ten-requires
+    returns-3)

@@ -1,0 +1,45 @@
+-- Each state has its row, and closed is 32.
+use Rattle.soup_session.proofs.Rules.{server-steps}
+use Rattle.soup_session.proofs.server.Server.take.Statement.{statement}
+use Rattle.soup_session.proofs.server.Server.take.Tie as tie
+
+enum-told : tie.Need-enum-told
+enum-told c = search server-steps
+
+take-waiting-requires : tie.Need-take-waiting-requires
+take-waiting-requires c κs = search server-steps
+
+enum-told-2 : tie.Need-enum-told-2
+enum-told-2 c = search server-steps
+
+take-in-requires : tie.Need-take-in-requires
+take-in-requires c κs = search server-steps
+
+enum-told-3 : tie.Need-enum-told-3
+enum-told-3 c = search server-steps
+
+stay-requires : tie.Need-stay-requires
+stay-requires c κs = search server-steps
+
+returns : tie.Need-returns
+returns c = search server-steps
+
+returns-2 : tie.Need-returns-2
+returns-2 c = search server-steps
+
+returns-3 : tie.Need-returns-3
+returns-3 c = search server-steps
+
+pub take-spec : {M : Type 1} → statement M
+take-spec =
+    tie.close
+    (tie.spec
+    enum-told
+    take-waiting-requires
+    enum-told-2
+    take-in-requires
+    enum-told-3
+    stay-requires
+    returns
+    returns-2
+    returns-3)
