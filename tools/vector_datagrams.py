@@ -1,4 +1,4 @@
-"""Datagrams, good and broken, that several groups of vectors share."""
+"""Datagrams, good and broken, and cursors into them, that several groups of vectors share."""
 from vector_rules import TOP, header
 
 ROOM = b"READROOM01"
@@ -113,4 +113,47 @@ REQUESTS = [
     ("number 2^64-1, count 65,534", header(ROOM, TOP, 65534)),
     ("number and count of all different bytes", header(ROOM, 0x0102030405060708, 0x090A)),
     ("any ten bytes are a session", header(b"\x00\xff \x00\x01\x02\x03\x04\x05\x00", 3, 2)),
+]
+
+# cursors that a datagram may meet, made up or of another datagram
+FORGED = [
+    ("none left, at a block", (20, 0), TWO),
+    ("none left, at the largest place", (TOP, 0), TWO),
+    ("place 0: the session's first bytes are taken for a length, which runs past the end", (0, 1), TWO),
+    ("place 0 where the session starts with a length that fits", (0, 2), packet(1, session=b"\x00\x08" + bytes(8))),
+    ("at a message's data", (22, 1), packet(1, b"\x00\x01a")),
+    ("two bytes before the end, a length of 0", (20, 1), packet(1, b"")),
+    ("two bytes before the end, a length of 1", (20, 1), packet(1, count=1, after=b"\x00\x01")),
+    ("one byte before the end", (20, 1), packet(1, count=1, after=b"\x00")),
+    ("at the end", (29, 1), TWO),
+    ("past the end", (30, 1), TWO),
+    ("at the largest place", (TOP, 1), TWO),
+    ("one before the largest place", (TOP - 1, 65535), TWO),
+    ("at the largest place, no bytes", (TOP, 65535), b""),
+    ("at a block, far too many left", (20, 65535), TWO),
+    ("a cursor of one datagram used on a longer one", (24, 1), packet(1, b"abcdef", b"gh")),
+    ("a cursor of one datagram used on a shorter one", (24, 1), ONE),
+    ("a cursor of one datagram that falls on a block of another", (24, 1), EMPTY_MIDDLE),
+    ("a cursor of one datagram used on a heartbeat", (20, 2), HEARTBEAT),
+]
+
+# the count and skipped of a deliver answer, of the datagram or forged
+DELIVERIES = [
+    ("three messages: all, after one, after two, after all, none", EMPTY_MIDDLE, ((3, 0), (2, 1), (1, 2), (0, 3), (0, 0))),
+    (
+        "fewer than there are, more than there are",
+        EMPTY_MIDDLE,
+        ((1, 0), (1, 1), (4, 0), (3, 1), (1, 3), (0, 4), (65535, 0), (65534, 1), (0, 65535)),
+    ),
+    ("together above 65,535: none", EMPTY_MIDDLE, ((65535, 1), (1, 65535), (65534, 2), (32768, 32768), (65535, 65535))),
+    *(
+        (f"another datagram than the one taken: {name}", data, ((2, 0), (1, 1), (0, 2), (2, 2)))
+        for name, data in (
+            ("a heartbeat", HEARTBEAT),
+            ("no bytes", b""),
+            ("nineteen bytes", TWO[:19]),
+            ("a block absent", packet(1, b"ab", count=2)),
+            ("a byte after the last block", packet(1, b"ab", b"c", after=b"\x00")),
+        )
+    ),
 ]

@@ -93,6 +93,12 @@ class Vectors:
         self.used.add(function)
         return self.answers[-1]
 
+    def expect(self, expected, function, *fields):
+        """One vector, and how its answer begins."""
+        answer = self.ask(function, *fields)
+        assert answer.startswith(f"{self.letters[function]} {function} {expected}"), (answer, expected)
+        return answer
+
     def case(self, name, function, *fields):
         """One vector under its name."""
         self.heading(name)

@@ -1,5 +1,6 @@
-"""Accounts and packets that the vectors of the login and of the session are made of."""
-from vectors_soupbintcp import BLANK, GOOD, ROOM, accepted, login, packet, raw
+"""Accounts, tables of them and packets that the vectors of the login and of the session are made of."""
+from vector_session_rules import KNOWN, UNKNOWN
+from vectors_soupbintcp import BLANK, GOOD, ROOM, UNSOUND, accepted, login, packet, raw
 
 USER, WORD = b"reader", b"Secret12"
 OTHER = b"READROOM02"
@@ -47,6 +48,51 @@ WORDS = [
     ("the byte 32 below its last digit", b"Secret1\x12  ", False),
 ]
 assert all(len(word) == 10 for _, word, _ in WORDS)
+
+
+def small_tables(vectors, known):
+    """Lookups in tables of at most four records; `known` asks for the verdict of an entry and of records."""
+    vectors.section("unsound entries, the record being the same")
+    for name, field in UNSOUND:
+        vectors.heading(name)
+        known(UNKNOWN, account(field[:6], WORD), account(field[:6], WORD), READER)
+        known(UNKNOWN, account(USER, field), account(USER, field), READER)
+
+    vectors.section("usernames that differ in case")
+    for name in (b"READER", b"Reader", b"rEADEr"):
+        known(KNOWN, account(name, b"SECRET12"), READER)
+        known(KNOWN, READER, account(name, b"sEcReT12"))
+    known(UNKNOWN, account(b"READE"), READER)
+    known(UNKNOWN, account(b"reade\x00"), READER)
+
+    vectors.section("the first sound record with the username decides")
+    first, second = account(USER, b"first"), account(b"READER", b"second")
+    for records, right_one, wrong_one in (
+        ((first, second), first, second),
+        ((second, first), second, first),
+        ((GUEST, first, GUEST, second), first, second),
+        ((first, first, second), first, second),
+        ((first, second, second), first, second),
+    ):
+        known(KNOWN, right_one, *records)
+        known(UNKNOWN, wrong_one, *records)
+    vectors.heading("an unsound record before is skipped")
+    for word in (b"", bytes(10), b"a b", b" ab", b"ab\x00", b"ab-"):
+        bad = account(USER, word)
+        known(KNOWN, first, bad, first, second)
+        known(UNKNOWN, second, bad, first, second)
+        known(UNKNOWN, bad, bad, first, second)
+        known(UNKNOWN, bad, bad)
+        known(KNOWN, first, first, bad)
+    vectors.heading("a record with an unsound username before")
+    for name in (b"", bytes(6), b"reade\x00", b" eader", b"rea er", b"reade-"):
+        known(KNOWN, READER, account(name, b"Secret12"), READER)
+        known(UNKNOWN, account(name, b"Secret12"), account(name, b"Secret12"), READER)
+    vectors.heading("the password of another user")
+    known(UNKNOWN, account(b"guest", WORD), READER, GUEST)
+    known(UNKNOWN, account(b"guest", WORD), GUEST, READER)
+    known(KNOWN, GUEST, READER, GUEST)
+    known(UNKNOWN, account(b"nobody", WORD), READER, GUEST)
 
 
 # ---- packets that a step meets

@@ -51,8 +51,12 @@ def records_of(table):
 
 
 def lookup(table, entry):
+    """What a table that is lent as bytes says of an entry."""
+    return lookup_in(records_of(table), entry)
+
+
+def lookup_in(records, entry):
     """The first sound record with the username decides."""
-    records = records_of(table)
     if len(records) > MOST_ACCOUNTS:
         return TOO_MANY
     deciding = [record for record in records if is_of(record, entry)]
@@ -124,7 +128,12 @@ def entry_of(stream):
 
 def server_step(server, table, stream):
     """An answer, and the server after it. Refused: 19, 21 to 25, 32, 31."""
-    return server_step_with(server, lookup(table, entry_of(stream)), stream)
+    return server_step_in(server, records_of(table), stream)
+
+
+def server_step_in(server, records, stream):
+    """The same where the table is a list of records."""
+    return server_step_with(server, lookup_in(records, entry_of(stream)), stream)
 
 
 def server_step_with(server, verdict, stream):

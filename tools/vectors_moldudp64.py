@@ -8,6 +8,7 @@ from vector_datagrams import (
     EMPTY_LAST,
     EMPTY_MIDDLE,
     END,
+    FORGED,
     FULLEST,
     HEARTBEAT,
     LARGEST,
@@ -234,24 +235,8 @@ def cursors():
             ask(function, *cursor, data)
         ask("cursor::skip", *cursor, data, 2)
 
-    at_cursor("none left, at a block", (20, 0), TWO)
-    at_cursor("none left, at the largest place", (TOP, 0), TWO)
-    at_cursor("place 0: the session's first bytes are taken for a length, which runs past the end", (0, 1), TWO)
-    at_cursor("place 0 where the session starts with a length that fits", (0, 2), packet(1, session=b"\x00\x08" + bytes(8)))
-    at_cursor("at a message's data", (22, 1), packet(1, b"\x00\x01a"))
-    at_cursor("two bytes before the end, a length of 0", (20, 1), packet(1, b""))
-    at_cursor("two bytes before the end, a length of 1", (20, 1), packet(1, count=1, after=b"\x00\x01"))
-    at_cursor("one byte before the end", (20, 1), packet(1, count=1, after=b"\x00"))
-    at_cursor("at the end", (29, 1), TWO)
-    at_cursor("past the end", (30, 1), TWO)
-    at_cursor("at the largest place", (TOP, 1), TWO)
-    at_cursor("one before the largest place", (TOP - 1, 65535), TWO)
-    at_cursor("at the largest place, no bytes", (TOP, 65535), b"")
-    at_cursor("at a block, far too many left", (20, 65535), TWO)
-    at_cursor("a cursor of one datagram used on a longer one", (24, 1), packet(1, b"abcdef", b"gh"))
-    at_cursor("a cursor of one datagram used on a shorter one", (24, 1), ONE)
-    at_cursor("a cursor of one datagram that falls on a block of another", (24, 1), EMPTY_MIDDLE)
-    at_cursor("a cursor of one datagram used on a heartbeat", (20, 2), HEARTBEAT)
+    for name, cursor, data in FORGED:
+        at_cursor(name, cursor, data)
 
 
 def requests():

@@ -3,6 +3,7 @@ import itertools
 
 from vector_datagrams import (
     ALL_EMPTY,
+    DELIVERIES,
     EMPTY_FIRST,
     EMPTY_LAST,
     EMPTY_MIDDLE,
@@ -11,7 +12,6 @@ from vector_datagrams import (
     LARGEST,
     REFUSED,
     ROOM,
-    TWO,
     data_of,
     end,
     heartbeat,
@@ -402,24 +402,9 @@ def orders():
 
 def deliveries():
     section("where a delivery starts, the values forged or not")
-    heading("three messages: all, after one, after two, after all, none")
-    for count, skipped in ((3, 0), (2, 1), (1, 2), (0, 3), (0, 0)):
-        ask("delivery::start", EMPTY_MIDDLE, count, skipped)
-    heading("fewer than there are, more than there are")
-    for count, skipped in ((1, 0), (1, 1), (4, 0), (3, 1), (1, 3), (0, 4), (65535, 0), (65534, 1), (0, 65535)):
-        ask("delivery::start", EMPTY_MIDDLE, count, skipped)
-    heading("together above 65,535: none")
-    for count, skipped in ((65535, 1), (1, 65535), (65534, 2), (32768, 32768), (65535, 65535)):
-        ask("delivery::start", EMPTY_MIDDLE, count, skipped)
-    for name, data in (
-        ("a heartbeat", HEARTBEAT),
-        ("no bytes", b""),
-        ("nineteen bytes", TWO[:19]),
-        ("a block absent", packet(1, b"ab", count=2)),
-        ("a byte after the last block", packet(1, b"ab", b"c", after=b"\x00")),
-    ):
-        heading(f"another datagram than the one taken: {name}")
-        for count, skipped in ((2, 0), (1, 1), (0, 2), (2, 2)):
+    for name, data, values in DELIVERIES:
+        heading(name)
+        for count, skipped in values:
             ask("delivery::start", data, count, skipped)
 
 

@@ -20,6 +20,7 @@ from vector_logins import (
     ZERO_WORD,
     ZEROS,
     account,
+    small_tables,
 )
 from vector_rules import TOP, Refused
 from vector_session_rules import (
@@ -154,16 +155,9 @@ FUNCTIONS = {
 }
 
 V = Vectors(FUNCTIONS)
-ask, case, heading, section = V.ask, V.case, V.heading, V.section
+ask, case, expect, heading, section = V.ask, V.case, V.expect, V.heading, V.section
 SERVER_STATES = ("waiting", "in", "closed")
 CLIENT_STATES = ("asked", "in", "ended", "closed")
-
-
-def expect(expected, name, *fields):
-    """A vector, and how its answer begins."""
-    answer = ask(name, *fields)
-    assert answer.startswith(f"{V.letters[name]} {name} {expected}"), (answer, expected)
-    return answer
 
 
 def numbers(*given):
@@ -301,47 +295,7 @@ def lookups():
     for entry in (SPACES, ZEROS, NO_WORD, ZERO_WORD, account(b"", WORD), account(bytes(6), WORD)):
         for table in (b"", entry, SPACES, ZEROS, NO_WORD, ZERO_WORD, READER, BAD_RECORDS + READER):
             known(UNKNOWN, entry, table)
-    section("unsound entries, the record being the same")
-    for name, field in UNSOUND:
-        heading(name)
-        known(UNKNOWN, account(field[:6], WORD), account(field[:6], WORD), READER)
-        known(UNKNOWN, account(USER, field), account(USER, field), READER)
-
-    section("usernames that differ in case")
-    for name in (b"READER", b"Reader", b"rEADEr"):
-        known(KNOWN, account(name, b"SECRET12"), READER)
-        known(KNOWN, READER, account(name, b"sEcReT12"))
-    known(UNKNOWN, account(b"READE"), READER)
-    known(UNKNOWN, account(b"reade\x00"), READER)
-
-    section("the first sound record with the username decides")
-    first, second = account(USER, b"first"), account(b"READER", b"second")
-    for records, right_one, wrong_one in (
-        ((first, second), first, second),
-        ((second, first), second, first),
-        ((GUEST, first, GUEST, second), first, second),
-        ((first, first, second), first, second),
-        ((first, second, second), first, second),
-    ):
-        known(KNOWN, right_one, *records)
-        known(UNKNOWN, wrong_one, *records)
-    heading("an unsound record before is skipped")
-    for word in (b"", bytes(10), b"a b", b" ab", b"ab\x00", b"ab-"):
-        bad = account(USER, word)
-        known(KNOWN, first, bad, first, second)
-        known(UNKNOWN, second, bad, first, second)
-        known(UNKNOWN, bad, bad, first, second)
-        known(UNKNOWN, bad, bad)
-        known(KNOWN, first, first, bad)
-    heading("a record with an unsound username before")
-    for name in (b"", bytes(6), b"reade\x00", b" eader", b"rea er", b"reade-"):
-        known(KNOWN, READER, account(name, b"Secret12"), READER)
-        known(UNKNOWN, account(name, b"Secret12"), account(name, b"Secret12"), READER)
-    heading("the password of another user")
-    known(UNKNOWN, account(b"guest", WORD), READER, GUEST)
-    known(UNKNOWN, account(b"guest", WORD), GUEST, READER)
-    known(KNOWN, GUEST, READER, GUEST)
-    known(UNKNOWN, account(b"nobody", WORD), READER, GUEST)
+    small_tables(V, known)
 
     section("bytes left over are no record")
     for size in (0, 1, 6, 15):
@@ -509,19 +463,24 @@ SERVER_TABLE = {
 SERVER_AFTER = {("waiting", "login"): "in", ("in", "logout"): "closed"}
 
 
-def server_grid():
-    section("a server in every state, and every letter of both senders")
+def server_rows():
+    """Every state and every letter of both senders: the packet, how the answer begins, and the state after it."""
     for state in SERVER_STATES:
         for name, sender, data in LETTERS:
-            heading(f"{state}: {name}")
             other = "refused 32" if state == "closed" else "refused 31"
             expected = SERVER_TABLE[state].get(name, other) if sender == "client" else "refused 23"
-            answer = server_at(expected, state, data)
-            after = SERVER_AFTER.get((state, name), state)
-            assert answer.endswith(f" session={show_bytes(ROOM)} last=5 state={after}"), answer
-            server_at(expected, state, data + b"\x00\x01")
-            if name != "login":
-                server_at(expected, state, data, table=b"")
+            yield state, name, data, expected, SERVER_AFTER.get((state, name), state)
+
+
+def server_grid():
+    section("a server in every state, and every letter of both senders")
+    for state, name, data, expected, after in server_rows():
+        heading(f"{state}: {name}")
+        answer = server_at(expected, state, data)
+        assert answer.endswith(f" session={show_bytes(ROOM)} last=5 state={after}"), answer
+        server_at(expected, state, data + b"\x00\x01")
+        if name != "login":
+            server_at(expected, state, data, table=b"")
     section("a server in every state: need more, and 21 to 25 before 32 and 31")
     for state in SERVER_STATES:
         for name, data in SHORT:

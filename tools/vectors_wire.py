@@ -10,6 +10,7 @@ FUNCTIONS = {
     "output::put16": lambda out, at, number: show_written(out, at, lambda: number.to_bytes(2, "big")),
     "output::put64": lambda out, at, number: show_written(out, at, lambda: number.to_bytes(8, "big")),
     "output::put_bytes": lambda out, at, data: show_written(out, at, lambda: data),
+    "compare::is_name": lambda data, session: show_truth(data == session),
 }
 
 V = Vectors(FUNCTIONS)
@@ -67,6 +68,14 @@ def names():
     case("just past the end", "compare::same_ten", ROOM, 10, ROOM)
     case("past the end", "compare::same_ten", ROOM, 11, ROOM)
     case("at the largest place", "compare::same_ten", ROOM, TOP, ROOM)
+    section("a whole name compared")
+    case("the same", "compare::is_name", ROOM, ROOM)
+    case("case differs", "compare::is_name", b"READROOm01", ROOM)
+    case("nine bytes", "compare::is_name", ROOM[:9], ROOM)
+    case("eleven bytes", "compare::is_name", ROOM + b"1", ROOM)
+    case("no bytes", "compare::is_name", b"", ROOM)
+    case("a zero byte in both", "compare::is_name", zero, zero)
+    case("they differ after a zero byte", "compare::is_name", zero, b"READ\x00OOM02")
 
 
 def outputs():

@@ -1,5 +1,4 @@
 // The session at the client: starts, single steps from any state, and runs.
-use crate::answers;
 use crate::runs;
 use crate::runs::Place;
 use soup_session::client::Client;
@@ -7,6 +6,7 @@ use soup_session::client::ClientState;
 use soup_session::client::Stepped;
 use vector_lines::parse;
 use vector_lines::print;
+use vector_sessions::answers;
 use wire::kinds::SequenceNumber;
 
 // A client, and where it has come to in its stream.

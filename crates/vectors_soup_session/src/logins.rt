@@ -6,20 +6,16 @@ use login::account::Verdict;
 use login::decision;
 use login::decision::Decision;
 use login::table;
-use text_fields::sound::USERNAME_SIZE;
 use vector_lines::parse;
 use vector_lines::print;
-use wire::kinds::ByteOffset;
+use vector_sessions::verdicts;
 use wire::kinds::SequenceNumber;
 
 // A field that is an account.
 fn account(fields: &[u8], key: u8) -> Account {
     let mut bytes = [0u8; 16];
     parse::bytes(fields, key, &mut bytes);
-    Account {
-        username: parts::six(&bytes),
-        password: parts::ten(&bytes[USERNAME_SIZE..]),
-    }
+    verdicts::account(&bytes)
 }
 
 // The field `verdict`.
@@ -28,20 +24,6 @@ pub(crate) fn verdict(fields: &[u8]) -> Verdict {
         b'k' => Verdict::Known,
         b'u' => Verdict::Unknown,
         _ => Verdict::TooMany,
-    }
-}
-
-fn told(v: Verdict) {
-    match v {
-        Verdict::Known => {
-            print::text(b"known");
-        }
-        Verdict::Unknown => {
-            print::text(b"unknown");
-        }
-        Verdict::TooMany => {
-            print::text(b"too-many");
-        }
     }
 }
 
@@ -63,7 +45,7 @@ fn decided(d: Decision) {
 fn lookup(fields: &[u8]) {
     let mut room = [0u8; tables::ROOM];
     let size = tables::table(fields, &mut room);
-    told(table::lookup(tables::laid(&room, size), account(fields, b'e')));
+    verdicts::told(table::lookup(tables::laid(&room, size), account(fields, b'e')));
 }
 
 fn decide(fields: &[u8]) {
@@ -90,7 +72,7 @@ pub(crate) fn ask(letter: u8, fields: &[u8]) {
             );
         }
         b'g' => {
-            told(account::compared(account(fields, b'r'), account(fields, b'e')));
+            verdicts::told(account::compared(account(fields, b'r'), account(fields, b'e')));
         }
         b'h' => {
             lookup(fields);

@@ -1,63 +1,18 @@
 // The session at the server: the entry in front, starts, single steps from any state, and runs.
-use crate::answers;
 use crate::logins;
 use crate::runs;
 use crate::runs::Place;
 use crate::tables;
 use soup_session::server;
 use soup_session::server::Server;
-use soup_session::server::ServerState;
-use soup_session::server::Stepped;
 use vector_lines::parse;
 use vector_lines::print;
-use wire::kinds::SequenceNumber;
+use vector_sessions::servers;
 
 // A server, and where it has come to in its stream.
 pub struct ServerRun {
     pub server: Server,
     pub place: Place,
-}
-
-fn told(state: ServerState) {
-    match state {
-        ServerState::Waiting => {
-            print::text(b"waiting");
-        }
-        ServerState::In => {
-            print::text(b"in");
-        }
-        ServerState::Closed => {
-            print::text(b"closed");
-        }
-    }
-}
-
-fn server(s: Server) {
-    let name = s.session;
-    let state = s.state;
-    answers::session(name, b" last=", s.last);
-    told(state);
-}
-
-fn last(fields: &[u8]) -> SequenceNumber {
-    SequenceNumber(parse::number(fields, b'l'))
-}
-
-fn state(fields: &[u8]) -> ServerState {
-    match parse::first(parse::field(fields, b'i')) {
-        b'w' => ServerState::Waiting,
-        b'i' => ServerState::In,
-        _ => ServerState::Closed,
-    }
-}
-
-// The server that the fields tell, in any state.
-fn given(fields: &[u8]) -> Server {
-    Server {
-        session: parse::session(fields),
-        last: last(fields),
-        state: state(fields),
-    }
 }
 
 fn entry(stream: &[u8]) {
@@ -71,17 +26,10 @@ fn entry(stream: &[u8]) {
 }
 
 fn start(fields: &[u8]) {
-    let started = Server::new(parse::session(fields), last(fields));
+    let started = Server::new(parse::session(fields), servers::last(fields));
     print::number(b"refusal=", started.refusal.number as u64);
     let after = started.server;
-    server(after);
-}
-
-fn stepped(s: Stepped, stream: &[u8]) {
-    let answer = s.answer;
-    let after = s.server;
-    answers::answer(answer, s.size, stream);
-    server(after);
+    servers::server(after);
 }
 
 // One step of a run, printed, unless it is over.
@@ -94,7 +42,7 @@ fn turn(before: ServerRun, fields: &[u8], table: &[u8], stream: &[u8]) -> Server
     let left = runs::left(place, stream);
     let found = from.step(table, left);
     print::text(b"[");
-    stepped(found, left);
+    servers::stepped(found, left);
     print::text(b"]");
     let answer = found.answer;
     let next = found.server;
@@ -106,7 +54,7 @@ fn turn(before: ServerRun, fields: &[u8], table: &[u8], stream: &[u8]) -> Server
 
 // Steps from a start, each from the server that the step before handed back.
 fn run(fields: &[u8], table: &[u8], stream: &[u8]) {
-    let started = Server::new(parse::session(fields), last(fields));
+    let started = Server::new(parse::session(fields), servers::last(fields));
     let from = started.server;
     let mut run = ServerRun {
         server: from,
@@ -123,16 +71,16 @@ fn run(fields: &[u8], table: &[u8], stream: &[u8]) {
 // What is given a table.
 fn with_table(letter: u8, fields: &[u8], table: &[u8], stream: &[u8]) {
     if letter == b'm' {
-        let from = given(fields);
-        stepped(from.step(table, stream), stream);
+        let from = servers::given(fields);
+        servers::stepped(from.step(table, stream), stream);
         return;
     }
     run(fields, table, stream);
 }
 
 fn step_with(fields: &[u8], stream: &[u8]) {
-    let from = given(fields);
-    stepped(from.step_with(logins::verdict(fields), stream), stream);
+    let from = servers::given(fields);
+    servers::stepped(from.step_with(logins::verdict(fields), stream), stream);
 }
 
 // What is given a stream.

@@ -24,6 +24,9 @@ fn read(letter: u8, data: &[u8], at: ByteOffset, session: [u8; SESSION_SIZE]) {
         b'c' => {
             print::truth(b"", compare::same_ten(data, at, session));
         }
+        b'g' => {
+            print::truth(b"", compare::is_name(data, session));
+        }
         _ => {}
     }
 }

@@ -1,29 +1,31 @@
--- 33 where the session or the number is another; else both come from A.
-use Rattle.soup_session.proofs.ClientLaws.{logged-in}
-use Rattle.soup_session.proofs.Rules.{log-ins}
+-- Refused where the session or the number differs; else both are taken from A.
+use borrow.Author.Needs.{needs}
+use Rattle.soup_session.proofs.ClientLaws.{other-session, other-number, logged-in}
 use Rattle.soup_session.proofs.client.Client.log_in.Statement.{statement}
 use Rattle.soup_session.proofs.client.Client.log_in.Tie as tie
 
 asked-session-requires : tie.Need-asked-session-requires
-asked-session-requires c κs = search log-ins
+asked-session-requires c κs = search needs
 
 stay-requires : tie.Need-stay-requires
-stay-requires c κs = search log-ins
+stay-requires c κs = search needs
 
 returns : tie.Need-returns
-returns c = search log-ins
+returns c = other-session _ _ _ _ _ _ (c .before .before .asked-session .ensures) (c .before .if1 .taken) (c .stay .ensures)
 
 asked-number-requires : tie.Need-asked-number-requires
-asked-number-requires c κs = search log-ins
+asked-number-requires c κs = search needs
 
 stay-requires-2 : tie.Need-stay-requires-2
-stay-requires-2 c κs = search log-ins
+stay-requires-2 c κs = search needs
 
 returns-2 : tie.Need-returns-2
-returns-2 c = search log-ins
+returns-2 c =
+    other-number _ _ _ _ _ _ _ (c .before .before .before .before .asked-session .ensures) (c .before .before .before .if1 .left)
+    (c .before .before .asked-number .ensures) (c .before .if2 .taken) (c .stay2 .ensures)
 
 ten-requires : tie.Need-ten-requires
-ten-requires c κs = search log-ins
+ten-requires c κs = search needs
 
 returns-3 : tie.Need-returns-3
 returns-3 c =

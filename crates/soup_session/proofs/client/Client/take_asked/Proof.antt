@@ -1,43 +1,43 @@
 -- One arm for each letter that is taken, and 31 for every other.
-use Rattle.soup_session.proofs.Rules.{client-rows}
+use Rattle.soup_session.proofs.Rules.{asked-rows}
 use Rattle.soup_session.proofs.client.Client.take_asked.Statement.{statement}
 use Rattle.soup_session.proofs.client.Client.take_asked.Tie as tie
 
 enum-known-packet : tie.Need-enum-known-packet
-enum-known-packet c = search client-rows
+enum-known-packet c = search asked-rows
 
 session-requires : tie.Need-session-requires
-session-requires c κs = search client-rows
+session-requires c κs = search asked-rows
 
 log-in-requires : tie.Need-log-in-requires
-log-in-requires c κs = search client-rows
+log-in-requires c κs = search asked-rows
 
 enum-known-packet-2 : tie.Need-enum-known-packet-2
-enum-known-packet-2 c = search client-rows
+enum-known-packet-2 c = search asked-rows
 
 goes-requires : tie.Need-goes-requires
-goes-requires c κs = search client-rows
+goes-requires c κs = search asked-rows
 
 enum-told : tie.Need-enum-told
-enum-told c = search client-rows
+enum-told c = search asked-rows
 
 goes-requires-2 : tie.Need-goes-requires-2
-goes-requires-2 c κs = search client-rows
+goes-requires-2 c κs = search asked-rows
 
 stay-requires : tie.Need-stay-requires
-stay-requires c κs = search client-rows
+stay-requires c κs = search asked-rows
 
 returns : tie.Need-returns
-returns c = search client-rows
+returns c = search asked-rows
 
 returns-2 : tie.Need-returns-2
-returns-2 c = search client-rows
+returns-2 c = search asked-rows
 
 returns-3 : tie.Need-returns-3
-returns-3 c = search client-rows
+returns-3 c = search asked-rows
 
 returns-4 : tie.Need-returns-4
-returns-4 c = search client-rows
+returns-4 c = search asked-rows
 
 pub take-asked-spec : {M : Type 1} → statement M
 take-asked-spec =

@@ -1,0 +1,5 @@
+pub mod HandedOn
+pub mod Held
+pub mod Promises
+pub mod ReaderLaws
+pub mod Walks

@@ -1,0 +1,23 @@
+-- What a reader shows of the messages of its datagram.
+use Prim.Native.Nat.{ℕ, _-_}
+use mathlib.Core.List.{List}
+use mathlib.Core.Path.{_≡_}
+use lib.ListN.{length}
+use Rattle.moldudp64.specs.Downstream.{messagesOf, messageOf}
+use Rattle.moldudp64_messages.specs.declared.cursor.Cursor.{Cursor}
+use Rattle.moldudp64_messages.specs.Cursor.{located, moved, movedBy, startOf, locateOf, part}
+use Rattle.moldudp64_reader.specs.declared.Shown.{Shown}
+
+-- what a reader at a cursor shows: the message there, how many are left, and the place of the next
+abbrev pub shownAt : List ℕ → Cursor → Shown
+shownAt l c = record { located = located l c; left = c .left; next = moved l c }
+
+-- at message i of the datagram: its place, its bytes, and how many are left, itself included
+pub record StandsAt (l : List ℕ) (i : ℕ) (c : Cursor) : Type 0 where
+  pub its-place : located l c ≡ locateOf l i
+  pub its-bytes : part l (located l c) ≡ messageOf l i
+  pub how-many : c .left .0 ≡ length (messagesOf l) - i
+
+-- a reader that is opened, and moved on i times, stands at message i
+unfoldable pub ReadsTheMessages : Type 0
+ReadsTheMessages = (l : List ℕ) (i : ℕ) → StandsAt l i (movedBy i l (startOf l))
