@@ -1,0 +1,63 @@
+// Accounts that are kept in a lent table of account records: the login lookup, and the server's step over such a table.
+use login::account;
+use login::account::Account;
+use login::account::MOST_ACCOUNTS;
+use login::account::Verdict;
+use soup_session::server;
+use soup_session::server::Server;
+use soup_session::server::Stepped;
+ghost use mathlib.Core.Path.{_≡_};
+ghost use lib.ListN.{take};
+ghost use Rattle.login.specs.Account.{verdictWords, lookupOf};
+ghost use Rattle.soup_session.specs.Server.{Steps, serverStep};
+ghost use Rattle.accounts.specs.Accounts.{usedOf, FlatIsTheSame};
+
+// How many records a table by value has.
+pub const RECORDS: usize = 4;
+
+// What a table says of an entry: the first sound record with its username decides, and 19 where there are too many records.
+pub fn lookup(table: &[Account], entry: Account) -> Verdict
+    ensures { λ r. ⌜ (verdictWords r ≡ lookupOf (now (table .entry)) entry) × FlatIsTheSame ⌝ }
+{
+    let records = table.len();
+    if MOST_ACCOUNTS < records {
+        return Verdict::TooMany;
+    }
+    let mut i = 0;
+    while i < records {
+        let account = table[i];
+        if account::is_of(account, entry) {
+            return account::compared(account, entry);
+        }
+        i += 1;
+    }
+    Verdict::Unknown
+}
+
+// Takes the front of a client's stream, as the server's own step does with a table that is lent as bytes.
+pub fn step(server: Server, table: &[Account], stream: &[u8]) -> Stepped
+    ensures { λ r. ⌜ Steps r (serverStep (now (table .entry)) server (now (stream .entry))) ⌝ }
+{
+    server.step_with(lookup(table, server::entry(stream)), stream)
+}
+
+// How many records of a table by value are used: more than there are means all of them.
+fn used_of(used: usize) -> usize
+    ensures { λ r. ⌜ r ≡ usedOf used ⌝ }
+{
+    if RECORDS < used { RECORDS } else { used }
+}
+
+// The lookup in the first records of a table by value, for a caller that lends no slice of records.
+pub fn lookup_among(table: [Account; RECORDS], used: usize, entry: Account) -> Verdict
+    ensures { λ r. ⌜ verdictWords r ≡ lookupOf (take (usedOf used) table) entry ⌝ }
+{
+    lookup(&table[..used_of(used)], entry)
+}
+
+// The step over the first records of a table by value.
+pub fn step_among(server: Server, table: [Account; RECORDS], used: usize, stream: &[u8]) -> Stepped
+    ensures { λ r. ⌜ Steps r (serverStep (take (usedOf used) table) server (now (stream .entry))) ⌝ }
+{
+    server.step_with(lookup_among(table, used, server::entry(stream)), stream)
+}
