@@ -1,10 +1,10 @@
 -- Laws of a table of account records: how many records of a table by value are used, and that the same records as bytes give the same answers.
-use Prim.Native.Nat.{ℕ, _*_, _/_, _≤_, _<_}
+use Prim.Native.Nat.{ℕ, zero, suc, _*_, _/_, _≤_, _<_}
 use mathlib.Core.Path.{_≡_, refl, ap}
 use mathlib.Core.List.{List, [], _∷_, _++_, append-assoc}
 use native.Mathlib.Omega.{arith}
-use lib.ListN.{length, drop, length-append}
-use lib.Seq.{take-at, drop-at}
+use lib.ListN.{length, drop, length-append, length-drop}
+use lib.Seq.{take-at, drop-at, length-take-le}
 use lib.Dec.{lit≤}
 use borrow.Author.Tests.{le-ltb, lt-ltb}
 use Rattle.wire.proofs.Cases.{below-or-not}
@@ -47,20 +47,41 @@ unfolding flat
 flat-length [] none = refl
 flat-length (a ∷ t) (one-more _ _ s ss) = omega (arith, length-append (a .username ++ a .password) (flat t), front-length a s, flat-length t ss)
 
-up-to-flat : (t : List Account) → AllSized t → recordsUpTo (length t) (flat t) ≡ t
+up-to-flat : (t : List Account) (left : List ℕ) → AllSized t → recordsUpTo (length t) (flat t ++ left) ≡ t
 unfolding flat recordsUpTo
-up-to-flat [] none = refl
-up-to-flat (a ∷ t) (one-more _ _ s ss) = rw (front-record a s (flat t), front-away a s (flat t), up-to-flat t ss) refl
+up-to-flat [] left none = refl
+up-to-flat (a ∷ t) left (one-more _ _ s ss) =
+    rw (append-assoc (a .username ++ a .password) (flat t) left, front-record a s (flat t ++ left), front-away a s (flat t ++ left), up-to-flat t left ss) refl
 
-flat-records : (t : List Account) → AllSized t → recordsOf (flat t) ≡ t
+flat-records : (t : List Account) (left : List ℕ) → AllSized t → length left < 16 → recordsOf (flat t ++ left) ≡ t
 unfolding recordsOf
-flat-records t ss =
-    let e : length (flat t) / 16 ≡ length t = omega (arith, flat-length t ss) in
-    rw e (up-to-flat t ss)
+flat-records t left ss h =
+    let e : length (flat t ++ left) / 16 ≡ length t = omega (arith, length-append (flat t) left, flat-length t ss) in
+    rw e (up-to-flat t left ss)
+
+-- ---- bytes as records
+
+record-sized : (l : List ℕ) → 16 ≤ length l → Sized (recordOf l)
+unfolding recordOf
+record-sized l h =
+    let d = length-drop 6 l in
+    record { username = length-take-le 6 l (omega arith); password = length-take-le 10 (drop 6 l) (omega arith) }
+
+up-to-sized : (n : ℕ) (l : List ℕ) → n * 16 ≤ length l → AllSized (recordsUpTo n l)
+unfolding recordsUpTo
+up-to-sized zero l h = none
+up-to-sized (suc n) l h =
+    let d = length-drop 16 l in
+    one-more (recordOf l) (recordsUpTo n (drop 16 l)) (record-sized l (omega arith)) (up-to-sized n (drop 16 l) (omega arith))
+
+records-sized : (l : List ℕ) → AllSized (recordsOf l)
+unfolding recordsOf
+records-sized l = up-to-sized (length l / 16) l (omega arith)
 
 pub flat-same : FlatIsTheSame
 flat-same = record {
   records = flat-records;
-  lookups = λ t e ss. ap (λ (u : List Account). lookupOf u e) (flat-records t ss);
-  steps = λ t s l ss. ap (λ (u : List Account). serverStep u s l) (flat-records t ss);
+  lookups = λ t left e ss h. ap (λ (u : List Account). lookupOf u e) (flat-records t left ss h);
+  steps = λ t left s l ss h. ap (λ (u : List Account). serverStep u s l) (flat-records t left ss h);
+  sized = records-sized;
 }

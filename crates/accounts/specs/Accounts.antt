@@ -1,5 +1,5 @@
 -- A table of account records, beside one that is lent as bytes.
-use Prim.Native.Nat.{ℕ}
+use Prim.Native.Nat.{ℕ, _<_}
 use mathlib.Core.List.{List, [], _∷_, _++_}
 use mathlib.Core.Path.{_≡_}
 use lib.ListN.{length}
@@ -8,7 +8,7 @@ use Rattle.wire.specs.Choice.{if_then_else_}
 use Rattle.text_fields.specs.Sound.{usernameSize, passwordSize}
 use Rattle.login.specs.declared.account.Account.{Account}
 use Rattle.login.specs.Account.{lookupOf}
-use Rattle.login.specs.Table.{recordsOf}
+use Rattle.login.specs.Table.{recordSize, recordsOf}
 use Rattle.soup_session.specs.declared.server.Server.{Server}
 use Rattle.soup_session.specs.Server.{serverStep}
 
@@ -36,8 +36,11 @@ unfoldable pub flat : List Account → List ℕ
 flat [] = []
 flat (a ∷ t) = a .username ++ a .password ++ flat t
 
--- they give the same answers
+-- with bytes left over, which are no record, they are the same records and give the same answers; and every table that is lent as bytes
+-- holds such records
 pub record FlatIsTheSame : Type 0 where
-  pub records : (t : List Account) → AllSized t → recordsOf (flat t) ≡ t
-  pub lookups : (t : List Account) (e : Account) → AllSized t → lookupOf (recordsOf (flat t)) e ≡ lookupOf t e
-  pub steps : (t : List Account) (s : Server) (l : List ℕ) → AllSized t → serverStep (recordsOf (flat t)) s l ≡ serverStep t s l
+  pub records : (t : List Account) (left : List ℕ) → AllSized t → length left < recordSize → recordsOf (flat t ++ left) ≡ t
+  pub lookups : (t : List Account) (left : List ℕ) (e : Account) → AllSized t → length left < recordSize → lookupOf (recordsOf (flat t ++ left)) e ≡ lookupOf t e
+  pub steps : (t : List Account) (left : List ℕ) (s : Server) (l : List ℕ) → AllSized t → length left < recordSize
+      → serverStep (recordsOf (flat t ++ left)) s l ≡ serverStep t s l
+  pub sized : (l : List ℕ) → AllSized (recordsOf l)

@@ -11,7 +11,7 @@ use lib.Seq.{drop-cons}
 use lib.Dec.{ltb, leb, eqb}
 use borrow.Author.Tests.{le-leb, lt-leb, le-ltb, eq-eqb, ne-eqb, leb-true, ltb-false}
 use Rattle.wire.specs.Choice.{if_then_else_}
-use Rattle.wire.specs.Bounds.{largestNumber, sessionSize}
+use Rattle.wire.specs.Bounds.{largestNumber}
 use Rattle.wire.specs.Words.{says}
 use Rattle.wire.proofs.Numbers.{part-to-end}
 use Rattle.wire.proofs.Words.{which-of, values-of}

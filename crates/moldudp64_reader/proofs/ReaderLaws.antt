@@ -1,7 +1,7 @@
--- A reader that is opened and moved on i times stands at message i, with length - i messages left.
+-- A reader that is opened and moved on i times stands at message i, with length - i messages left; one from a delivery so much later.
 use mathlib.Core.Path.{_≡_, refl, ap, _∙_}
 use mathlib.Core.List.{List}
-use Prim.Native.Nat.{ℕ, zero, suc, _-_, _≤_, _<_}
+use Prim.Native.Nat.{ℕ, zero, suc, _+_, _-_, _≤_, _<_}
 use native.Mathlib.Omega.{arith}
 use lib.ListN.{length}
 use borrow.Author.Tests.{lt-ltb, le-ltb}
@@ -11,7 +11,8 @@ use Rattle.moldudp64_messages.specs.declared.cursor.Located.{Located}
 use Rattle.moldudp64_messages.specs.declared.cursor.Cursor.{Cursor}
 use Rattle.moldudp64_messages.specs.Cursor.{located, moved, movedBy, startOf, locateOf, part, WalksTheMessages, PartIsMessage}
 use Rattle.moldudp64_messages.proofs.CursorLaws.{moved-on, moved-stays, walks-the-messages, part-is-message}
-use Rattle.moldudp64_reader.specs.Reader.{ReadsTheMessages}
+use Rattle.receiver.proofs.DeliveryLaws.{delivery-moves}
+use Rattle.moldudp64_reader.specs.Reader.{ReadsTheMessages, ReadsTheDelivery}
 
 -- one more move is the last one
 last-move : (i : ℕ) (l : List ℕ) (c : Cursor) → movedBy (suc i) l c ≡ moved l (movedBy i l c)
@@ -48,3 +49,7 @@ reads-the-messages l i =
       its-bytes = ap (part l) (walks-the-messages l i) ∙ part-is-message l i;
       how-many = left-after l i;
     }
+
+pub reads-the-delivery : ReadsTheDelivery
+unfolding ReadsTheDelivery ReadsTheMessages
+reads-the-delivery r l first count skipped i small e = rw (delivery-moves r l first count skipped small e i) (reads-the-messages l (skipped + i))

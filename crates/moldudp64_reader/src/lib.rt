@@ -7,7 +7,7 @@ use wire::kinds::MessageCount;
 ghost use mathlib.Core.Path.{_≡_};
 ghost use Rattle.moldudp64_messages.specs.Cursor.{located, moved, startOf, part};
 ghost use Rattle.receiver.specs.Delivery.{deliveryOf, DeliveryVisits};
-ghost use Rattle.moldudp64_reader.specs.Reader.{shownAt, ReadsTheMessages};
+ghost use Rattle.moldudp64_reader.specs.Reader.{shownAt, ReadsTheMessages, ReadsTheDelivery};
 
 pub struct Reader<'a> {
     pub cursor: Cursor,
@@ -31,7 +31,7 @@ pub fn open<'a>(datagram: &'a [u8]) -> Reader<'a>
 
 // A reader at the first message that a deliver answer doesn't skip: count and skipped are the answer's.
 pub fn deliver<'a>(datagram: &'a [u8], count: MessageCount, skipped: MessageCount) -> Reader<'a>
-    ensures { λ r. ⌜ (r .datagram ≡ datagram .entry) × (r .cursor ≡ deliveryOf (now (datagram .entry)) (count .0) (skipped .0)) × DeliveryVisits ⌝ }
+    ensures { λ r. ⌜ (r .datagram ≡ datagram .entry) × (r .cursor ≡ deliveryOf (now (datagram .entry)) (count .0) (skipped .0)) × DeliveryVisits × ReadsTheDelivery ⌝ }
 {
     let cursor = delivery::start(datagram, count, skipped);
     Reader { cursor, datagram }
@@ -51,7 +51,7 @@ pub fn message<'a>(reader: Reader<'a>) -> &'a [u8]
     reader.cursor.message(reader.datagram)
 }
 
-// How many messages are left, this one included.
+// How many messages are left, this one included, as the cursor has it: one that was made up may tell any number.
 pub fn left<'a>(reader: Reader<'a>) -> MessageCount
     ensures { λ r. ⌜ r ≡ reader .entry .cursor .left ⌝ }
 {

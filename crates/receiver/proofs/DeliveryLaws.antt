@@ -100,18 +100,30 @@ pub delivery-start : (l : List ℕ) (k s : ℕ) (c d : Cursor) → Fits w16 k �
 unfolding deliveryOf
 delivery-start l k s c d i h e f = let g : k + s ≤ 65535 = omega arith in f ∙ ap (movedBy s l) e ∙ rw (le-ltb _ _ g)
 
+-- i moves from where a delivery starts are skipped + i moves from the first message
+module _ (r : Receiver) (l : List ℕ) (first count skipped : ℕ) (small : AreBytes l) (e : answerOf r l ≡ says deliver (first ∷ count ∷ skipped ∷ [])) where
+  all-there : length (messagesOf l) ≡ count + skipped
+  all-there =
+      let d = delivering r l first count skipped e in
+      let n : length (messagesOf l) ≡ countOf l = count-sound l (d .well) ∙ kind-blocks l data-packet (d .kind) in
+      n ∙ sym (d .all)
+
+  pub delivery-moves : (i : ℕ) → movedBy i l (deliveryOf l count skipped) ≡ movedBy (skipped + i) l (startOf l)
+  unfolding deliveryOf
+  delivery-moves i =
+      let d = delivering r l first count skipped e in
+      let b : countOf l ≤ 65535 = short-count l small in
+      let h : count + skipped ≤ 65535 = omega (arith, d .all) in
+      let c : firstOf (count + skipped) ≡ startOf l = ap firstOf (sym all-there) in
+      rw (le-ltb _ _ h) (moves-add skipped i l (firstOf (count + skipped)) ∙ ap (movedBy (skipped + i) l) c)
+
 pub delivery-visits : DeliveryVisits
-unfolding DeliveryVisits deliveredIn deliveryOf WalksTheMessages PartIsMessage
+unfolding DeliveryVisits deliveredIn WalksTheMessages PartIsMessage
 delivery-visits r l first count skipped small e =
-    let d = delivering r l first count skipped e in
-    let n : length (messagesOf l) ≡ countOf l = count-sound l (d .well) ∙ kind-blocks l data-packet (d .kind) in
-    let b : countOf l ≤ 65535 = short-count l small in
-    let h : count + skipped ≤ 65535 = omega (arith, d .all) in
-    let a = d .all in
-    let c : firstOf (count + skipped) ≡ startOf l = ap firstOf (a ∙ sym n) in
-    let at : (i : ℕ) → located l (movedBy i l (movedBy skipped l (firstOf (count + skipped)))) ≡ locateOf l (skipped + i) =
-    λ i. ap (located l) (moves-add skipped i l (firstOf (count + skipped)) ∙ ap (movedBy (skipped + i) l) c) ∙ walks-the-messages l (skipped + i) in
-    rw (e, le-ltb _ _ h)
+    let n = all-there r l first count skipped small e in
+    let at : (i : ℕ) → located l (movedBy i l (deliveryOf l count skipped)) ≡ locateOf l (skipped + i) =
+    λ i. ap (located l) (delivery-moves r l first count skipped small e i) ∙ walks-the-messages l (skipped + i) in
+    rw e
     (record {
       as-many = omega (arith, length-drop skipped (messagesOf l));
       there = λ i g. ap (λ (p : Located). p .exists) (at i) ∙ there-at l (skipped + i) (omega arith);

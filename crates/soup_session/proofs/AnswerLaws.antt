@@ -5,7 +5,7 @@ use Prim.Native.Nat.{ℕ}
 use lib.ListN.{getD, take, drop}
 use types.Run.{OneOf, miss}
 use denote.Enum.Declared.{tagOf}
-use Rattle.wire.specs.Words.{Case, answer, refused, says}
+use Rattle.wire.specs.Words.{Case, answer, refused}
 use Rattle.wire.specs.declared.kinds.SequenceNumber.{SequenceNumber}
 use Rattle.wire.specs.declared.kinds.ByteOffset.{ByteOffset}
 use Rattle.wire.proofs.Words.{read-back}

@@ -1,12 +1,13 @@
 -- What a client's step does, by its cases: c is the client, l the stream, k and vs the size and the values of the packet in front.
-use mathlib.Core.Path.{_≡_, refl, ap, sym, _∙_}
+use mathlib.Core.Path.{_≡_, refl}
 use mathlib.Core.List.{List, [], _∷_, _++_}
+use mathlib.Core.Bool.{true}
 use Prim.Native.Nat.{ℕ, suc, _+_, _-_}
 use native.Mathlib.Omega.{arith}
-use lib.ListN.{getD, drop}
+use lib.ListN.{getD}
 use lib.Dec.{eqb}
 use borrow.Author.Tests.{eqb-true, eqb-false}
-use Rattle.wire.specs.Words.{Words, Case, answer, refused, says, refuses}
+use Rattle.wire.specs.Words.{Words, answer, says, refuses}
 use Rattle.wire.specs.Bounds.{sessionSize}
 use Rattle.parts.specs.Parts.{firstBytes}
 use Rattle.soupbintcp.specs.declared.packet.Sender.the-variants.{Server}
@@ -30,6 +31,7 @@ use Rattle.soup_session.proofs.RunLaws.{Steady}
 pub data ClientDoes (c : Client) (l : List ℕ) (o : Outcome Client) : Type 0 where
   rests : (w : Words Reply) → Rests w → o ≡ stays c w → ClientDoes c l o
   logs-in : (k : ℕ) (vs name : List ℕ) → InFront Server l k vs → letterOf l ≡ 65 → c .state ≡ Asked
+      → sessionAsked (c .session) (sessionOf Server l) ≡ true → numberAsked (c .number .0) (getD vs 0 0) ≡ true
       → o ≡ takes k (says accepted (getD vs 0 0 ∷ [])) (client name (getD vs 0 0) In) → ClientDoes c l o
   hands-up : (k : ℕ) (vs : List ℕ) → InFront Server l k vs → letterOf l ≡ 83 → c .state ≡ In
       → o ≡ takes k (says sequenced (c .number .0 ∷ 3 ∷ (k - 3) ∷ [])) (client (c .session) (c .number .0 + 1) In) → ClientDoes c l o
@@ -49,21 +51,21 @@ ended-apart e = let z : _≡_ {A = ℕ} 0 1 = cc in omega arith
 
 -- ---- the rows
 
-module _ (c : Client) (l : List ℕ) (k : ℕ) (vs given : List ℕ) (i : InFront Server l k vs) where
+module _ (c : Client) (l : List ℕ) (k : ℕ) (vs : List ℕ) (i : InFront Server l k vs) where
   abbrev D : Outcome Client → Type 0
   D = ClientDoes c l
 
   refuses-it : (r : ℕ) → D (stays c (refuses r))
   refuses-it r = rests (refuses r) (refusing r) refl
 
-  accepted-does : letterOf l ≡ 65 → c .state ≡ Asked → D (acceptedRow c k given (getD vs 0 0))
+  accepted-does : letterOf l ≡ 65 → c .state ≡ Asked → D (acceptedRow c k (sessionOf Server l) (getD vs 0 0))
   unfolding acceptedRow
   accepted-does a q =
-      choice D (sessionAsked (c .session) given)
-      (λ e. choice D (numberAsked (c .number .0) (getD vs 0 0)) (λ f. logs-in k vs (firstBytes sessionSize given) i a q refl) (λ f. refuses-it _))
+      choice D (sessionAsked (c .session) (sessionOf Server l))
+      (λ e. choice D (numberAsked (c .number .0) (getD vs 0 0)) (λ f. logs-in k vs (firstBytes sessionSize (sessionOf Server l)) i a q e f refl) (λ f. refuses-it _))
       (λ e. refuses-it _)
 
-  asked-does : c .state ≡ Asked → D (askedRow c k (letterOf l) vs given)
+  asked-does : c .state ≡ Asked → D (askedRow c k (letterOf l) vs (sessionOf Server l))
   unfolding askedRow
   asked-does q =
       choice D (eqb (letterOf l) 65) (λ e. accepted-does (eqb-true _ _ e) q) (λ e.
@@ -89,7 +91,7 @@ module _ (c : Client) (l : List ℕ) (k : ℕ) (vs given : List ℕ) (i : InFron
       (λ h. goes-by k vs (says end-of-session []) Ended i (apart (eqb-true _ _ h) refl) (eqb-false _ _ e) an-end (λ n. ended-apart) refl)
       (λ h. refuses-it _))))
 
-  row-does : (t : ClientState) → c .state ≡ t → D (rowAt t c k (letterOf l) vs given)
+  row-does : (t : ClientState) → c .state ≡ t → D (rowAt t c k (letterOf l) vs (sessionOf Server l))
   unfolding rowAt
   row-does Asked q = asked-does q
   row-does In q = in-does q
@@ -120,14 +122,14 @@ module _ (c : Client) (l : List ℕ) where
       go (stops-at r e) = rests (refuses r) (refusing r) (fault-rests r e)
       go (passes p k vs e a b) =
           rw (packet-row p k vs e, ← its-letter Server l p k vs e)
-          (row-does c l k vs (sessionOf Server l) (record { kind = p; front = e; some = a; within = b }) (c .state) refl)
+          (row-does c l k vs (record { kind = p; front = e; some = a; within = b }) (c .state) refl)
 
 -- ---- so it rests or moves, and a run of its steps is steady
 
 client-moves : (c : Client) (l : List ℕ) (o : Outcome Client) → ClientDoes c l o → Does c l Server sequenced o
 unfolding messageAt
 client-moves c l o (rests w n e) = does.rests w n e
-client-moves c l o (logs-in k vs name i a q e) =
+client-moves c l o (logs-in k vs name i a q x y e) =
     does.moves k vs (says accepted (getD vs 0 0 ∷ [])) (client name (getD vs 0 0) In) i accepted-takes (λ z. absurd (not-so z)) e
   where
     not-so : answer accepted ≡ answer sequenced → ⊥

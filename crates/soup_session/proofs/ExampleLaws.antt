@@ -1,4 +1,4 @@
--- The client's example is computed.
+-- The examples are computed.
 use mathlib.Core.Path.{refl}
 use Rattle.wire.specs.Bytes.{number, sameBytes}
 use Rattle.parts.specs.Parts.{firstBytes}
@@ -6,15 +6,23 @@ use Rattle.decimal.specs.Decimal.{isDigit, areDigits, valueFrom}
 use Rattle.text_fields.specs.Letters.{isLetterOrDigit, areLettersOrDigits, leadingSpaces}
 use Rattle.text_fields.specs.Session.{goodSession}
 use Rattle.text_fields.specs.Number.{isNumber, numberOf}
+use Rattle.text_fields.specs.Sound.{wordLength, areSpaces, sound}
 use Rattle.soupbintcp.specs.Letters.{letterFor, rowOf, sends, allows, plainOf}
 use Rattle.soupbintcp.specs.Head.{lengthOf, letterOf, headOf}
 use Rattle.soupbintcp.specs.Fields.{hasFields, sessionAt, sessionBytes, numberBytes, blankAllowed, leastNumberOf, numberedOf, numberFields, withNumber, fieldsAt, fieldsOf}
-use Rattle.soupbintcp.specs.Front.{packetOf, frontAt, frontOf, packetAt, packetBytes, sessionOf}
+use Rattle.soupbintcp.specs.Front.{packetOf, frontAt, frontOf, packetAt, packetBytes, sessionOf, loginPart, usernameOf, passwordOf}
+use Rattle.login.specs.Account.{lower, lowered, sameText, soundAccount, isOf, hasPassword, isKnown, verdictOf, lookupOf}
+use Rattle.login.specs.Decision.{sessionHolds, numberHolds, granted, decisionAt}
 use Rattle.soup_session.specs.Answer.{messageAt}
-use Rattle.soup_session.specs.Client.{sessionAsked, numberAsked, acceptedRow, sequencedRow, askedRow, inRow, rowAt, frontRow, clientStep}
+use Rattle.soup_session.specs.Server as at-server
+use Rattle.soup_session.specs.Client.{startRefusal, startClient, sessionAsked, numberAsked, acceptedRow, sequencedRow, askedRow, inRow, rowAt, frontRow, clientStep}
 use Rattle.soup_session.specs.Stream.{runAt, runUpTo, run, numberedFrom, isSequenced, handedUp}
-use Rattle.soup_session.specs.Examples.{ClientExample}
+use Rattle.soup_session.specs.Examples.{ClientExample, repliesOf, ServerExample}
 
 pub client-example : ClientExample
-unfolding number sameBytes firstBytes isDigit areDigits valueFrom isLetterOrDigit areLettersOrDigits leadingSpaces goodSession isNumber numberOf letterFor rowOf sends allows plainOf lengthOf letterOf headOf hasFields sessionAt sessionBytes numberBytes blankAllowed leastNumberOf numberedOf numberFields withNumber fieldsAt fieldsOf packetOf frontAt frontOf packetAt packetBytes sessionOf messageAt sessionAsked numberAsked acceptedRow sequencedRow askedRow inRow rowAt frontRow clientStep runAt runUpTo run numberedFrom isSequenced handedUp
+unfolding number sameBytes firstBytes isDigit areDigits valueFrom isLetterOrDigit areLettersOrDigits leadingSpaces goodSession isNumber numberOf letterFor rowOf sends allows plainOf lengthOf letterOf headOf hasFields sessionAt sessionBytes numberBytes blankAllowed leastNumberOf numberedOf numberFields withNumber fieldsAt fieldsOf packetOf frontAt frontOf packetAt packetBytes sessionOf messageAt sessionAsked numberAsked acceptedRow sequencedRow askedRow inRow rowAt frontRow clientStep runAt runUpTo run numberedFrom isSequenced handedUp startRefusal startClient
 client-example = record { hands-up = refl; ends = refl; leaves = refl }
+
+pub server-example : ServerExample
+unfolding repliesOf number sameBytes firstBytes isDigit areDigits valueFrom isLetterOrDigit areLettersOrDigits leadingSpaces goodSession isNumber numberOf wordLength areSpaces sound letterFor rowOf sends allows plainOf lengthOf letterOf headOf hasFields sessionAt sessionBytes numberBytes blankAllowed leastNumberOf numberedOf numberFields withNumber fieldsAt fieldsOf packetOf frontAt frontOf packetAt packetBytes sessionOf loginPart usernameOf passwordOf lower lowered sameText soundAccount isOf hasPassword isKnown verdictOf lookupOf sessionHolds numberHolds granted decisionAt at-server.startRefusal at-server.startServer at-server.loginAt at-server.waitingRow at-server.inRow at-server.rowAt at-server.frontRow at-server.stepAt at-server.entryOf at-server.serverStep runAt runUpTo run
+server-example = record { answers = refl; closes = refl; leaves = refl }

@@ -1,7 +1,7 @@
 -- The front of a stream by its cases, and which answers take nothing: s is the sender, l the stream.
 use mathlib.Core.Path.{_≡_, refl, ap, sym, _∙_}
-use mathlib.Core.List.{List, [], _∷_, _++_}
-use Prim.Native.Nat.{ℕ, zero, suc, _≤_}
+use mathlib.Core.List.{List, _∷_, _++_}
+use Prim.Native.Nat.{ℕ, _≤_}
 use native.Mathlib.Omega.{arith}
 use lib.ListN.{length}
 use lib.Dec.{eqb}
@@ -13,7 +13,7 @@ use Rattle.soupbintcp.specs.declared.packet.Sender.{Sender}
 use Rattle.soupbintcp.specs.Letters.{PacketKind}
 use Rattle.soupbintcp.specs.Front.{packet, wants-more, frontOf, packetBytes, sessionOf, usernameOf, passwordOf, Stable, StableBytes}
 use Rattle.soupbintcp.proofs.StableLaws.{front-promises}
-use Rattle.soup_session.specs.Answer.{Reply, accepted, rejected, sequenced, unsequenced, heartbeat, debug, logged-out, end-of-session, Outcome, stays}
+use Rattle.soup_session.specs.Answer.{Reply, accepted, rejected, sequenced, unsequenced, heartbeat, debug, logged-out, end-of-session}
 use Rattle.soup_session.specs.Answer as reply
 use Rattle.soup_session.specs.Stream.{isSequenced}
 use Rattle.soup_session.specs.Statements.{TakesNothing, needs-more, is-refused}

@@ -1,13 +1,13 @@
 -- A client hands up the payloads of S in order, under their numbers: c is the client, n its number, r a run, and ps its packets.
 use mathlib.Core.Path.{_≡_, refl, ap, sym, _∙_}
 use mathlib.Core.List.{List, [], _∷_}
-use mathlib.Core.Bool.{false, true}
-use Prim.Native.Nat.{ℕ, suc, _+_, _-_, _≤_}
+use mathlib.Core.Bool.{false}
+use Prim.Native.Nat.{ℕ, suc, _+_, _-_}
 use native.Mathlib.Omega.{arith}
 use lib.ListN.{length, getD, take, drop, length-drop}
 use lib.Seq.{take-all, length-take-le}
-use borrow.Author.Tests.{eq-eqb, ne-eqb}
-use Rattle.wire.specs.Words.{Words, answer, says}
+use borrow.Author.Tests.{ne-eqb}
+use Rattle.wire.specs.Words.{Words, says}
 use Rattle.soupbintcp.specs.declared.packet.Sender.the-variants.{Server}
 use Rattle.soupbintcp.specs.Head.{letterOf}
 use Rattle.soupbintcp.specs.Front.{frontOf}
@@ -15,7 +15,7 @@ use Rattle.soupbintcp.proofs.FrontLaws.{said-packet}
 use Rattle.soupbintcp.proofs.StableLaws.{own-letter}
 use Rattle.soup_session.specs.declared.client.ClientState.the-variants.{Asked, In}
 use Rattle.soup_session.specs.declared.client.Client.{Client}
-use Rattle.soup_session.specs.Answer.{Reply, accepted, sequenced, messageAt, messageOf, Outcome, takes}
+use Rattle.soup_session.specs.Answer.{Reply, accepted, sequenced, messageAt, Outcome, takes}
 use Rattle.soup_session.specs.Client.{client, becomes, clientStep}
 use Rattle.soup_session.specs.Stream.{Taking, Run, stopped, then-run, run, Numbered, numberedFrom, isSequenced, handedUp, packetsOf, sequencedIn, grantedIn}
 use Rattle.soup_session.specs.Statements.{HandsUpInOrder}
@@ -134,7 +134,7 @@ module _ (c : Client) (l : List ℕ) (k : ℕ) (r : Run Client) where
   by-step : (o : Outcome Client) → ClientDoes c l o → o .size ≡ suc k → Ordered (o .after) (drop (suc k) l) r
       → Ordered c l (then-run (record { bytes = take (suc k) l; reply = o .reply }) r)
   by-step o (rests w n e) z h = let y : 0 ≡ suc k = rw e at z in absurd (omega arith)
-  by-step o (logs-in n vs name i a q e) z h =
+  by-step o (logs-in n vs name i a q x y e) z h =
       let d : n ≡ suc k = rw e at z in
       rw (e, ← d) (by-A c l n vs i r (client name (getD vs 0 0) In) a q refl refl (rw (e, ← d) at h))
   by-step o (hands-up n vs i a q e) z h =

@@ -19,8 +19,7 @@ use Rattle.soupbintcp.specs.declared.letters.Row.{Row}
 use Rattle.soupbintcp.specs.Letters.{PacketKind, debug, accepted, rejected, sequenced, server-heartbeat, end-of-session, login, unsequenced, client-heartbeat, logout, letterFor, row, rowOf, sends, plainOf}
 use Rattle.soupbintcp.specs.Head.{lengthOf, letterOf}
 use Rattle.soupbintcp.specs.Fields.{Fielding, good, bad-field, hasFields, sessionAt, sessionBytes, numberedOf, numberFields, withNumber, goodReason, reasonFields, fieldsAt, fieldsOf}
-use Rattle.soupbintcp.specs.Front.{packet, packetOf, frontOf, packetBytes, sessionOf, loginPart, usernameOf, passwordOf}
-use Rattle.soupbintcp.proofs.LetterLaws.{choice}
+use Rattle.soupbintcp.specs.Front.{packet, frontOf, packetBytes, sessionOf, loginPart, usernameOf, passwordOf}
 use Rattle.soupbintcp.proofs.HeadLaws.{IsWhole, whole-so, length-stays, letter-stays}
 use Rattle.soupbintcp.proofs.FrontLaws.{said-whole-front, said-packet}
 use Rattle.soupbintcp.proofs.StableLaws.{fields-reach, login-reach, fields-stay, said-session, said-login}
@@ -152,12 +151,22 @@ module _ (s : Sender) (l : List ℕ) (p : PacketKind) (k : ℕ) (vs : List ℕ) 
       let f : fieldsOf (take k l) ≡ fieldsOf l = sym (fields-stay s (take k l) (drop k l) k i) ∙ ap fieldsOf (take-append-drop k l) in
       said-whole-front s (take k l) k (whole-so s (take k l) k i) ∙ rw f (sym (said-whole-front s l k (whole-so s l k o)) ∙ e)
 
--- ---- a login request
+-- ---- A and L have one value, the number
 
-one-value : (c reason : ℕ) (ok : Bool) (w : Words Reading) → c ≡ 76 → (p : PacketKind) → fieldsAt c reason ok w .which ≡ answer (good p)
+one-value : (c reason : ℕ) (ok : Bool) (w : Words Reading) → hasFields c ≡ true → (p : PacketKind) → fieldsAt c reason ok w .which ≡ answer (good p)
     → fieldsAt c reason ok w .values ≡ getD (fieldsAt c reason ok w .values) 0 0 ∷ []
-unfolding fieldsAt hasFields
-one-value c reason ok w e p f = rw e (numbered 76 ok w p (rw e at f) .one)
+unfolding fieldsAt
+one-value c reason ok w e p f = rw e (numbered c ok w p (rw e at f) .one)
+
+pub one-number : (s : Sender) (l : List ℕ) (p : PacketKind) (k : ℕ) (vs : List ℕ) → frontOf s l ≡ says (packet p) (k ∷ vs)
+    → hasFields (letterFor p) ≡ true → vs ≡ getD vs 0 0 ∷ []
+unfolding fieldsOf
+one-number s l p k vs e h =
+    let i = said-packet s l p k vs e in
+    let o = one-value (letterOf l) _ _ _ (ap hasFields (its-letter s l p k vs e) ∙ h) p (i .kind) in
+    rw (i .values) at o
+
+-- ---- a login request
 
 first-all : (k : ℕ) (l : List ℕ) → length l ≡ k → firstBytes k l ≡ l
 first-all k l e = first-there k l (omega arith) ∙ take-all k l (omega arith)
@@ -169,14 +178,6 @@ module _ (l : List ℕ) (k : ℕ) (vs : List ℕ) (e : frontOf Client l ≡ says
   login-letter : letterOf l ≡ 76
   unfolding letterFor
   login-letter = its-letter Client l login k vs e
-
-  -- it has one value, the number
-  pub login-one : vs ≡ getD vs 0 0 ∷ []
-  unfolding fieldsOf
-  login-one =
-      let i = said-packet Client l login k vs e in
-      let o = one-value (letterOf l) _ _ _ login-letter login (i .kind) in
-      rw (i .values) at o
 
   login-there : 49 ≤ length l
   login-there =

@@ -1,6 +1,6 @@
 -- What a server's step does, by its cases: s is the server, l the stream, x what the table says of the entry in front, k and vs the
 -- size and the values of the packet there.
-use mathlib.Core.Path.{_≡_, refl, ap, sym, _∙_}
+use mathlib.Core.Path.{_≡_, refl}
 use mathlib.Core.List.{List, [], _∷_, _++_}
 use Prim.Native.Nat.{ℕ, suc, _-_}
 use native.Mathlib.Omega.{arith}

@@ -1,5 +1,5 @@
 -- Laws of the server's functions: s is the server, p the packet in front, size its bytes, asked its session, r what is answered.
-use mathlib.Core.Path.{_≡_, refl, ap, sym, _∙_}
+use mathlib.Core.Path.{_≡_, refl, sym, _∙_}
 use mathlib.Core.List.{List, [], _∷_}
 use mathlib.Core.Bool.{Bool, false, true, not}
 use Prim.Native.Nat.{ℕ, _-_, _≤_, _<_}

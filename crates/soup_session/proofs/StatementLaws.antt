@@ -2,25 +2,27 @@
 use mathlib.Core.Path.{_≡_, refl, ap, sym, _∙_}
 use mathlib.Core.List.{List, [], _∷_}
 use mathlib.Core.Bool.{Bool, true, false}
-use Prim.Native.Nat.{ℕ, _≤_, _<_}
+use Prim.Native.Nat.{ℕ, _+_, _-_, _<_}
 use native.Mathlib.Omega.{arith}
 use lib.ListN.{length, getD}
 use lib.Dec.{eqb}
-use borrow.Author.Tests.{le-ltb, lt-ltb, eq-eqb, eqb-true}
+use borrow.Author.Tests.{le-ltb, lt-ltb, eq-eqb, ne-eqb, eqb-true}
 use Rattle.wire.specs.Choice.{if_then_else_}
-use Rattle.wire.specs.Bounds.{blank}
+use Rattle.wire.specs.Bounds.{blank, largestNumber}
 use Rattle.wire.specs.Refusals.{badSetting}
 use Rattle.wire.specs.Bytes.{sameBytes}
 use Rattle.wire.proofs.Same.{same-equal, same-refl}
-use Rattle.wire.specs.Words.{Words, Case, answer, refused, says, refuses}
+use Rattle.wire.specs.Words.{Words, answer, says, refuses}
+use Rattle.soupbintcp.specs.declared.packet.Sender.{Sender}
 use Rattle.soupbintcp.specs.declared.packet.Sender.the-variants as sender
 use Rattle.soupbintcp.specs.Letters.{PacketKind, debug, accepted, rejected, sequenced, server-heartbeat, end-of-session, login, unsequenced, client-heartbeat, logout, letterFor}
 use Rattle.parts.specs.Parts.{firstBytes}
 use Rattle.soupbintcp.specs.Head.{letterOf}
-use Rattle.soupbintcp.specs.Front.{packet, frontOf, sessionOf, usernameOf, passwordOf}
+use Rattle.soupbintcp.specs.Fields.{hasFields}
+use Rattle.soupbintcp.specs.Front.{packet, frontOf, sessionOf}
 use Rattle.login.specs.declared.account.Account.{Account}
 use Rattle.login.specs.Account.{Knowing, known, unknown, mostAccounts, verdictOf, isKnown, lookupOf}
-use Rattle.login.specs.Decision.{Deciding, Attempt, loginOf}
+use Rattle.login.specs.Decision.{loginOf}
 use Rattle.login.specs.Decision as decided
 use Rattle.login.specs.Statements.{NotRefused}
 use Rattle.login.proofs.StatementLaws.{accepted-exactly-when}
@@ -33,17 +35,53 @@ use Rattle.soup_session.specs.Answer as reply
 use Rattle.soup_session.specs.Server.{becomes, loginAt, loginRow, waitingRow, rowAt, stepAt, stepWith, entryOf, serverStep}
 use Rattle.soup_session.specs.Client as at-client
 use Rattle.soup_session.specs.Client.{client, sessionAsked, numberAsked, acceptedRow, askedRow, clientStep}
-use Rattle.soup_session.specs.Statements.{LoginInFront, EntryIsItsFields, attemptOf, Accepts, LoginExactlyWhen, ServerPromises, AcceptedInFront, SessionFits, any-session, this-session, NumberFits, any-number, this-number, Fits, ClientPromises}
-use Rattle.soup_session.proofs.PacketLaws.{its-letter, login-one, username-first, password-first, session-first}
+use Rattle.soup_session.specs.Statements.{LoginInFront, EntryIsItsFields, attemptOf, Accepts, LoginExactlyWhen, ServerPromises, AcceptedInFront, AcceptsA, SequencedInFront, SessionFits, any-session, this-session, NumberFits, any-number, this-number, Fits, ClientPromises}
+use Rattle.soup_session.proofs.PacketLaws.{its-letter, one-number, username-first, password-first, session-first}
 use Rattle.soup_session.proofs.FrontCases.{InFront, sequenced-takes, unsequenced-takes, plain-not-accepted}
 use Rattle.soup_session.proofs.StepLaws.{Rests, waits, refusing, changes-nothing, takes-packets, hands-up}
-use Rattle.soup_session.proofs.ClientCases.{client-rests-or-moves, client-steady}
+use Rattle.soup_session.proofs.ClientCases.{ClientDoes, client-rests-or-moves, client-steady}
 use Rattle.soup_session.proofs.ClientCases as client-cases
 use Rattle.soup_session.proofs.ServerCases.{ServerDoes, server-does, keeps, server-rests-or-moves, server-steady}
 use Rattle.soup_session.proofs.ServerCases as server-cases
 use Rattle.soup_session.proofs.RunLaws.{any-cutting, runs-on}
 use Rattle.soup_session.proofs.OrderLaws.{hands-up-in-order}
-use Rattle.soup_session.proofs.ExampleLaws.{client-example}
+use Rattle.soup_session.proofs.ExampleLaws.{client-example, server-example}
+
+-- ---- the kind of packet by its letter
+
+kindFor : ℕ → PacketKind
+kindFor n =
+    if eqb n 43 then debug
+    else if eqb n 65 then accepted
+    else if eqb n 74 then rejected
+    else if eqb n 83 then sequenced
+    else if eqb n 72 then server-heartbeat
+    else if eqb n 90 then end-of-session
+    else if eqb n 76 then login
+    else if eqb n 85 then unsequenced
+    else if eqb n 82 then client-heartbeat
+    else logout
+
+its-kind : (p : PacketKind) → kindFor (letterFor p) ≡ p
+unfolding kindFor letterFor
+its-kind debug = refl
+its-kind accepted = refl
+its-kind rejected = refl
+its-kind sequenced = refl
+its-kind server-heartbeat = refl
+its-kind end-of-session = refl
+its-kind login = refl
+its-kind unsequenced = refl
+its-kind client-heartbeat = refl
+its-kind logout = refl
+
+-- a packet whose letter has a number field is its kind with that number
+numbered-in-front : (s : Sender) (l : List ℕ) (k : ℕ) (vs : List ℕ) (p : PacketKind) → InFront s l k vs → letterOf l ≡ letterFor p → hasFields (letterFor p) ≡ true
+    → frontOf s l ≡ says (packet p) (k ∷ getD vs 0 0 ∷ [])
+numbered-in-front s l k vs p i a h =
+    let d : i .kind ≡ p = sym (its-kind (i .kind)) ∙ ap kindFor (sym (its-letter s l (i .kind) k vs (i .front)) ∙ a) ∙ its-kind p in
+    let e : frontOf s l ≡ says (packet p) (k ∷ vs) = rw d at (i .front) in
+    e ∙ ap (λ (ws : List ℕ). says (packet p) (k ∷ ws)) (one-number s l p k vs e h)
 
 -- ---- at the client: what A has to carry, as the tests and as the rules say it
 
@@ -110,10 +148,53 @@ module _ (c : Client) (l : List ℕ) (size n : ℕ) (q : c .state ≡ client-sta
       row-of-A ∙ other-row c size n (sessionOf sender.Server l) (sessionAsked (c .session) (sessionOf sender.Server l)) (numberAsked (c .number .0) n) q refl refl
       (λ x y. f (record { session = session-fits c l x; number = number-fits c n y }))
 
+never-rests : (w : Words reply.Reply) → Rests w → w .which ≡ answer reply.accepted → ⊥
+never-rests w waits e = let z : _≡_ {A = ℕ} 0 1 = cc in omega arith
+never-rests w (refusing r) e = let z : _≡_ {A = ℕ} 0 1 = cc in omega arith
+
+sequenced-apart : answer reply.sequenced ≡ answer reply.accepted → ⊥
+sequenced-apart e = let z : _≡_ {A = ℕ} 0 1 = cc in omega arith
+
+accepts-A : (c : Client) (l : List ℕ) (o : Outcome Client) → ClientDoes c l o → o .reply .which ≡ answer reply.accepted → AcceptsA c l
+unfolding letterFor hasFields
+accepts-A c l o (client-cases.rests w n e) z = absurd (never-rests w n (rw e at z))
+accepts-A c l o (client-cases.logs-in k vs name i a q x y e) z =
+    record {
+      asked = q;
+      size = k;
+      number = getD vs 0 0;
+      front = numbered-in-front sender.Server l k vs accepted i a refl;
+      fits = record { session = session-fits c l x; number = number-fits c (getD vs 0 0) y };
+    }
+accepts-A c l o (client-cases.hands-up k vs i a q e) z = absurd (sequenced-apart (rw e at z))
+accepts-A c l o (client-cases.goes-by k vs w t i a b p q e) z = absurd (plain-not-accepted (w .which) p (rw e at z))
+
+-- S in state in
+
+module _ (c : Client) (l : List ℕ) (size : ℕ) (q : c .state ≡ client-state.In) (e : SequencedInFront l size) where
+  row-of-S : clientStep c l ≡ at-client.sequencedRow c size
+  unfolding letterFor at-client.rowAt at-client.inRow
+  row-of-S = client-cases.packet-row c l sequenced size [] e ∙ rw q refl
+
+  when-S : (c .number .0 ≡ largestNumber → ⊥)
+      → clientStep c l ≡ takes size (says reply.sequenced (c .number .0 ∷ 3 ∷ (size - 3) ∷ [])) (client (c .session) (c .number .0 + 1) client-state.In)
+  unfolding at-client.sequencedRow
+  when-S h = row-of-S ∙ rw (ne-eqb _ _ h) refl
+
+  else-34 : c .number .0 ≡ largestNumber → clientStep c l ≡ stays c (refuses 34)
+  unfolding at-client.sequencedRow
+  else-34 h = row-of-S ∙ rw (eq-eqb _ _ h) refl
+
 pub client-promises : ClientPromises
 client-promises =
     record {
-      takes-from-A = record { when = when-fits; else-33 = else-33 };
+      takes-from-A =
+          record {
+            when = when-fits;
+            else-33 = else-33;
+            only-when = λ c l. accepts-A c l (clientStep c l) (client-cases.client-does c l);
+          };
+      takes-S = record { when = when-S; else-34 = else-34 };
       changes-nothing = changes-nothing clientStep sender.Server reply.sequenced client-rests-or-moves;
       takes-packets = takes-packets clientStep sender.Server reply.sequenced client-rests-or-moves;
       hands-up-payload = hands-up clientStep sender.Server reply.sequenced client-rests-or-moves sequenced-takes;
@@ -151,30 +232,6 @@ module _ (t : List Account) (s : Server) (l : List ℕ) (size n : ℕ) (q : s .s
   unfolding loginAt
   rejects-it vs f = decided-row ∙ rw f refl
 
--- L is the letter of a login request alone
-only-login : (p : PacketKind) → letterFor p ≡ 76 → p ≡ login
-unfolding letterFor
-only-login debug e = absurd (omega arith)
-only-login accepted e = absurd (omega arith)
-only-login rejected e = absurd (omega arith)
-only-login sequenced e = absurd (omega arith)
-only-login server-heartbeat e = absurd (omega arith)
-only-login end-of-session e = absurd (omega arith)
-only-login login e = refl
-only-login unsequenced e = absurd (omega arith)
-only-login client-heartbeat e = absurd (omega arith)
-only-login logout e = absurd (omega arith)
-
-login-in-front : (l : List ℕ) (k : ℕ) (vs : List ℕ) → InFront sender.Client l k vs → letterOf l ≡ 76 → LoginInFront l k (getD vs 0 0)
-login-in-front l k vs i a =
-    let d : i .kind ≡ login = only-login (i .kind) (sym (its-letter sender.Client l (i .kind) k vs (i .front)) ∙ a) in
-    let e : frontOf sender.Client l ≡ says (packet login) (k ∷ vs) = rw d at (i .front) in
-    e ∙ ap (λ (ws : List ℕ). says (packet login) (k ∷ ws)) (login-one l k vs e)
-
-never-rests : (w : Words reply.Reply) → Rests w → w .which ≡ answer reply.accepted → ⊥
-never-rests w waits e = let z : _≡_ {A = ℕ} 0 1 = cc in omega arith
-never-rests w (refusing r) e = let z : _≡_ {A = ℕ} 0 1 = cc in omega arith
-
 unsequenced-apart : answer reply.unsequenced ≡ answer reply.accepted → ⊥
 unsequenced-apart e = let z : _≡_ {A = ℕ} 0 1 = cc in omega arith
 
@@ -184,12 +241,12 @@ too-many t s l h = rw (lt-ltb _ _ h) refl
 
 accepts : (t : List Account) (s : Server) (l : List ℕ) (o : Outcome Server) → ServerDoes s l (lookupOf t (entryOf l)) o
     → o .reply .which ≡ answer reply.accepted → Accepts t s l
-unfolding EntryIsItsFields
+unfolding EntryIsItsFields letterFor hasFields
 accepts t s l o (server-cases.rests w n e) z =
     let f : w .which ≡ answer reply.accepted = rw e at z in
     absurd (never-rests w n f)
 accepts t s l o (server-cases.logs-in k vs ws i a q d e) z =
-    let g : LoginInFront l k (getD vs 0 0) = login-in-front l k vs i a in
+    let g : LoginInFront l k (getD vs 0 0) = numbered-in-front sender.Client l k vs login i a refl in
     record {
       waiting = q;
       size = k;
@@ -215,6 +272,7 @@ pub server-promises : ServerPromises
 server-promises =
     record {
       login-exactly-when = login-exactly-when;
+      example = server-example;
       changes-nothing = λ t. changes-nothing (serverStep t) sender.Client reply.unsequenced (server-rests-or-moves t);
       takes-packets = λ t. takes-packets (serverStep t) sender.Client reply.unsequenced (server-rests-or-moves t);
       keeps = keeps;

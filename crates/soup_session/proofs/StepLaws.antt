@@ -1,5 +1,5 @@
 -- Laws of one step, for every session S: s is the session, l the stream, from who sends it, kind the answer that hands up a message.
-use mathlib.Core.Path.{_≡_, refl, ap, sym, _∙_}
+use mathlib.Core.Path.{_≡_, refl, sym, _∙_}
 use mathlib.Core.List.{List, []}
 use Prim.Native.Nat.{ℕ, _-_, _≤_}
 use native.Mathlib.Omega.{arith}
@@ -11,7 +11,7 @@ use Rattle.soupbintcp.specs.Front.{packetBytes, payloadOf}
 use Rattle.soupbintcp.proofs.StableLaws.{said-bytes, said-payload}
 use Rattle.soup_session.specs.Answer.{Reply, wants-more, messageOf, Outcome, stays, takes}
 use Rattle.soup_session.specs.Stream.{Stepping}
-use Rattle.soup_session.specs.Statements.{ChangesNothing, TakesNothing, needs-more, is-refused, TakesPacket, TakesPackets, HandsUpPayload}
+use Rattle.soup_session.specs.Statements.{ChangesNothing, TakesNothing, needs-more, is-refused, TakesPackets, HandsUpPayload}
 use Rattle.soup_session.proofs.FrontCases.{InFront}
 
 -- an answer that takes nothing gives nothing else: need more, or a refusal's number

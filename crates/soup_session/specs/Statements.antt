@@ -1,14 +1,15 @@
 -- What is promised of a session, at the server and at the client.
-use Prim.Native.Nat.{ℕ, _+_, _<_, _≤_}
+use Prim.Native.Nat.{ℕ, _+_, _-_, _<_, _≤_}
 use mathlib.Core.List.{List, [], _∷_, _++_}
 use mathlib.Core.Path.{_≡_}
 use lib.ListN.{length, take}
-use Rattle.wire.specs.Bounds.{blank}
-use Rattle.wire.specs.Refusals.{badSetting, loginNotAsked}
+use Rattle.wire.specs.Bounds.{blank, largestNumber}
+use Rattle.wire.specs.Refusals.{badSetting, loginNotAsked, numbersUsedUp}
 use Rattle.wire.specs.Words.{Case, answer, refused, says, refuses}
 use Rattle.soupbintcp.specs.declared.packet.Sender.{Sender}
 use Rattle.soupbintcp.specs.declared.packet.Sender.the-variants as sender
 use Rattle.soupbintcp.specs.Letters.{accepted, login}
+use Rattle.soupbintcp.specs.Letters as Letters
 use Rattle.soupbintcp.specs.Fields.{notAuthorized, sessionNotAvailable}
 use Rattle.soupbintcp.specs.Head.{headSize}
 use Rattle.soupbintcp.specs.Front.{packet, frontOf, packetBytes, payloadOf, sessionOf, usernameOf, passwordOf}
@@ -25,7 +26,7 @@ use Rattle.soup_session.specs.Answer as reply
 use Rattle.soup_session.specs.Server.{becomes, entryOf, serverStep}
 use Rattle.soup_session.specs.Client.{client, clientStep}
 use Rattle.soup_session.specs.Stream.{Stepping, Run, stopped, run, runPieces, joined, numberedFrom, handedUp, packetsOf, sequencedIn, grantedIn}
-use Rattle.soup_session.specs.Examples.{ClientExample}
+use Rattle.soup_session.specs.Examples.{ClientExample, ServerExample}
 
 -- ---- of both
 
@@ -111,6 +112,7 @@ pub record Keeps (s x : Server) : Type 0 where
 -- what a step promises beside its answer, with every table
 pub record ServerPromises : Type 0 where
   pub login-exactly-when : LoginExactlyWhen
+  pub example : ServerExample
   pub changes-nothing : (t : List Account) → ChangesNothing Server (serverStep t)
   pub takes-packets : (t : List Account) → TakesPackets Server (serverStep t) sender.Client
   pub keeps : (t : List Account) (s : Server) (l : List ℕ) → Keeps s (serverStep t s l .after)
@@ -137,12 +139,32 @@ pub record Fits (c : Client) (l : List ℕ) (n : ℕ) : Type 0 where
   pub session : SessionFits c l
   pub number : NumberFits c n
 
--- then session and number come from it; else 33, and the client is asked as before
+-- an A that an asked client accepts
+pub record AcceptsA (c : Client) (l : List ℕ) : Type 0 where
+  pub asked : c .state ≡ client-state.Asked
+  pub size : ℕ
+  pub number : ℕ
+  pub front : AcceptedInFront l size number
+  pub fits : Fits c l number
+
+-- then session and number come from it, and only then; else 33, and the client is asked as before
 pub record TakesFromA : Type 0 where
   pub when : (c : Client) (l : List ℕ) (size n : ℕ) → c .state ≡ client-state.Asked → AcceptedInFront l size n → Fits c l n
       → clientStep c l ≡ takes size (says reply.accepted (n ∷ [])) (client (sessionOf sender.Server l) n client-state.In)
   pub else-33 : (c : Client) (l : List ℕ) (size n : ℕ) → c .state ≡ client-state.Asked → AcceptedInFront l size n → (Fits c l n → ⊥)
       → clientStep c l ≡ stays c (refuses loginNotAsked)
+  pub only-when : (c : Client) (l : List ℕ) → clientStep c l .reply .which ≡ answer reply.accepted → AcceptsA c l
+
+-- S in front
+abbrev pub SequencedInFront : List ℕ → ℕ → Type 0
+SequencedInFront l size = frontOf sender.Server l ≡ says (packet Letters.sequenced) (size ∷ [])
+
+-- in takes every S: message n, then n + 1; 34 where n is 2^64 - 1
+pub record TakesS : Type 0 where
+  pub when : (c : Client) (l : List ℕ) (size : ℕ) → c .state ≡ client-state.In → SequencedInFront l size → (c .number .0 ≡ largestNumber → ⊥)
+      → clientStep c l ≡ takes size (says sequenced (c .number .0 ∷ headSize ∷ (size - headSize) ∷ [])) (client (c .session) (c .number .0 + 1) client-state.In)
+  pub else-34 : (c : Client) (l : List ℕ) (size : ℕ) → c .state ≡ client-state.In → SequencedInFront l size → c .number .0 ≡ largestNumber
+      → clientStep c l ≡ stays c (refuses numbersUsedUp)
 
 -- over a stream: what is handed up under number k is the k-th payload of S from the granted number on, each once, in order, and the
 -- client's number is one past the last of them
@@ -152,6 +174,7 @@ pub record HandsUpInOrder (c : Client) (r : Run Client) : Type 0 where
 
 pub record ClientPromises : Type 0 where
   pub takes-from-A : TakesFromA
+  pub takes-S : TakesS
   pub changes-nothing : ChangesNothing Client clientStep
   pub takes-packets : TakesPackets Client clientStep sender.Server
   pub hands-up-payload : HandsUpPayload Client clientStep sender.Server sequenced

@@ -11,7 +11,7 @@ use wire::kinds::SequenceNumber;
 ghost use mathlib.Core.Path.{_≡_};
 ghost use mathlib.Core.List.{[], _∷_};
 ghost use Prim.Native.Nat.{_+_};
-ghost use lib.ListN.{getD, take, drop};
+ghost use lib.ListN.{getD};
 ghost use Rattle.text_fields.specs.Number.{numberWords};
 ghost use Rattle.soupbintcp.specs.Letters.{plainOf, packetKind, packetValues};
 ghost use Rattle.soupbintcp.specs.Head.{headSize, letterOf};

@@ -28,6 +28,7 @@ use Rattle.wire.proofs.kinds.MessageCount as N
 use Rattle.wire.proofs.kinds.MessageCount.Laws as N′
 use Rattle.receiver.specs.Delivery.{deliveryOf, DeliveryVisits}
 use Rattle.receiver.proofs.DeliveryLaws.{delivery-visits}
+use Rattle.moldudp64_reader.proofs.ReaderLaws.{reads-the-delivery}
 use Rattle.receiver.proofs.delivery.start.Symbol as callee
 use Rattle.receiver.proofs.delivery.start.Met.{met}
 use Rattle.moldudp64_reader.proofs.Walks.{Sig, Promise, Meant, token, Walk, hears, proves}
@@ -67,7 +68,7 @@ module _ {M : Type 1} (𝓤 : URA M) (H : Heap 𝓤) (A : Atoms 𝓤) (W : Given
       assigns ! (agg ! (and-then ! (load ! (from ! (stop !)) (look ! 3 refl)) (and-then ! (load ! (from ! (stop !)) (look ! 9 refl)) (no-more !)))) (from ! (stop !)) (init ! 11 refl (tt, (cursor-typed 𝓤 H A W κ c is′ .1, (wt .1, tt)))) $
       returns ! (look ! 11 refl) $ forget ! 3 refl $ forget ! 5 refl $ forget ! 7 refl $ forget ! 9 refl $ forget ! 11 refl $
       move ! (11 ∷ 12 ∷ []) $ free1 ! $ move ! (9 ∷ 10 ∷ []) $ free1 ! $ move ! (7 ∷ 8 ∷ []) $ free1 ! $ move ! (5 ∷ 6 ∷ []) $ free1 ! $ move ! (3 ∷ 4 ∷ []) $ free1 ! $ free0 ! $
-      by ! (ends-made 𝓤 H A W κ ps (Q 𝓤 H A mem run) ((λ κs x. (tt, refl)), ((λ κs x. (tt, refl)), ((λ κs x. (tt, refl)), tt))) q (s, (n, (m, tt))) c s (cursor-val c) (slice-val s) (factI 𝓤 _ _ (refl, e, delivery-visits)))))))))
+      by ! (ends-made 𝓤 H A W κ ps (Q 𝓤 H A mem run) ((λ κs x. (tt, refl)), ((λ κs x. (tt, refl)), ((λ κs x. (tt, refl)), tt))) q (s, (n, (m, tt))) c s (cursor-val c) (slice-val s) (factI 𝓤 _ _ (refl, e, delivery-visits, reads-the-delivery)))))))))
 
 pub deliver-spec : {M : Type 1} → statement M
 unfolding code.routine
