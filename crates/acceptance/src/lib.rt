@@ -1,21 +1,25 @@
-// What the tender asks for, obtained from the promises of the crates below.
-use receiver::receiver::Receiver;
-use receiver::receiver::Started;
-use wire::kinds::MessageCount;
-use wire::kinds::SESSION_SIZE;
-use wire::kinds::SequenceNumber;
-ghost use mathlib.Core.Path.{_≡_};
-ghost use Rattle.receiver.specs.Receiver.{startRefusal, startReceiver};
-ghost use Rattle.receiver.specs.Condition3.{Condition3};
+// What the tender asks for, by name. The functions have nothing to do: each promises one condition, so that the gate can't pass without
+// its proof, and `specs/Conditions.antt` is the one file to open.
+ghost use Rattle.acceptance.specs.Conditions.{Condition1, Condition2, Condition3, Condition3IsMeant};
+ghost use Rattle.acceptance.specs.Examples.{EveryExample};
 
-// Condition 3, from the promise of the receiver's start: without that promise this function has no proof.
-pub fn condition_3(
-    session: [u8; SESSION_SIZE],
-    next: SequenceNumber,
-    limit: MessageCount,
-) -> Started
-    ensures { λ r. ⌜ (r .refusal .number ≡ startRefusal (next .0) (limit .0)) × (r .receiver ≡ startReceiver session (next .0) (limit .0)) ⌝ }
-    ensures condition_3 { λ _. ⌜ Condition3 ⌝ }
-{
-    Receiver::new(session, next, limit)
-}
+// A refusal changes neither state nor one lent byte.
+pub fn condition_1()
+    ensures { λ _. ⌜ Condition1 ⌝ }
+{}
+
+// Read and written exactly; the login's rules; the receiver's table and its requests.
+pub fn condition_2()
+    ensures { λ _. ⌜ Condition2 ⌝ }
+{}
+
+// Exactly the true messages, in order, each once, for every list of datagrams.
+pub fn condition_3()
+    ensures { λ _. ⌜ Condition3 ⌝ }
+    ensures is_meant { λ _. ⌜ Condition3IsMeant ⌝ }
+{}
+
+// Document 01's examples either side of the line.
+pub fn examples()
+    ensures { λ _. ⌜ EveryExample ⌝ }
+{}

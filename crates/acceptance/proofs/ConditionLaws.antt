@@ -1,0 +1,44 @@
+-- The conditions, from the theorems of the crates that they stand in.
+use Rattle.wire.proofs.Outputs.{output-laws}
+use Rattle.moldudp64_writer.proofs.RoundTripLaws.{packet-round-trip, end-round-trip, request-round-trip}
+use Rattle.receiver.proofs.Promises.{receiver-promises}
+use Rattle.receiver.proofs.ConditionLaws as receiver
+use Rattle.receiver.proofs.WitnessLaws.{not-vacuous, not-weak}
+use Rattle.soupbintcp_writer.proofs.RoundTripLaws.{every-packet, payload-round-trip, letter-round-trip, accepted-round-trip, rejected-round-trip, login-round-trip}
+use Rattle.login.proofs.ExampleLaws.{login-promises}
+use Rattle.soup_session.proofs.StatementLaws.{server-promises, client-promises}
+use Rattle.acceptance.specs.Conditions.{Condition1, Condition2, Condition3, Condition3IsMeant}
+
+pub condition-1 : Condition1
+condition-1 =
+    record {
+      writers = output-laws .refusal-writes-nothing;
+      receiver = receiver-promises .follows-the-table .refused;
+      server = server-promises .changes-nothing;
+      client = client-promises .changes-nothing;
+    }
+
+pub condition-2 : Condition2
+condition-2 =
+    record {
+      datagrams = packet-round-trip;
+      ends-of-session = end-round-trip;
+      requests = request-round-trip;
+      every-packet = every-packet;
+      payloads = payload-round-trip;
+      letters-alone = letter-round-trip;
+      accepted = accepted-round-trip;
+      rejected = rejected-round-trip;
+      logins = login-round-trip;
+      decided-exactly-when = login-promises .accepted-exactly-when;
+      never-accepted = login-promises .never-accepted;
+      accepted-exactly-when = server-promises .login-exactly-when;
+      follows-the-table = receiver-promises .follows-the-table;
+      request-exactly-when = receiver-promises .request-exactly-when;
+    }
+
+pub condition-3 : Condition3
+condition-3 = receiver.condition-3
+
+pub condition-3-is-meant : Condition3IsMeant
+condition-3-is-meant = record { not-vacuous = not-vacuous; not-weak = not-weak }

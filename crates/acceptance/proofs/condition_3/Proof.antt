@@ -1,0 +1,10 @@
+-- What is promised are theorems of `ConditionLaws`.
+use Rattle.acceptance.proofs.ConditionLaws.{condition-3, condition-3-is-meant}
+use Rattle.acceptance.proofs.condition_3.Statement.{statement}
+use Rattle.acceptance.proofs.condition_3.Tie as tie
+
+returns : tie.Need-returns
+returns c = (condition-3, condition-3-is-meant)
+
+pub condition-3-spec : {M : Type 1} → statement M
+condition-3-spec = tie.close (tie.spec returns)

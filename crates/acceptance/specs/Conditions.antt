@@ -1,0 +1,61 @@
+-- The tender's three conditions by name: the statements that carry them, wherever they stand.
+use Prim.Native.Nat.{ℕ}
+use mathlib.Core.List.{List}
+use mathlib.Core.Path.{_≡_}
+use Rattle.wire.specs.Output.{RefusalWritesNothing}
+use Rattle.moldudp64_writer.specs.RoundTrips.{PacketRoundTrip, EndRoundTrip, RequestRoundTrip}
+use Rattle.receiver.specs.declared.receiver.Receiver.{Receiver}
+use Rattle.receiver.specs.Receiver.{refusalFor, answerOf, receiverAfter}
+use Rattle.receiver.specs.Statements.{Refuses, FollowsTheTable, RequestExactlyWhen}
+use Rattle.receiver.specs.Condition3 as receiver
+use Rattle.receiver.specs.Witnesses.{NotVacuous, NotWeak}
+use Rattle.soupbintcp_writer.specs.RoundTrips.{EveryPacketWritesBack, PayloadRoundTrip, LetterRoundTrip, AcceptedRoundTrip, RejectedRoundTrip, LoginRoundTrip}
+use Rattle.login.specs.declared.account.Account.{Account}
+use Rattle.login.specs.Statements.{AcceptedExactlyWhen, NeverAccepted}
+use Rattle.soup_session.specs.declared.server.Server.{Server}
+use Rattle.soup_session.specs.declared.client.Client.{Client}
+use Rattle.soup_session.specs.Server.{serverStep}
+use Rattle.soup_session.specs.Client.{clientStep}
+use Rattle.soup_session.specs.Statements.{ChangesNothing, LoginExactlyWhen}
+
+-- Condition 1: a refusal changes neither state nor one lent byte. That every function ends and does nothing undefined, on any bytes, is
+-- no statement: each function of each crate is proved, and no public one of a library has a `requires` (docs/ACCEPTANCE.md).
+pub record Condition1 : Type 0 where
+  -- every writer: the output is as it was
+  pub writers : RefusalWritesNothing
+  -- the receiver gives its number and is as it was
+  pub receiver : (r : Receiver) (l : List ℕ) → (refusalFor r l ≡ 0 → ⊥) → Refuses answerOf receiverAfter r l
+  -- the session is as it was, no bytes are taken, and no other number is given; so it is where more is needed
+  pub server : (table : List Account) → ChangesNothing Server (serverStep table)
+  pub client : ChangesNothing Client clientStep
+
+-- Condition 2. That bytes are read and written exactly as the layouts say is each reader's and writer's own promise, an equation with
+-- its definition: `readOf`, `requestOf`, `frontOf`; `packetOf`, `endPacket`, `header`, `packet`.
+pub record Condition2 : Type 0 where
+  -- what is written reads back as itself; what is accepted writes back to its own bytes, save the named exceptions
+  pub datagrams : PacketRoundTrip
+  pub ends-of-session : EndRoundTrip
+  pub requests : RequestRoundTrip
+  pub every-packet : EveryPacketWritesBack
+  pub payloads : PayloadRoundTrip
+  pub letters-alone : LetterRoundTrip
+  pub accepted : AcceptedRoundTrip
+  pub rejected : RejectedRoundTrip
+  pub logins : LoginRoundTrip
+  -- a login that isn't refused is accepted exactly when the account, session and number rules hold: as decided, and at the server
+  pub decided-exactly-when : AcceptedExactlyWhen
+  pub never-accepted : NeverAccepted
+  pub accepted-exactly-when : LoginExactlyWhen
+  -- the receiver answers, and moves its number, exactly as the table says
+  pub follows-the-table : FollowsTheTable answerOf receiverAfter
+  -- an accepted datagram draws a request exactly when its number lies above the expected one
+  pub request-exactly-when : RequestExactlyWhen answerOf
+
+-- Condition 3, one claim about every list of datagrams
+abbrev pub Condition3 : Type 0
+Condition3 = receiver.Condition3
+
+-- what is shown of that claim: it speaks of something, and idle and wrong receivers break it or the table
+pub record Condition3IsMeant : Type 0 where
+  pub not-vacuous : NotVacuous
+  pub not-weak : NotWeak
