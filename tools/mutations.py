@@ -1,5 +1,5 @@
 #!/usr/bin/env python3
-"""Changes single operators, constants and branches of src/, and asks the prover of each: it has to refuse every change that means something.
+"""Changes single operators, constants, branches, names and texts of src/, and asks the prover of each: it has to refuse every change that means something.
 
     tools/mutations.py [--seed N] [--count N] [--jobs N] [NAME ...]
 
@@ -31,6 +31,9 @@ BYTE = re.compile(r"b'(.)'")
 TRUTH = re.compile(r"\b(true|false)\b")
 NEGATION = re.compile(r"(?<=if )!(?=\w)")
 REFUSAL = re.compile(r"(?<=refusal::)[A-Z][A-Z_]+")
+TEXT = re.compile(r'b"(.)')
+ARGUMENTS = re.compile(r"\((?:&mut \w+, )?([\w.&]+), ([\w.&]+)[,)]")
+FIELD = re.compile(r"(?<=[a-z]\.)([a-z_]+)\b(?!\()")
 VARIANT = re.compile(r"\b([A-Z]\w*)::([A-Z][a-z]\w*)\b(?! *(?:=>|\{|\(|\|))")
 
 
@@ -50,6 +53,17 @@ def enums():
     return found
 
 
+def siblings():
+    """For each name of a field, the other fields of the structs that have it."""
+    found = {}
+    for path in sorted(ROOT.glob("crates/*/src/**/*.rt")):
+        for body in re.findall(r"struct \w+(?:<'a>)? \{\n(.*?)\n\}", path.read_text(), re.S):
+            names = re.findall(r"^    pub (\w+):", body, re.M)
+            for name in names:
+                found.setdefault(name, set()).update(set(names) - {name})
+    return {name: sorted(others) for name, others in found.items()}
+
+
 def refusals():
     return re.findall(r"const ([A-Z_]+): Refusal", (ROOT / "crates/wire/src/refusal.rt").read_text())
 
@@ -59,7 +73,7 @@ def is_code(line):
     return not re.match(r"\s*(//|use |ghost |pub mod |mod |requires|ensures|struct|pub struct|enum|pub enum)", line)
 
 
-def changes_in(line, plain, numbers):
+def changes_in(line, plain, fields, numbers):
     """Each change of a line: where it starts and ends, and what stands there then."""
     for m in OPERATOR.finditer(line):
         yield from ((m.start(), m.end(), new) for new in OPERATORS[m.group(1)])
@@ -76,6 +90,12 @@ def changes_in(line, plain, numbers):
         yield m.start(), m.end(), ""
     for m in REFUSAL.finditer(line):
         yield m.start(), m.end(), numbers[numbers.index(m.group(0)) - 1]
+    for m in TEXT.finditer(line):
+        yield m.start(1), m.end(1), "#"
+    for m in ARGUMENTS.finditer(line):
+        yield m.start(1), m.end(2), f"{m.group(2)}, {m.group(1)}"
+    for m in FIELD.finditer(line):
+        yield from ((m.start(), m.end(), other) for other in fields.get(m.group(1), []))
     for m in VARIANT.finditer(line):
         others = [v for v in plain.get(m.group(1), []) if v != m.group(2)]
         yield from ((m.start(2), m.end(2), v) for v in others[:2])
@@ -83,11 +103,11 @@ def changes_in(line, plain, numbers):
 
 def changes_of(name):
     """Every change that a crate's code offers: file, line, the line as it is, the line as it becomes."""
-    plain, numbers, found = enums(), refusals(), []
+    plain, fields, numbers, found = enums(), siblings(), refusals(), []
     for path in sorted((ROOT / "crates" / name / "src").rglob("*.rt")):
         for at, line in enumerate(path.read_text().splitlines()):
             if is_code(line):
-                new = {line[:start] + text + line[end:] for start, end, text in changes_in(line, plain, numbers)}
+                new = {line[:start] + text + line[end:] for start, end, text in changes_in(line, plain, fields, numbers)}
                 found += [(path.relative_to(ROOT), at, line, other) for other in sorted(new - {line})]
     return found
 

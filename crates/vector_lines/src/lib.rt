@@ -4,5 +4,6 @@
 // fields after spaces. The first letter of a key tells it apart. Numbers are decimal. Bytes are hex, `xx*N` is the byte
 // `xx` N times, with a `+` where more follows, and `-` is none. A lent output is given by its size and filled with one
 // byte before the call. A line without `|` is a heading, printed as it is.
+pub mod input;
 pub mod parse;
 pub mod print;

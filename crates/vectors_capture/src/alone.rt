@@ -116,9 +116,8 @@ fn digits(fields: &[u8], out: &mut [u8]) {
 }
 
 // What is given bytes.
-fn given(letter: u8, fields: &[u8]) {
-    let mut bytes = [0u8; 131072];
-    let n = parse::bytes(fields, b'd', &mut bytes);
+fn given_in(letter: u8, fields: &[u8], bytes: &mut [u8]) {
+    let n = parse::bytes(fields, b'd', bytes);
     match letter {
         b'p' => {
             settings(&bytes[..n]);
@@ -130,6 +129,11 @@ fn given(letter: u8, fields: &[u8]) {
             keep(fields, &mut bytes[..n]);
         }
     }
+}
+
+fn given(letter: u8, fields: &[u8]) {
+    let mut bytes = [0u8; 131072];
+    given_in(letter, fields, &mut bytes);
 }
 
 pub(crate) fn ask(letter: u8, fields: &[u8]) {

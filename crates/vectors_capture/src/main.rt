@@ -7,11 +7,11 @@ mod pieces;
 mod steps;
 
 use capture::reading::Reading;
-use libc::STDIN_FILENO;
+use vector_lines::input;
 use vector_lines::parse;
 use vector_lines::print;
 
-// Room for the vectors. A text that fills it may have been cut, so it is refused whole.
+// Room for the vectors.
 const MOST_TEXT: usize = 196608;
 
 // Answers the reading to use next.
@@ -57,12 +57,13 @@ fn answer_all(text: &[u8], before: Reading) {
     }
 }
 
+fn answer_input(room: &mut [u8]) {
+    let n = input::vectors(room);
+    answer_all(&room[..n], Reading::new());
+}
+
+// The room is lent whole, so that no other proof meets its size.
 fn main() {
-    let mut text = [0u8; MOST_TEXT];
-    let n = io::read_full(STDIN_FILENO, &mut text);
-    if n == MOST_TEXT {
-        print::text(b"too many vectors\n");
-        return;
-    }
-    answer_all(&text[..n], Reading::new());
+    let mut room = [0u8; MOST_TEXT];
+    answer_input(&mut room);
 }

@@ -98,9 +98,8 @@ fn written(w: Written, out: &[u8]) -> &[u8] {
 }
 
 // Prints whether the pieces come to the text of the whole.
-fn compare(capture: &[u8], size: u64, whole: &[u8]) {
-    let mut buf = [0u8; 196608];
-    let reading = read(capture, size as usize, &mut buf);
+fn compare_in(capture: &[u8], size: u64, whole: &[u8], buf: &mut [u8]) {
+    let reading = read(capture, size as usize, buf);
     let mut text = [0u8; ROOM];
     let answered = reading.write(&mut text);
     print::number(b"", size);
@@ -109,6 +108,11 @@ fn compare(capture: &[u8], size: u64, whole: &[u8]) {
         return;
     }
     print::text(b" differs ");
+}
+
+fn compare(capture: &[u8], size: u64, whole: &[u8]) {
+    let mut buf = [0u8; 196608];
+    compare_in(capture, size, whole, &mut buf);
 }
 
 // Compares for each size of the field `pieces`, parts `N*1` joined by `+`.
@@ -133,11 +137,15 @@ fn report(capture: &[u8], out: &mut [u8]) {
     answers::text(whole::report(capture, out), out);
 }
 
+fn ask_with(fields: &[u8], bytes: &mut [u8], out: &mut [u8]) {
+    let n = parse::bytes(fields, b'c', bytes);
+    cuttings(fields, &bytes[..n]);
+    let size = parse::output(fields, out);
+    report(&bytes[..n], &mut out[..size]);
+}
+
 pub(crate) fn ask(fields: &[u8]) {
     let mut bytes = [0u8; 196608];
-    let n = parse::bytes(fields, b'c', &mut bytes);
-    cuttings(fields, &bytes[..n]);
     let mut out = [0u8; 512];
-    let size = parse::output(fields, &mut out);
-    report(&bytes[..n], &mut out[..size]);
+    ask_with(fields, &mut bytes, &mut out);
 }

@@ -83,15 +83,19 @@ fn cut(reading: Reading) -> Reading {
     with_report(before.cut())
 }
 
-// What is given bytes.
-fn given(letter: u8, fields: &[u8], reading: Reading) -> Reading {
-    let mut bytes = [0u8; 131072];
-    let n = parse::bytes(fields, b'd', &mut bytes);
+fn given_in(letter: u8, fields: &[u8], reading: Reading, bytes: &mut [u8]) -> Reading {
+    let n = parse::bytes(fields, b'd', bytes);
     match letter {
         b'c' => feed(reading, &bytes[..n]),
         b'd' => finish(reading, &bytes[..n]),
         _ => step(reading, &bytes[..n]),
     }
+}
+
+// What is given bytes.
+fn given(letter: u8, fields: &[u8], reading: Reading) -> Reading {
+    let mut bytes = [0u8; 131072];
+    given_in(letter, fields, reading, &mut bytes)
 }
 
 // Answers the reading to use next.

@@ -2,13 +2,13 @@
 // `vector_lines` tells the form of a vector.
 mod answers;
 
-use libc::STDIN_FILENO;
 use moldudp64::blocks;
 use moldudp64::downstream;
 use moldudp64::header;
 use moldudp64::request;
 use moldudp64_messages::cursor::Cursor;
 use moldudp64_messages::message;
+use vector_lines::input;
 use vector_lines::parse;
 use vector_lines::print;
 use wire::kinds::ByteOffset;
@@ -16,7 +16,7 @@ use wire::kinds::MessageCount;
 use wire::kinds::SESSION_SIZE;
 use wire::kinds::SequenceNumber;
 
-// Room for the vectors. A text that fills it may have been cut, so it is refused whole.
+// Room for the vectors.
 const MOST_TEXT: usize = 131072;
 
 // Datagrams and requests.
@@ -85,9 +85,8 @@ fn cursor(letter: u8, data: &[u8], at: Cursor, count: MessageCount) {
     }
 }
 
-fn ask(letter: u8, fields: &[u8]) {
-    let mut bytes = [0u8; 131072];
-    let n = parse::bytes(fields, b'd', &mut bytes);
+fn ask_with(letter: u8, fields: &[u8], bytes: &mut [u8]) {
+    let n = parse::bytes(fields, b'd', bytes);
     let count = parse::count(fields, b'c');
     if letter == b'h' {
         let number = SequenceNumber(parse::number(fields, b'n'));
@@ -101,6 +100,11 @@ fn ask(letter: u8, fields: &[u8]) {
     packet(letter, &bytes[..n], parse::session(fields));
     message(letter, &bytes[..n], count);
     cursor(letter, &bytes[..n], at, count);
+}
+
+fn ask(letter: u8, fields: &[u8]) {
+    let mut bytes = [0u8; 131072];
+    ask_with(letter, fields, &mut bytes);
 }
 
 // Prints a line's answer, or the line itself where it is a heading.
@@ -124,12 +128,13 @@ fn answer_all(text: &[u8]) {
     }
 }
 
+fn answer_input(room: &mut [u8]) {
+    let n = input::vectors(room);
+    answer_all(&room[..n]);
+}
+
+// The room is lent whole, so that no other proof meets its size.
 fn main() {
-    let mut text = [0u8; MOST_TEXT];
-    let n = io::read_full(STDIN_FILENO, &mut text);
-    if n == MOST_TEXT {
-        print::text(b"too many vectors\n");
-        return;
-    }
-    answer_all(&text[..n]);
+    let mut room = [0u8; MOST_TEXT];
+    answer_input(&mut room);
 }

@@ -3,16 +3,16 @@
 // so many times, joined by `+`.
 mod lengths;
 
-use libc::STDIN_FILENO;
 use moldudp64_writer::downstream;
 use moldudp64_writer::request;
+use vector_lines::input;
 use vector_lines::parse;
 use vector_lines::print;
 use wire::kinds::MessageCount;
 use wire::kinds::SESSION_SIZE;
 use wire::kinds::SequenceNumber;
 
-// Room for the vectors. A text that fills it may have been cut, so it is refused whole.
+// Room for the vectors.
 const MOST_TEXT: usize = 65536;
 
 // The packets with no blocks.
@@ -34,22 +34,27 @@ fn header(
     }
 }
 
-fn messages(fields: &[u8], out: &mut [u8], session: [u8; SESSION_SIZE], number: SequenceNumber) {
-    let mut bytes = [0u8; 131072];
-    let n = parse::bytes(fields, b'd', &mut bytes);
-    let mut lengths = [0u16; 65536];
-    let m = lengths::lengths(fields, &mut lengths);
+fn messages_with(fields: &[u8], out: &mut [u8], bytes: &mut [u8], lengths: &mut [u16]) {
+    let n = parse::bytes(fields, b'd', bytes);
+    let m = lengths::lengths(fields, lengths);
+    let session = parse::session(fields);
+    let number = SequenceNumber(parse::number(fields, b'n'));
     let written = downstream::write_messages(out, session, number, &lengths[..m], &bytes[..n]);
     print::written(written, out);
 }
 
-fn ask(letter: u8, fields: &[u8]) {
-    let mut out = [0u8; 65536];
-    let size = parse::output(fields, &mut out);
+fn messages(fields: &[u8], out: &mut [u8]) {
+    let mut bytes = [0u8; 131072];
+    let mut lengths = [0u16; 65536];
+    messages_with(fields, out, &mut bytes, &mut lengths);
+}
+
+fn ask_with(letter: u8, fields: &[u8], out: &mut [u8]) {
+    let size = parse::output(fields, out);
     let session = parse::session(fields);
     let number = SequenceNumber(parse::number(fields, b'n'));
     if letter == b'a' {
-        messages(fields, &mut out[..size], session, number);
+        messages(fields, &mut out[..size]);
         return;
     }
     header(
@@ -59,6 +64,11 @@ fn ask(letter: u8, fields: &[u8]) {
         number,
         parse::count(fields, b'c'),
     );
+}
+
+fn ask(letter: u8, fields: &[u8]) {
+    let mut out = [0u8; 65536];
+    ask_with(letter, fields, &mut out);
 }
 
 // Prints a line's answer, or the line itself where it is a heading.
@@ -82,12 +92,13 @@ fn answer_all(text: &[u8]) {
     }
 }
 
+fn answer_input(room: &mut [u8]) {
+    let n = input::vectors(room);
+    answer_all(&room[..n]);
+}
+
+// The room is lent whole, so that no other proof meets its size.
 fn main() {
-    let mut text = [0u8; MOST_TEXT];
-    let n = io::read_full(STDIN_FILENO, &mut text);
-    if n == MOST_TEXT {
-        print::text(b"too many vectors\n");
-        return;
-    }
-    answer_all(&text[..n]);
+    let mut room = [0u8; MOST_TEXT];
+    answer_input(&mut room);
 }

@@ -3,15 +3,15 @@
 // again.
 mod answers;
 
-use libc::STDIN_FILENO;
 use receiver::receiver::Receiver;
+use vector_lines::input;
 use vector_lines::parse;
 use vector_lines::print;
 use wire::kinds::MessageCount;
 use wire::kinds::SESSION_SIZE;
 use wire::kinds::SequenceNumber;
 
-// Room for the vectors. A text that fills it may have been cut, so it is refused whole.
+// Room for the vectors.
 const MOST_TEXT: usize = 131072;
 
 fn start(fields: &[u8]) -> Receiver {
@@ -33,13 +33,8 @@ fn take(receiver: Receiver, datagram: &[u8]) -> Receiver {
     after
 }
 
-// Answers the receiver to use next.
-fn ask(letter: u8, fields: &[u8], receiver: Receiver) -> Receiver {
-    if letter == b'a' {
-        return start(fields);
-    }
-    let mut bytes = [0u8; 131072];
-    let n = parse::bytes(fields, b'd', &mut bytes);
+fn ask_with(letter: u8, fields: &[u8], receiver: Receiver, bytes: &mut [u8]) -> Receiver {
+    let n = parse::bytes(fields, b'd', bytes);
     if letter == b'b' {
         return take(receiver, &bytes[..n]);
     }
@@ -49,6 +44,15 @@ fn ask(letter: u8, fields: &[u8], receiver: Receiver) -> Receiver {
         parse::count(fields, b's'),
     );
     receiver
+}
+
+// Answers the receiver to use next.
+fn ask(letter: u8, fields: &[u8], receiver: Receiver) -> Receiver {
+    if letter == b'a' {
+        return start(fields);
+    }
+    let mut bytes = [0u8; 131072];
+    ask_with(letter, fields, receiver, &mut bytes)
 }
 
 // Prints a line's answer, or the line itself where it is a heading.
@@ -77,15 +81,16 @@ fn answer_all(text: &[u8], before: Receiver) {
     }
 }
 
-fn main() {
-    let mut text = [0u8; MOST_TEXT];
-    let n = io::read_full(STDIN_FILENO, &mut text);
-    if n == MOST_TEXT {
-        print::text(b"too many vectors\n");
-        return;
-    }
+fn answer_input(room: &mut [u8]) {
+    let n = input::vectors(room);
     // before the first start, the receiver of a refused one
     let none = Receiver::new([0u8; SESSION_SIZE], SequenceNumber(0), MessageCount(0));
     let before = none.receiver;
-    answer_all(&text[..n], before);
+    answer_all(&room[..n], before);
+}
+
+// The room is lent whole, so that no other proof meets its size.
+fn main() {
+    let mut room = [0u8; MOST_TEXT];
+    answer_input(&mut room);
 }

@@ -1,6 +1,6 @@
 // Runs recorded vectors through every public function of `wire`, and prints every answer. `vector_lines` tells the form
 // of a vector.
-use libc::STDIN_FILENO;
+use vector_lines::input;
 use vector_lines::parse;
 use vector_lines::print;
 use wire::compare;
@@ -9,7 +9,7 @@ use wire::kinds::SESSION_SIZE;
 use wire::number;
 use wire::output;
 
-// Room for the vectors. A text that fills it may have been cut, so it is refused whole.
+// Room for the vectors.
 const MOST_TEXT: usize = 65536;
 
 // The functions that read.
@@ -47,15 +47,19 @@ fn write(letter: u8, out: &mut [u8], at: ByteOffset, n: u64, data: &[u8]) {
     }
 }
 
-fn ask(letter: u8, fields: &[u8]) {
-    let mut bytes = [0u8; 65536];
-    let n = parse::bytes(fields, b'd', &mut bytes);
-    let mut out = [0u8; 65536];
-    let size = parse::output(fields, &mut out);
+fn ask_with(letter: u8, fields: &[u8], bytes: &mut [u8], out: &mut [u8]) {
+    let n = parse::bytes(fields, b'd', bytes);
+    let size = parse::output(fields, out);
     let at = ByteOffset(parse::number(fields, b'a') as usize);
     let given = parse::number(fields, b'n');
     read(letter, &bytes[..n], at, parse::session(fields));
     write(letter, &mut out[..size], at, given, &bytes[..n]);
+}
+
+fn ask(letter: u8, fields: &[u8]) {
+    let mut bytes = [0u8; 65536];
+    let mut out = [0u8; 65536];
+    ask_with(letter, fields, &mut bytes, &mut out);
 }
 
 // Prints a line's answer, or the line itself where it is a heading.
@@ -79,12 +83,13 @@ fn answer_all(text: &[u8]) {
     }
 }
 
+fn answer_input(room: &mut [u8]) {
+    let n = input::vectors(room);
+    answer_all(&room[..n]);
+}
+
+// The room is lent whole, so that no other proof meets its size.
 fn main() {
-    let mut text = [0u8; MOST_TEXT];
-    let n = io::read_full(STDIN_FILENO, &mut text);
-    if n == MOST_TEXT {
-        print::text(b"too many vectors\n");
-        return;
-    }
-    answer_all(&text[..n]);
+    let mut room = [0u8; MOST_TEXT];
+    answer_input(&mut room);
 }
