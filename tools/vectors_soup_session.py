@@ -1,4 +1,4 @@
-"""Vectors of the public functions of `parts`, `login` and `soup_session`."""
+"""Vectors of the public functions of `parts`, `login`, `soup_session`, `soup_server` and `soup_client`."""
 import itertools
 
 from vector_lines import Vectors, show_bytes, show_truth

@@ -25,7 +25,7 @@ use Rattle.soupbintcp.specs.Front.{packetOf, frontAt, frontOf, packetAt, packet
 use Rattle.soupbintcp_writer.specs.Packets as soup
 use Rattle.login.specs.Account.{lower, lowered, sameText, soundAccount, isOf, hasPassword, isKnown, verdictOf, lookupOf}
 use Rattle.login.specs.Decision.{sessionHolds, numberHolds, granted, decisionAt}
-use Rattle.soup_session.specs.Server.{startRefusal, startServer, loginAt, waitingRow, rowAt, frontRow, stepAt, entryOf, serverStep}
+use Rattle.soup_server.specs.Server.{startRefusal, startServer, loginAt, waitingRow, rowAt, frontRow, stepAt, entryOf, serverStep}
 use Rattle.acceptance.specs.Examples.{resultOf, Row, rows, EveryExample}
 use Rattle.acceptance.proofs.Same.{first-of, second-of, same, equal}
 

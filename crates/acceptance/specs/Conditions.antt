@@ -12,11 +12,12 @@ use Rattle.receiver.specs.Witnesses.{NotVacuous, NotWeak}
 use Rattle.soupbintcp_writer.specs.RoundTrips.{EveryPacketWritesBack, PayloadRoundTrip, LetterRoundTrip, AcceptedRoundTrip, RejectedRoundTrip, LoginRoundTrip}
 use Rattle.login.specs.declared.account.Account.{Account}
 use Rattle.login.specs.Statements.{AcceptedExactlyWhen, NeverAccepted}
-use Rattle.soup_session.specs.declared.server.Server.{Server}
-use Rattle.soup_session.specs.declared.client.Client.{Client}
-use Rattle.soup_session.specs.Server.{serverStep}
-use Rattle.soup_session.specs.Client.{clientStep}
-use Rattle.soup_session.specs.Statements.{ChangesNothing, LoginExactlyWhen}
+use Rattle.soup_server.specs.declared.server.Server.{Server}
+use Rattle.soup_client.specs.declared.client.Client.{Client}
+use Rattle.soup_server.specs.Server.{serverStep}
+use Rattle.soup_client.specs.Client.{clientStep}
+use Rattle.soup_session.specs.Statements.{ChangesNothing}
+use Rattle.soup_server.specs.Statements.{LoginExactlyWhen}
 
 -- Condition 1: a refusal changes neither state nor one lent byte. That every function ends and does nothing undefined, on any bytes, is
 -- no statement: each function of each crate is proved, and no public one of a library has a `requires` (docs/ACCEPTANCE.md).

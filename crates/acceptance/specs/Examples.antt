@@ -24,7 +24,7 @@ use Rattle.soupbintcp_writer.specs.Packets as soup
 use Rattle.login.specs.declared.account.Account.{Account}
 use Rattle.login.specs.Examples.{ann, ours}
 use Rattle.soup_session.specs.Answer as session
-use Rattle.soup_session.specs.Server.{startServer, serverStep}
+use Rattle.soup_server.specs.Server.{startServer, serverStep}
 
 -- ---- what is asked, and what it comes to
 

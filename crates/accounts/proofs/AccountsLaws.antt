@@ -11,7 +11,7 @@ use Rattle.wire.proofs.Cases.{below-or-not}
 use Rattle.login.specs.declared.account.Account.{Account}
 use Rattle.login.specs.Account.{lookupOf}
 use Rattle.login.specs.Table.{recordOf, recordsUpTo, recordsOf}
-use Rattle.soup_session.specs.Server.{serverStep}
+use Rattle.soup_server.specs.Server.{serverStep}
 use Rattle.accounts.specs.Accounts.{usedOf, Sized, AllSized, none, one-more, flat, FlatIsTheSame}
 
 -- ---- a table by value

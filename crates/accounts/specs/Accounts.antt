@@ -9,8 +9,8 @@ use Rattle.text_fields.specs.Sound.{usernameSize, passwordSize}
 use Rattle.login.specs.declared.account.Account.{Account}
 use Rattle.login.specs.Account.{lookupOf}
 use Rattle.login.specs.Table.{recordSize, recordsOf}
-use Rattle.soup_session.specs.declared.server.Server.{Server}
-use Rattle.soup_session.specs.Server.{serverStep}
+use Rattle.soup_server.specs.declared.server.Server.{Server}
+use Rattle.soup_server.specs.Server.{serverStep}
 
 -- how many records a table by value has
 abbrev pub tableRecords : ℕ

@@ -1,22 +1,25 @@
 -- The front of a stream by its cases, and which answers take nothing: s is the sender, l the stream.
 use mathlib.Core.Path.{_≡_, refl, ap, sym, _∙_}
-use mathlib.Core.List.{List, _∷_, _++_}
+use mathlib.Core.List.{List, [], _∷_, _++_}
 use Prim.Native.Nat.{ℕ, _≤_}
 use native.Mathlib.Omega.{arith}
-use lib.ListN.{length}
+use lib.ListN.{length, getD}
 use lib.Dec.{eqb}
-use mathlib.Core.Bool.{false}
+use mathlib.Core.Bool.{true, false}
 use borrow.Author.Tests.{eqb-false}
-use Rattle.wire.specs.Words.{Words, Case, answer, refused, says}
+use Rattle.wire.specs.Words.{Case, answer, refused, says}
 use Rattle.wire.proofs.Words.{which-of}
 use Rattle.soupbintcp.specs.declared.packet.Sender.{Sender}
-use Rattle.soupbintcp.specs.Letters.{PacketKind}
+use Rattle.soupbintcp.specs.Letters.{PacketKind, letterFor}
+use Rattle.soupbintcp.specs.Head.{letterOf}
+use Rattle.soupbintcp.specs.Fields.{hasFields}
 use Rattle.soupbintcp.specs.Front.{packet, wants-more, frontOf, packetBytes, sessionOf, usernameOf, passwordOf, Stable, StableBytes}
 use Rattle.soupbintcp.proofs.StableLaws.{front-promises}
 use Rattle.soup_session.specs.Answer.{Reply, accepted, rejected, sequenced, unsequenced, heartbeat, debug, logged-out, end-of-session}
 use Rattle.soup_session.specs.Answer as reply
-use Rattle.soup_session.specs.Stream.{isSequenced}
 use Rattle.soup_session.specs.Statements.{TakesNothing, needs-more, is-refused}
+use Rattle.soup_session.proofs.KindLaws.{same-kind}
+use Rattle.soup_session.proofs.PacketLaws.{its-letter, one-number}
 
 pub apart : {n a b : ℕ} → n ≡ a → eqb a b ≡ false → n ≡ b → ⊥
 apart {n} {a} {b} e f g = eqb-false a b f (sym e ∙ g)
@@ -53,6 +56,14 @@ module _ (s : Sender) (l m : List ℕ) (k : ℕ) (vs : List ℕ) (i : InFront s 
   pub password-stays : passwordOf s (l ++ m) ≡ passwordOf s l
   unfolding passwordOf
   password-stays = rw bytes-stay refl
+
+-- a packet whose letter has a number field is its kind with that number
+pub numbered-in-front : (s : Sender) (l : List ℕ) (k : ℕ) (vs : List ℕ) (p : PacketKind) → InFront s l k vs → letterOf l ≡ letterFor p → hasFields (letterFor p) ≡ true
+    → frontOf s l ≡ says (packet p) (k ∷ getD vs 0 0 ∷ [])
+numbered-in-front s l k vs p i a h =
+    let d : i .kind ≡ p = same-kind (i .kind) p (sym (its-letter s l (i .kind) k vs (i .front)) ∙ a) in
+    let e : frontOf s l ≡ says (packet p) (k ∷ vs) = rw d at (i .front) in
+    e ∙ ap (λ (ws : List ℕ). says (packet p) (k ∷ ws)) (one-number s l p k vs e h)
 
 -- ---- the answers that take a packet and hand up nothing, but for a login accepted
 
@@ -117,11 +128,3 @@ module _ (w : Case Reply) (p : Plain w) where
   pub plain-not-unsequenced : w ≡ answer unsequenced → ⊥
   unfolding heap
   plain-not-unsequenced e = let a = plain-heap w p in let b = ap heap e in omega arith
-
-pub plain-quiet : (w : Case Reply) → Plain w → isSequenced w ≡ false
-unfolding isSequenced
-plain-quiet w a-rejection = refl
-plain-quiet w a-heartbeat = refl
-plain-quiet w a-debug = refl
-plain-quiet w a-logout = refl
-plain-quiet w an-end = refl

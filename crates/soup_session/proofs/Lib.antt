@@ -1,13 +1,7 @@
 pub mod AnswerLaws
-pub mod ClientLaws
-pub mod ServerLaws
+pub mod KindLaws
 pub mod PacketLaws
 pub mod FrontCases
 pub mod StepLaws
 pub mod RunLaws
-pub mod ClientCases
-pub mod ServerCases
-pub mod OrderLaws
-pub mod ExampleLaws
-pub mod StatementLaws
 pub mod Rules

@@ -16,13 +16,13 @@ use Rattle.text_fields.specs.Number.{Reading, value, bad}
 use Rattle.soupbintcp.specs.declared.packet.Sender.{Sender}
 use Rattle.soupbintcp.specs.declared.packet.Sender.the-variants.{Server, Client}
 use Rattle.soupbintcp.specs.declared.letters.Row.{Row}
-use Rattle.soupbintcp.specs.Letters.{PacketKind, debug, accepted, rejected, sequenced, server-heartbeat, end-of-session, login, unsequenced, client-heartbeat, logout, letterFor, row, rowOf, sends, plainOf}
+use Rattle.soupbintcp.specs.Letters.{PacketKind, debug, rejected, sequenced, server-heartbeat, end-of-session, unsequenced, client-heartbeat, logout, letterFor, row, rowOf, sends, plainOf}
 use Rattle.soupbintcp.specs.Head.{lengthOf, letterOf}
-use Rattle.soupbintcp.specs.Fields.{Fielding, good, bad-field, hasFields, sessionAt, sessionBytes, numberedOf, numberFields, withNumber, goodReason, reasonFields, fieldsAt, fieldsOf}
-use Rattle.soupbintcp.specs.Front.{packet, frontOf, packetBytes, sessionOf, loginPart, usernameOf, passwordOf}
+use Rattle.soupbintcp.specs.Fields.{Fielding, good, bad-field, hasFields, numberedOf, numberFields, withNumber, goodReason, reasonFields, fieldsAt, fieldsOf}
+use Rattle.soupbintcp.specs.Front.{packet, frontOf}
 use Rattle.soupbintcp.proofs.HeadLaws.{IsWhole, whole-so, length-stays, letter-stays}
 use Rattle.soupbintcp.proofs.FrontLaws.{said-whole-front, said-packet}
-use Rattle.soupbintcp.proofs.StableLaws.{fields-reach, login-reach, fields-stay, said-session, said-login}
+use Rattle.soupbintcp.proofs.StableLaws.{fields-stay}
 
 -- ---- its letter is the one of its kind
 
@@ -136,7 +136,7 @@ own-whole s l k o =
     }
 
 module _ (s : Sender) (l : List ℕ) (p : PacketKind) (k : ℕ) (vs : List ℕ) (e : frontOf s l ≡ says (packet p) (k ∷ vs)) where
-  whole : IsWhole s l k
+  pub whole : IsWhole s l k
   whole = said-packet s l p k vs e .head
 
   pub its-letter : letterOf l ≡ letterFor p
@@ -166,56 +166,10 @@ one-number s l p k vs e h =
     let o = one-value (letterOf l) _ _ _ (ap hasFields (its-letter s l p k vs e) ∙ h) p (i .kind) in
     rw (i .values) at o
 
--- ---- a login request
+-- ---- a field of the packet, read as a part of this length
 
-first-all : (k : ℕ) (l : List ℕ) → length l ≡ k → firstBytes k l ≡ l
+pub first-all : (k : ℕ) (l : List ℕ) → length l ≡ k → firstBytes k l ≡ l
 first-all k l e = first-there k l (omega arith) ∙ take-all k l (omega arith)
 
-part-length : (l : List ℕ) (at n : ℕ) → at + n ≤ length l → length (take n (drop at l)) ≡ n
+pub part-length : (l : List ℕ) (at n : ℕ) → at + n ≤ length l → length (take n (drop at l)) ≡ n
 part-length l at n h = let d = length-drop at l in length-take-le n (drop at l) (omega arith)
-
-module _ (l : List ℕ) (k : ℕ) (vs : List ℕ) (e : frontOf Client l ≡ says (packet login) (k ∷ vs)) where
-  login-letter : letterOf l ≡ 76
-  unfolding letterFor
-  login-letter = its-letter Client l login k vs e
-
-  login-there : 49 ≤ length l
-  login-there =
-      let o = whole Client l login k vs e in
-      let a = o .within in
-      let b = login-reach o login-letter in
-      omega arith
-
-  pub username-first : firstBytes 6 (usernameOf Client l) ≡ usernameOf Client l
-  unfolding usernameOf
-  username-first =
-      let h = login-there in
-      first-all 6 (loginPart (packetBytes Client l) 3 6) (rw (said-login Client l login k vs e 3 6 login-letter (omega arith)) (part-length l 3 6 (omega arith)))
-
-  pub password-first : firstBytes 10 (passwordOf Client l) ≡ passwordOf Client l
-  unfolding passwordOf
-  password-first =
-      let h = login-there in
-      first-all 10 (loginPart (packetBytes Client l) 9 10) (rw (said-login Client l login k vs e 9 10 login-letter (omega arith)) (part-length l 9 10 (omega arith)))
-
--- ---- a login accepted
-
-module _ (l : List ℕ) (k : ℕ) (vs : List ℕ) (e : frontOf Server l ≡ says (packet accepted) (k ∷ vs)) where
-  accepted-letter : letterOf l ≡ 65
-  unfolding letterFor
-  accepted-letter = its-letter Server l accepted k vs e
-
-  accepted-there : 33 ≤ length l
-  unfolding hasFields sessionAt
-  accepted-there =
-      let o = whole Server l accepted k vs e in
-      let a = o .within in
-      let b = rw accepted-letter at (fields-reach o (rw accepted-letter refl)) in
-      omega arith
-
-  pub session-first : firstBytes 10 (sessionOf Server l) ≡ sessionOf Server l
-  unfolding sessionBytes hasFields sessionAt
-  session-first =
-      let h = accepted-there in
-      let f : sessionOf Server l ≡ take 10 (drop 3 l) = said-session Server l accepted k vs e ∙ rw accepted-letter refl in
-      first-all 10 (sessionOf Server l) (rw f (part-length l 3 10 (omega arith)))

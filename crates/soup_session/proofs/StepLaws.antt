@@ -9,7 +9,7 @@ use Rattle.wire.specs.Words.{Words, answer, refused, says, refuses}
 use Rattle.soupbintcp.specs.declared.packet.Sender.{Sender}
 use Rattle.soupbintcp.specs.Front.{packetBytes, payloadOf}
 use Rattle.soupbintcp.proofs.StableLaws.{said-bytes, said-payload}
-use Rattle.soup_session.specs.Answer.{Reply, wants-more, messageOf, Outcome, stays, takes}
+use Rattle.soup_session.specs.Answer.{Reply, wants-more, accepted, messageOf, Outcome, stays, takes}
 use Rattle.soup_session.specs.Stream.{Stepping}
 use Rattle.soup_session.specs.Statements.{ChangesNothing, TakesNothing, needs-more, is-refused, TakesPackets, HandsUpPayload}
 use Rattle.soup_session.proofs.FrontCases.{InFront}
@@ -22,6 +22,11 @@ pub data Rests : Words Reply → Type 0 where
 rests-nothing : (w : Words Reply) → Rests w → TakesNothing (w .which)
 rests-nothing w waits = needs-more
 rests-nothing w (refusing r) = is-refused
+
+-- and it accepts no login
+pub never-rests : (w : Words Reply) → Rests w → w .which ≡ answer accepted → ⊥
+never-rests w waits e = let z : _≡_ {A = ℕ} 0 1 = cc in omega arith
+never-rests w (refusing r) e = let z : _≡_ {A = ℕ} 0 1 = cc in omega arith
 
 -- a step rests, or it takes the packet in front and hands up no more than its payload
 pub data Does {S : Type 0} (s : S) (l : List ℕ) (from : Sender) (kind : Reply) (o : Outcome S) : Type 0 where

@@ -1,5 +1,2 @@
-// The SoupBinTCP session, at the server and at the client: each reads the front of a stream, answers, and goes on by its table. A
-// session goes in by value and comes back by value.
+// What the two ends of a SoupBinTCP session share: their answers, and the promises of a session over a whole stream.
 pub mod answer;
-pub mod client;
-pub mod server;

@@ -1,8 +1,8 @@
 // A server told by the fields of a vector, and one printed.
 use crate::answers;
-use soup_session::server::Server;
-use soup_session::server::ServerState;
-use soup_session::server::Stepped;
+use soup_server::server::Server;
+use soup_server::server::ServerState;
+use soup_server::server::Stepped;
 use vector_lines::parse;
 use vector_lines::print;
 use wire::kinds::SequenceNumber;

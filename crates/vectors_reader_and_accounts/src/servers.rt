@@ -1,6 +1,6 @@
 // A server's step over a table by value, and over the same table as bytes.
 use crate::records;
-use soup_session::server::Server;
+use soup_server::server::Server;
 use vector_lines::parse;
 use vector_lines::print;
 use vector_sessions::servers;

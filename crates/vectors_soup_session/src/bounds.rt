@@ -1,8 +1,8 @@
 // The public constants.
 use login::account::MOST_ACCOUNTS;
 use login::table::RECORD_SIZE;
-use soup_session::client::Client;
-use soup_session::server::Server;
+use soup_client::client::Client;
+use soup_server::server::Server;
 use vector_lines::print;
 
 pub(crate) fn tell() {

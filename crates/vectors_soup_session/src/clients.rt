@@ -1,9 +1,9 @@
 // The session at the client: starts, single steps from any state, and runs.
 use crate::runs;
 use crate::runs::Place;
-use soup_session::client::Client;
-use soup_session::client::ClientState;
-use soup_session::client::Stepped;
+use soup_client::client::Client;
+use soup_client::client::ClientState;
+use soup_client::client::Stepped;
 use vector_lines::parse;
 use vector_lines::print;
 use vector_sessions::answers;

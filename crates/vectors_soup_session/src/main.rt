@@ -1,7 +1,8 @@
-// Runs recorded vectors through every public function of `parts`, `login` and `soup_session`, and prints every answer.
-// `vector_lines` tells the form of a vector. States, verdicts and kinds are words, told apart by their first letter. An
-// account is 16 bytes, the username first. A table is the bytes of `table`, with the first record as many times as `copies`
-// says. A run takes its stream in pieces of one size, and each of its steps stands between brackets.
+// Runs recorded vectors through every public function of `parts`, `login`, `soup_session`, `soup_server` and
+// `soup_client`, and prints every answer. `vector_lines` tells the form of a vector. States, verdicts and kinds are
+// words, told apart by their first letter. An account is 16 bytes, the username first. A table is the bytes of `table`,
+// with the first record as many times as `copies` says. A run takes its stream in pieces of one size, and each of its
+// steps stands between brackets.
 mod answers;
 mod bounds;
 mod clients;

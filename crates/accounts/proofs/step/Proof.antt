@@ -32,20 +32,20 @@ use Rattle.login.specs.Account.{verdictWords, lookupOf}
 use Rattle.login.proofs.account.Account as R
 use Rattle.login.proofs.account.Account.Laws as R′
 use Rattle.login.proofs.account.Verdict.Laws as Said′
-use Rattle.soup_session.specs.declared.server.Server.{Server}
-use Rattle.soup_session.specs.Server.{entryOf, Steps, stepWith}
-use Rattle.soup_session.specs.Statements.{EntryIsItsFields}
-use Rattle.soup_session.proofs.ServerLaws.{server-step}
-use Rattle.soup_session.proofs.server.Server as Peer
-use Rattle.soup_session.proofs.server.Server.Laws as Peer′
-use Rattle.soup_session.proofs.server.Stepped as Next
-use Rattle.soup_session.proofs.server.Stepped.Laws as Next′
-use Rattle.soup_session.proofs.server.entry as entry
-use Rattle.soup_session.proofs.server.entry.Symbol as entry-def
-use Rattle.soup_session.proofs.server.entry.Met as entry-thm
-use Rattle.soup_session.proofs.server.Server.step_with as step-with
-use Rattle.soup_session.proofs.server.Server.step_with.Symbol as step-with-def
-use Rattle.soup_session.proofs.server.Server.step_with.Met as step-with-thm
+use Rattle.soup_server.specs.declared.server.Server.{Server}
+use Rattle.soup_server.specs.Server.{entryOf, Steps, stepWith}
+use Rattle.soup_server.specs.Statements.{EntryIsItsFields}
+use Rattle.soup_server.proofs.ServerLaws.{server-step}
+use Rattle.soup_server.proofs.server.Server as Peer
+use Rattle.soup_server.proofs.server.Server.Laws as Peer′
+use Rattle.soup_server.proofs.server.Stepped as Next
+use Rattle.soup_server.proofs.server.Stepped.Laws as Next′
+use Rattle.soup_server.proofs.server.entry as entry
+use Rattle.soup_server.proofs.server.entry.Symbol as entry-def
+use Rattle.soup_server.proofs.server.entry.Met as entry-thm
+use Rattle.soup_server.proofs.server.Server.step_with as step-with
+use Rattle.soup_server.proofs.server.Server.step_with.Symbol as step-with-def
+use Rattle.soup_server.proofs.server.Server.step_with.Met as step-with-thm
 use Rattle.accounts.specs.Accounts.{FlatIsTheSame}
 use Rattle.accounts.proofs.Rows.{records, account-makes, verdict-makes, account-typed, verdict-typed}
 use Rattle.accounts.proofs.Walk.{span, pairs, room, cell, reads, lays, freed, beside, ahead, lent, Outside, asks, Ends, ends, stands}
@@ -139,7 +139,7 @@ step-spec 𝓤 H 𝓜 𝓖 𝓡 =
     stands 𝓤 H 𝓜 𝓖 𝓡 step.ended (step.clauses 𝓤 H (𝓖 .A) (𝓜 .mem) (𝓡 .run)) code.env key.name code.function (code.unfolded 𝓤 H 𝓜 𝓡) ((λ κs x f. refl), ((λ κs x f. refl), ((λ κs x f. refl), tt)))
     (λ κs. (LL.vals Peer.the-type Peer′.the-laws, (slice-vals, (slice-vals, tt)))) (λ κs. (LL.tells Peer.the-type Peer′.the-laws, (shr-slice-tells (named 0) (κs .0) R.the-row, (shr-slice-tells (named 1) (κs .1 .0) u8, tt))))
     (λ κs qs bounds a g are. walk 𝓤 H (𝓖 .A) (givenOf 𝓤 H 𝓜 𝓖) (𝓜 .mem) (𝓡 .run) (κs .0) (κs .1 .0) (qs .0) (qs .1 .0) (a .0) (a .1 .0) (a .1 .1 .0) (tablesOf 𝓤 H 𝓜 (tables 𝓤 H 𝓜 𝓡 code.env))
-    (cited 𝓤 H _ 𝓜 𝓡 code.env entry-def.name entry-def.routine code.calls-soup-session·server·entry (entry-thm.met 𝓤 H 𝓜 𝓖 𝓡))
+    (cited 𝓤 H _ 𝓜 𝓡 code.env entry-def.name entry-def.routine code.calls-soup-server·server·entry (entry-thm.met 𝓤 H 𝓜 𝓖 𝓡))
     (cited 𝓤 H _ 𝓜 𝓡 code.env lookup-def.name lookup-def.routine code.calls-accounts·lookup (lookup-thm.met 𝓤 H 𝓜 𝓖 𝓡))
-    (cited 𝓤 H _ 𝓜 𝓡 code.env step-with-def.name step-with-def.routine code.calls-soup-session·server·Server·step-with (step-with-thm.met 𝓤 H 𝓜 𝓖 𝓡))
+    (cited 𝓤 H _ 𝓜 𝓡 code.env step-with-def.name step-with-def.routine code.calls-soup-server·server·Server·step-with (step-with-thm.met 𝓤 H 𝓜 𝓖 𝓡))
     (are .0) (are .1 .0 .0 .1) (are .1 .1 .0 .0 .1))

@@ -1,0 +1,4 @@
+pub mod Client
+pub mod HandedUp
+pub mod Examples
+pub mod Statements

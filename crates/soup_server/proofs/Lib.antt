@@ -1,0 +1,6 @@
+pub mod ServerLaws
+pub mod LoginLaws
+pub mod ServerCases
+pub mod ExampleLaws
+pub mod StatementLaws
+pub mod Rules

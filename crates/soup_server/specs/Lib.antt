@@ -1,0 +1,3 @@
+pub mod Server
+pub mod Examples
+pub mod Statements

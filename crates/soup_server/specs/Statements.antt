@@ -1,0 +1,77 @@
+-- What is promised of the session at the server.
+use Prim.Native.Nat.{ℕ, _<_}
+use mathlib.Core.List.{List, [], _∷_}
+use mathlib.Core.Path.{_≡_}
+use lib.ListN.{length}
+use Rattle.wire.specs.Refusals.{badSetting}
+use Rattle.wire.specs.Words.{answer, says, refuses}
+use Rattle.soupbintcp.specs.declared.packet.Sender.the-variants.{Client}
+use Rattle.soupbintcp.specs.Letters.{login}
+use Rattle.soupbintcp.specs.Fields.{notAuthorized, sessionNotAvailable}
+use Rattle.soupbintcp.specs.Front.{packet, frontOf, sessionOf, usernameOf, passwordOf}
+use Rattle.login.specs.declared.account.Account.{Account}
+use Rattle.login.specs.Account.{mostAccounts}
+use Rattle.login.specs.Decision.{granted, Attempt}
+use Rattle.login.specs.Statements.{AccountRule, NotRefused, Rules}
+use Rattle.soup_session.specs.Answer.{accepted, rejected, unsequenced, stays, takes}
+use Rattle.soup_session.specs.Statements.{ChangesNothing, TakesPackets, HandsUpPayload, AnyCutting, RunsOn}
+use Rattle.soup_server.specs.declared.server.ServerState.the-variants.{Waiting, In, Closed}
+use Rattle.soup_server.specs.declared.server.Server.{Server}
+use Rattle.soup_server.specs.Server.{becomes, entryOf, serverStep}
+use Rattle.soup_server.specs.Examples.{ServerExample}
+
+-- a login request in front
+abbrev pub LoginInFront : List ℕ → ℕ → ℕ → Type 0
+LoginInFront l size n = frontOf Client l ≡ says (packet login) (size ∷ n ∷ [])
+
+-- its entry: its username and its password
+abbrev pub entryFields : List ℕ → Account
+entryFields l = record { username = usernameOf Client l; password = passwordOf Client l }
+
+unfoldable pub EntryIsItsFields : Type 0
+EntryIsItsFields = (l : List ℕ) (size n : ℕ) → LoginInFront l size n → entryOf l ≡ entryFields l
+
+-- what it attempts
+abbrev pub attemptOf : List Account → Server → List ℕ → ℕ → Attempt
+attemptOf t s l n =
+    record { table = t; entry = entryFields l; asked = sessionOf Client l; wanted = n; session = s .session; last = s .last .0 }
+
+-- a login request that a waiting server accepts
+pub record Accepts (t : List Account) (s : Server) (l : List ℕ) : Type 0 where
+  pub waiting : s .state ≡ Waiting
+  pub size : ℕ
+  pub number : ℕ
+  pub front : LoginInFront l size number
+  pub rules : Rules (attemptOf t s l number)
+
+-- a login that isn't refused is accepted exactly when the account, session and number rules hold; J with A where the account rule
+-- doesn't, and J with S where it does and another doesn't
+pub record LoginExactlyWhen : Type 0 where
+  pub when : (t : List Account) (s : Server) (l : List ℕ) (size n : ℕ) → s .state ≡ Waiting → LoginInFront l size n
+      → NotRefused (attemptOf t s l n) → Rules (attemptOf t s l n)
+      → serverStep t s l ≡ takes size (says accepted (granted n (s .last .0) ∷ [])) (becomes s In)
+  pub only-when : (t : List Account) (s : Server) (l : List ℕ) → serverStep t s l .reply .which ≡ answer accepted → Accepts t s l
+  pub else-A : (t : List Account) (s : Server) (l : List ℕ) (size n : ℕ) → s .state ≡ Waiting → LoginInFront l size n
+      → NotRefused (attemptOf t s l n) → (AccountRule (attemptOf t s l n) → ⊥)
+      → serverStep t s l ≡ takes size (says rejected (notAuthorized ∷ [])) (becomes s Closed)
+  pub else-S : (t : List Account) (s : Server) (l : List ℕ) (size n : ℕ) → s .state ≡ Waiting → LoginInFront l size n
+      → NotRefused (attemptOf t s l n) → AccountRule (attemptOf t s l n) → (Rules (attemptOf t s l n) → ⊥)
+      → serverStep t s l ≡ takes size (says rejected (sessionNotAvailable ∷ [])) (becomes s Closed)
+  -- 19 comes first, in every state and on every stream
+  pub too-many : (t : List Account) (s : Server) (l : List ℕ) → mostAccounts < length t → serverStep t s l ≡ stays s (refuses badSetting)
+
+-- no step changes the session's name or the last number, so that a login accepted can be written with the server that is handed back
+pub record Keeps (s x : Server) : Type 0 where
+  pub session : x .session ≡ s .session
+  pub last : x .last ≡ s .last
+
+-- what a step promises beside its answer, with every table
+pub record ServerPromises : Type 0 where
+  pub login-exactly-when : LoginExactlyWhen
+  pub example : ServerExample
+  pub changes-nothing : (t : List Account) → ChangesNothing Server (serverStep t)
+  pub takes-packets : (t : List Account) → TakesPackets Server (serverStep t) Client
+  pub keeps : (t : List Account) (s : Server) (l : List ℕ) → Keeps s (serverStep t s l .after)
+  pub hands-up-payload : (t : List Account) → HandsUpPayload Server (serverStep t) Client unsequenced
+  pub runs-on : (t : List Account) (s : Server) (l : List ℕ) → RunsOn Server (serverStep t) s l
+  pub any-cutting : (t : List Account) → AnyCutting Server (serverStep t)
