@@ -8,7 +8,7 @@ use lib.Dec.{ltb}
 use Rattle.wire.specs.Choice.{if_then_else_}
 use Rattle.wire.specs.Words.{Words, Case, answer, refused, says}
 use Rattle.wire.specs.Bytes.{AreBytes}
-use Rattle.moldudp64.specs.Downstream.{messagesOf}
+use Rattle.moldudp64.specs.Downstream.{messagesOf, messageNumber}
 use Rattle.moldudp64_messages.specs.declared.cursor.Cursor.{Cursor}
 use Rattle.moldudp64_messages.specs.Cursor.{firstOf, movedBy, located, part}
 use Rattle.receiver.specs.declared.receiver.Receiver.{Receiver}
@@ -44,7 +44,13 @@ pub record Visits (l : List ℕ) (ms : List (List ℕ)) (c : Cursor) (count : �
   pub stops : (i : ℕ) → count ≤ i → located l (movedBy i l c) .exists ≡ false
   pub each : (i : ℕ) → part l (located l (movedBy i l c)) ≡ getD ms i []
 
--- the cursor visits what a deliver answer delivers
+-- a deliver answer of a datagram, whose values are these: its first number is that of the message after the skipped ones, and
+-- the cursor visits what it delivers
+pub record Delivers (l : List ℕ) (ms : List (List ℕ)) (first count skipped : ℕ) : Type 0 where
+  pub its-number : first ≡ messageNumber l skipped
+  pub visits : Visits l ms (deliveryOf l count skipped) count
+
+-- every deliver answer of a receiver is so
 unfoldable pub DeliveryVisits : Type 0
 DeliveryVisits = (r : Receiver) (l : List ℕ) (first count skipped : ℕ) → AreBytes l → answerOf r l ≡ says deliver (first ∷ count ∷ skipped ∷ [])
-    → Visits l (deliveredBy (answerOf r l) l) (deliveryOf l count skipped) count
+    → Delivers l (deliveredBy (answerOf r l) l) first count skipped
