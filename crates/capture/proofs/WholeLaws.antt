@@ -7,6 +7,7 @@ use native.Mathlib.Omega.{arith}
 use lib.ListN.{length, drop}
 use borrow.Author.Tests.{lt-ltb, le-ltb, eq-eqb, ne-eqb}
 use Rattle.wire.specs.Choice.{if_then_else_}
+use Rattle.wire.specs.Bytes.{joined}
 use Rattle.wire.specs.Output.{Writes}
 use Rattle.wire.specs.declared.output.Written.{Written}
 use Rattle.wire.proofs.Cases.{below-or-not, zero-or-not}
@@ -29,7 +30,7 @@ use Rattle.capture_text.proofs.TextLaws.{report-fits, refused-fits}
 use Rattle.capture.specs.declared.reading.Stage.the-variants.{Settings, Done}
 use Rattle.capture.specs.declared.reading.Reading.{Reading}
 use Rattle.capture.specs.Reading.{reading, startReading, startedOf, endOf, finishOf, textAt, textOf}
-use Rattle.capture.specs.Whole.{recordsReport, captureOf, captureText, joined, AnyCutting, StartTakesSettings, FitsTheRoom, CapturePromises}
+use Rattle.capture.specs.Whole.{recordsReport, captureOf, captureText, AnyCutting, StartTakesSettings, FitsTheRoom, CapturePromises}
 use Rattle.capture.proofs.TakeLaws.{few}
 use Rattle.capture.proofs.PieceLaws.{end-opened, end-refused, all-pieces, keeps-little, over-stays}
 

@@ -6,7 +6,7 @@ use mathlib.Core.Path.{_≡_}
 use lib.ListN.{length, drop}
 use lib.Dec.{eqb}
 use Rattle.wire.specs.Choice.{if_then_else_}
-use Rattle.wire.specs.Bytes.{AreBytes}
+use Rattle.wire.specs.Bytes.{joined, AreBytes}
 use Rattle.receiver.specs.declared.receiver.Receiver.{Receiver}
 use Rattle.receiver.specs.Receiver.{startRefusal, refusedReceiver}
 use Rattle.capture_settings.specs.Settings.{readOf}
@@ -36,10 +36,6 @@ unfoldable pub captureText : List ℕ → List ℕ
 captureText l = textOf (captureOf l)
 
 -- ---- pieces
-
-unfoldable pub joined : List (List ℕ) → List ℕ
-joined [] = []
-joined (p ∷ ps) = p ++ joined ps
 
 -- what a program does with pieces ps, where it kept the bytes l: each piece is fed behind what was kept, and what isn't used is
 -- kept; what is left at the end is finished

@@ -2,7 +2,7 @@
 use mathlib.Core.Path.{_≡_, refl, ap, sym, _∙_}
 use mathlib.Core.List.{List, [], _∷_, _++_, append-assoc, append-nil}
 use mathlib.Core.Bool.{Bool, true, false}
-use Prim.Native.Nat.{ℕ, zero, suc, _+_, _-_, _^_, _≤_, _<_}
+use Prim.Native.Nat.{ℕ, zero, suc, _+_, _^_, _≤_, _<_}
 use native.Mathlib.Omega.{arith}
 use lib.ListN.{length, getD, take, drop, length-append, length-take, length-drop, take-append-drop}
 use lib.Seq.{take-all, take-at, drop-at, take-add}
@@ -10,14 +10,15 @@ use lib.Dec.{eqb}
 use borrow.Author.Tests.{le-leb, eq-eqb, eqb-true}
 use Rattle.wire.specs.Choice.{if_then_else_}
 use Rattle.wire.specs.Words.{says}
-use Rattle.wire.specs.Bytes.{number, bytes, AreBytes}
+use Rattle.wire.specs.Bytes.{number, bytes, joined, AreBytes}
 use Rattle.wire.specs.Output.{writeRefusal, writeAnswer}
 use Rattle.wire.proofs.Numbers.{length-bytes, number-bytes, bytes-number, small-number}
 use Rattle.wire.proofs.Outputs.{wrote-so, wrote-front}
 use Rattle.moldudp64.specs.Header.{numberOf, countOf, header}
 use Rattle.moldudp64.specs.Blocks.{lengthOf, sizeOf, afterBlock, allFit, afterBlocks, messages, blocksRefusal, blocksOf, fits}
 use Rattle.moldudp64.specs.Downstream.{Kind, data-packet, heartbeat, end-of-session, kindOfCount, kindOf, blockCount, valuesOf, refusalOf, readOf, sessionOf, messagesOf}
-use Rattle.moldudp64_writer.specs.Writer.{packet, packetOf, cut, lengthsOf, joined, packetGround, endPacket, endGround}
+use Rattle.moldudp64.specs.Written.{packet, endPacket}
+use Rattle.moldudp64_writer.specs.Writer.{packetOf, cut, lengthsOf, packetGround, endGround}
 use Rattle.moldudp64.specs.Request.{requestGround, requestRefusal, requestOf, requestSession}
 use Rattle.moldudp64_writer.specs.RoundTrips.{ReadsAs, WritesTo, kindOfMessages, valuesOfMessages, AsksFor, PacketReadsBack, PacketWritesBack, EndReadsBack, EndWritesBack, RequestReadsBack, RequestWritesBack, PacketFits, RequestFits, PacketRoundTrip, EndRoundTrip, RequestRoundTrip}
 use Rattle.moldudp64_writer.proofs.HeaderLaws.{length-header, header-session, header-number, header-count, header-rest, header-again, drop-bytes}

@@ -6,11 +6,12 @@ use mathlib.Core.Path.{_≡_}
 use lib.ListN.{length, getD, take}
 use Rattle.wire.specs.Bounds.{sessionSize}
 use Rattle.wire.specs.Words.{says}
-use Rattle.wire.specs.Bytes.{AreBytes}
+use Rattle.wire.specs.Bytes.{joined, AreBytes}
 use Rattle.wire.specs.Output.{wrote, put, writeAnswer, writeOutput}
 use Rattle.moldudp64.specs.Header.{numberOf, countOf, header}
 use Rattle.moldudp64.specs.Downstream.{Kind, data-packet, heartbeat, end-of-session, kindOf, refusalOf, readOf, sessionOf, messagesOf}
-use Rattle.moldudp64_writer.specs.Writer.{packetOf, cut, lengthsOf, joined, packetGround, endPacket, endGround}
+use Rattle.moldudp64.specs.Written.{endPacket}
+use Rattle.moldudp64_writer.specs.Writer.{packetOf, cut, lengthsOf, packetGround, endGround}
 use Rattle.moldudp64.specs.Request.{wanted, requestGround, requestRefusal, requestOf, requestSession}
 
 -- the bytes p read as a datagram of this session, kind, values and messages
