@@ -1,5 +1,5 @@
 -- A whole capture: what it means, and that the pieces it comes in don't matter.
-use Prim.Native.Nat.{ℕ, _≤_, _<_}
+use Prim.Native.Nat.{ℕ, _+_, _-_, _≤_, _<_}
 use mathlib.Core.List.{List, [], _∷_, _++_}
 use mathlib.Core.Bool.{true}
 use mathlib.Core.Path.{_≡_}
@@ -10,7 +10,7 @@ use Rattle.wire.specs.Bytes.{joined, AreBytes}
 use Rattle.receiver.specs.declared.receiver.Receiver.{Receiver}
 use Rattle.receiver.specs.Receiver.{startRefusal, refusedReceiver}
 use Rattle.capture_settings.specs.Settings.{readOf}
-use Rattle.capture_records.specs.Records.{mostRecords, recordsOf, isCut}
+use Rattle.capture_records.specs.Records.{lengthSize, mostRecords, recordsOf, isCut, largestLength}
 use Rattle.capture_tally.specs.declared.report.Report.{Report}
 use Rattle.capture_tally.specs.Report.{freshOf}
 use Rattle.capture_tally.specs.Sums.{summed, summedCut}
@@ -54,7 +54,7 @@ StartTakesSettings = (l : List ℕ) → readOf l .refusal .number ≡ 0
 
 -- the most bytes that are kept between two pieces: all but the last byte of the longest record
 abbrev pub mostKept : ℕ
-mostKept = 65536
+mostKept = largestLength + lengthSize - 1
 
 -- feeding uses what is there: while more records may be read, it leaves less than a record, so the memory needed is constant
 pub record KeepsLittle (s : Reading) (l : List ℕ) : Type 0 where

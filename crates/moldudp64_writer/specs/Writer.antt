@@ -1,12 +1,12 @@
 -- What the writers of downstream packets are given, and what they refuse.
-use Prim.Native.Nat.{ℕ, _+_, _*_}
+use Prim.Native.Nat.{ℕ, _+_, _*_, _-_}
 use mathlib.Core.List.{List, [], _∷_}
 use mathlib.Core.Bool.{Bool, not}
 use lib.ListN.{length, take, drop}
 use lib.Dec.{ltb, eqb}
 use Rattle.wire.specs.Choice.{if_then_else_}
 use Rattle.wire.specs.Refusals.{datagramLong, numberZero, numbersRunOut, tooManyMessages, lengthsDiffer}
-use Rattle.moldudp64.specs.Header.{headerSize, largestDatagram}
+use Rattle.moldudp64.specs.Header.{headerSize, largestDatagram, endCount}
 use Rattle.moldudp64.specs.Blocks.{lengthSize}
 use Rattle.moldudp64.specs.Downstream.{runOut}
 use Rattle.moldudp64.specs.Written.{packet}
@@ -32,9 +32,9 @@ unfoldable pub lengthsOf : List (List ℕ) → List ℕ
 lengthsOf [] = []
 lengthsOf (m ∷ ms) = length m ∷ lengthsOf ms
 
--- the most messages of one datagram
+-- the most messages of one datagram: one count is an end of session's
 abbrev pub mostMessages : ℕ
-mostMessages = 65534
+mostMessages = endCount - 1
 
 -- a header, and for each message its length field and its data
 abbrev pub packetSize : List ℕ → List ℕ → ℕ

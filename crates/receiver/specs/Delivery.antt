@@ -6,6 +6,7 @@ use mathlib.Core.Path.{_≡_}
 use lib.ListN.{length, getD, drop}
 use lib.Dec.{ltb}
 use Rattle.wire.specs.Choice.{if_then_else_}
+use Rattle.wire.specs.Bounds.{largestCount}
 use Rattle.wire.specs.Words.{Words, Case, answer, refused, says}
 use Rattle.wire.specs.Bytes.{AreBytes}
 use Rattle.moldudp64.specs.Downstream.{messagesOf, messageNumber}
@@ -27,10 +28,6 @@ deliveredIn refused values l = []
 -- what an answer in document 01's words delivers of a datagram
 abbrev pub deliveredBy : Words Reply → List ℕ → List (List ℕ)
 deliveredBy w l = deliveredIn (w .which) (w .values) l
-
--- the largest count of 16 bits
-abbrev pub largestCount : ℕ
-largestCount = 65535
 
 -- the cursor at the first message that is not skipped, of a datagram with count + skipped messages; the two may be forged, and
 -- where they make no 16-bit count none is left
