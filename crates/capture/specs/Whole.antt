@@ -6,6 +6,7 @@ use mathlib.Core.Path.{_≡_}
 use lib.ListN.{length, drop}
 use lib.Dec.{eqb}
 use Rattle.wire.specs.Choice.{if_then_else_}
+use Rattle.wire.specs.Bounds.{sessionSize}
 use Rattle.wire.specs.Bytes.{joined, AreBytes}
 use Rattle.receiver.specs.declared.receiver.Receiver.{Receiver}
 use Rattle.receiver.specs.Receiver.{startRefusal, refusedReceiver}
@@ -56,7 +57,9 @@ StartTakesSettings = (l : List ℕ) → readOf l .refusal .number ≡ 0
 abbrev pub mostKept : ℕ
 mostKept = largestLength + lengthSize - 1
 
--- feeding uses what is there: while more records may be read, it leaves less than a record, so the memory needed is constant
+-- feeding uses what is there: while more records may be read, it leaves less than a record, so the memory needed is constant. Once
+-- 2^32 - 1 records were read no byte is used any more: a caller that keeps what isn't used keeps all that follows, and has to stop
+-- reading there, as a program does whose buffer is full
 pub record KeepsLittle (s : Reading) (l : List ℕ) : Type 0 where
   pub used-within : feedOf s l .used ≤ length l
   pub little : AreBytes l → feedOf s l .reading .report .records < mostRecords → length (drop (feedOf s l .used) l) ≤ mostKept
@@ -65,9 +68,10 @@ pub record KeepsLittle (s : Reading) (l : List ℕ) : Type 0 where
 unfoldable pub OverStays : Type 0
 OverStays = (s : Reading) (l : List ℕ) → isOver (s .stage) ≡ true → (feedOf s l ≡ fed s (length l)) × (finishOf s l ≡ s)
 
--- every report fits
-unfoldable pub FitsTheRoom : Type 0
-FitsTheRoom = (l : List ℕ) → length (captureText l) ≤ room
+-- every report fits: what any reading prints whose receiver's name has ten bytes, as its type holds, and what any capture prints
+pub record FitsTheRoom : Type 0 where
+  pub any-reading : (s : Reading) → length (s .report .receiver .session) ≡ sessionSize → length (textOf s) ≤ room
+  pub any-capture : (l : List ℕ) → length (captureText l) ≤ room
 
 pub record CapturePromises : Type 0 where
   pub any-cutting : AnyCutting

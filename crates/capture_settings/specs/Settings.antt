@@ -73,7 +73,7 @@ lineOf l = lineFrom 0 l
 abbrev pub settings : List ℕ → ℕ → ℕ → Settings
 settings name n limit = record { session = name; next = record { 0 = n }; limit = record { 0 = limit } }
 
--- document 01's bad settings: 19, a blank name, and every number 0
+-- our answer to document 01's bad settings: 19 as for a receiver's start, a blank name, and every number 0
 abbrev pub refusedOpened : Opened
 refusedOpened = record { refusal = record { number = badSetting }; settings = settings blank 0 0; size = 0 }
 

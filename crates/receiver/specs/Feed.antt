@@ -50,8 +50,8 @@ All {E} Kind es = (e : E) → List·Memᴰ e es → Kind e
 abbrev pub AllOfKind : Session → List Datagram → Type 0
 AllOfKind s ds = All (OfKind s) ds
 
--- a receiver, whatever it keeps, that takes inputs of a type E one by one (E is Datagram, or a datagram with what is lent beside
--- it): what it is after one, what that one delivers, the receiver's number, whether it is ended
+-- a receiver, whatever it keeps, that takes inputs of a type E one by one: what it is after one, what that one delivers, the
+-- receiver's number, whether it is ended. Condition 3 is stated below for a receiver of datagrams alone, E = Datagram
 pub record Machine (E : Type 0) : Type 1 where
   pub State : Type 0
   pub step : State → E → State

@@ -91,7 +91,9 @@ asksAlways r d = says ask (r .next .0 ∷ r .limit .0 ∷ [])
 
 -- ---- receivers that do too much or too little
 
--- delivers everything at the first datagram: its number is then past all three messages, and from there it goes by the table
+-- answers at the first datagram that it delivers all three messages, as a receiver that gives everything at once would; its number is
+-- then past them, and from there it goes by the table (what an answer delivers is the datagram's own messages, so this one claims
+-- more than it gives)
 abbrev pub allAtOnce : Answers
 allAtOnce r d = if eqb (r .next .0) 1 then says deliver (1 ∷ 3 ∷ 0 ∷ []) else answerOf r d
 
@@ -128,7 +130,7 @@ jumps r d = if ahead r d then moved r (delivers (numberOf d) (numberOf d) (count
 abbrev pub FollowsAtFirst : Answers → Steps → Type 0
 FollowsAtFirst answers step = Follows answers step fresh (dataAt 1 (a ∷ []))
 
--- the idle receivers meet condition 3 and break the table's row at the first message; the one that delivers everything there breaks
+-- the idle receivers meet condition 3 and break the table's row at the first message; the one that claims everything there breaks
 -- that row; the one that delivers and never moves its number, the one that calls an overlap old and the one that jumps break
 -- condition 3
 pub record NotWeak : Type 0 where
