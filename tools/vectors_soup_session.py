@@ -125,7 +125,7 @@ def with_verdict(verdict):
 
 
 FUNCTIONS = {
-    "parts::byte": lambda data, at: show_bytes(data[at : at + 1] or bytes(1)),
+    "bounds": lambda: f"accounts=1024 record=16 last=0 to {2**64 - 2} number=0 to {2**64 - 1}",
     "parts::part": lambda data, at, size: show_bytes(data[at : at + size]),
     "parts::six": lambda data: first_bytes(6, data),
     "parts::ten": lambda data: first_bytes(10, data),
@@ -151,7 +151,6 @@ FUNCTIONS = {
     "client run": lambda session, number, data, pieces: show_run(
         client_step, lambda: client_start(session, number), REFUSED_CLIENT, data, pieces
     ),
-    "bounds": lambda: f"accounts=1024 record=16 last=0 to {2**64 - 2} number=0 to {2**64 - 1}",
 }
 
 V = Vectors(FUNCTIONS)
@@ -170,10 +169,6 @@ def numbers(*given):
 
 def slices():
     data = b"\x11\x22\x33\x44\x55"
-    section("the byte at a place, 0 past the end")
-    for at in (0, 1, 4, 5, 6, TOP):
-        ask("parts::byte", data, at)
-    ask("parts::byte", b"", 0)
     section("so many bytes at a place, or as many as there are")
     for at, size in itertools.product((0, 1, 4, 5, 6, TOP), (0, 1, 4, 5, 6, TOP)):
         ask("parts::part", data, at, size)

@@ -11,6 +11,7 @@ FUNCTIONS = {
     "output::put64": lambda out, at, number: show_written(out, at, lambda: number.to_bytes(8, "big")),
     "output::put_bytes": lambda out, at, data: show_written(out, at, lambda: data),
     "compare::is_name": lambda data, session: show_truth(data == session),
+    "number::byte": lambda data, at: str(number_at(data, at, 1)),
 }
 
 V = Vectors(FUNCTIONS)
@@ -46,6 +47,14 @@ def numbers():
     case("the largest number", "number::be64", b"\xff" * 8, 0)
     case("the largest number, one byte short", "number::be64", b"\xff" * 7, 0)
     case("the highest bit", "number::be64", b"\x80" + bytes(7), 0)
+
+
+def single_bytes():
+    section("the byte at a place, 0 past the end")
+    five = b"\x11\x22\x33\x44\xff"
+    for at in (0, 1, 4, 5, 6, TOP):
+        ask("number::byte", five, at)
+    ask("number::byte", b"", 0)
 
 
 def names():
@@ -113,4 +122,4 @@ def outputs():
     case("65,507 bytes", put_bytes, 65536, 7, b"a" * 65507)
 
 
-GROUPS = (numbers, names, outputs)
+GROUPS = (numbers, single_bytes, names, outputs)

@@ -7,7 +7,7 @@ use native.Mathlib.Omega.{arith}
 use lib.ListN.{length, drop, length-drop}
 use lib.Seq.{drop-append-le, drop-drop}
 use borrow.Author.Tests.{lt-ltb, le-ltb, ltb-true, eq-eqb, ne-eqb}
-use Rattle.wire.specs.Bytes.{AreBytes}
+use Rattle.wire.specs.Bytes.{joined, AreBytes}
 use Rattle.wire.proofs.Cases.{below-or-not, zero-or-not}
 use Rattle.capture_settings.specs.Settings.{readOf}
 use Rattle.capture_settings.specs.Statements.{longest, Settled}
@@ -21,7 +21,7 @@ use Rattle.capture.specs.declared.reading.Stage.the-variants.{Settings, 
 use Rattle.capture.specs.declared.reading.Reading.{Reading}
 use Rattle.capture.specs.declared.reading.Fed.{Fed}
 use Rattle.capture.specs.Reading.{reading, fed, roomOf, takeOf, startedOf, openOf, advanceAt, waits, isOver, feedOf, endOf, endAt, finishOf}
-use Rattle.capture.specs.Whole.{joined, byPieces, mostKept, KeepsLittle, OverStays}
+use Rattle.capture.specs.Whole.{byPieces, mostKept, KeepsLittle, OverStays}
 use Rattle.capture.proofs.TakeLaws.{is-part, left-short, joins, over-append, taken}
 use Rattle.capture.proofs.StageLaws.{size-within, take-used, open-used}
 

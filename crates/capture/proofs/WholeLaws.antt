@@ -7,6 +7,7 @@ use native.Mathlib.Omega.{arith}
 use lib.ListN.{length, drop}
 use borrow.Author.Tests.{lt-ltb, le-ltb, eq-eqb, ne-eqb}
 use Rattle.wire.specs.Choice.{if_then_else_}
+use Rattle.wire.specs.Bytes.{joined}
 use Rattle.wire.specs.Output.{Writes}
 use Rattle.wire.specs.declared.output.Written.{Written}
 use Rattle.wire.proofs.Cases.{below-or-not, zero-or-not}
@@ -26,10 +27,11 @@ use Rattle.capture_tally.proofs.ReportLaws.{cut-most}
 use Rattle.capture_tally.proofs.SumLaws.{sums}
 use Rattle.capture_text.specs.Text.{room}
 use Rattle.capture_text.proofs.TextLaws.{report-fits, refused-fits}
-use Rattle.capture.specs.declared.reading.Stage.the-variants.{Settings, Done}
+use Rattle.capture.specs.declared.reading.Stage.{Stage}
+use Rattle.capture.specs.declared.reading.Stage.the-variants.{Settings, Records, Done, Refused}
 use Rattle.capture.specs.declared.reading.Reading.{Reading}
 use Rattle.capture.specs.Reading.{reading, startReading, startedOf, endOf, finishOf, textAt, textOf}
-use Rattle.capture.specs.Whole.{recordsReport, captureOf, captureText, joined, AnyCutting, StartTakesSettings, FitsTheRoom, CapturePromises}
+use Rattle.capture.specs.Whole.{recordsReport, captureOf, captureText, AnyCutting, StartTakesSettings, CapturePromises}
 use Rattle.capture.proofs.TakeLaws.{few}
 use Rattle.capture.proofs.PieceLaws.{end-opened, end-refused, all-pieces, keeps-little, over-stays}
 
@@ -130,9 +132,16 @@ started-session : (name : List ℕ) (n limit : ℕ) → Good name n limit → st
 unfolding startReceiver
 started-session name n limit g = rw (good-start name n limit g)
 
-fits-the-room : FitsTheRoom
-unfolding FitsTheRoom captureText captureOf textAt
-fits-the-room l = zero-or-not _ (readOf l .refusal .number) fit not-read
+reading-fits : (g : Stage) (x : Report) → length (x .receiver .session) ≡ 10 → length (textAt g x) ≤ room
+unfolding textAt
+reading-fits Settings x e = omega (arith, refused-fits)
+reading-fits Records x e = omega (arith, report-fits x e)
+reading-fits Done x e = omega (arith, report-fits x e)
+reading-fits Refused x e = omega (arith, refused-fits)
+
+capture-fits : (l : List ℕ) → length (captureText l) ≤ room
+unfolding captureText captureOf textAt
+capture-fits l = zero-or-not _ (readOf l .refusal .number) fit not-read
   where
     fit : readOf l .refusal .number ≡ 0 → length (textOf (captureOf l)) ≤ room
     fit z =
@@ -152,5 +161,5 @@ capture-promises =
       start-takes-settings = start-takes-settings;
       keeps-little = keeps-little;
       over-stays = over-stays;
-      fits-the-room = fits-the-room;
+      fits-the-room = record { any-reading = λ s e. reading-fits (s .stage) (s .report) e; any-capture = capture-fits };
     }

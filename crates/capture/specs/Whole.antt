@@ -1,16 +1,17 @@
 -- A whole capture: what it means, and that the pieces it comes in don't matter.
-use Prim.Native.Nat.{ℕ, _≤_, _<_}
+use Prim.Native.Nat.{ℕ, _+_, _-_, _≤_, _<_}
 use mathlib.Core.List.{List, [], _∷_, _++_}
 use mathlib.Core.Bool.{true}
 use mathlib.Core.Path.{_≡_}
 use lib.ListN.{length, drop}
 use lib.Dec.{eqb}
 use Rattle.wire.specs.Choice.{if_then_else_}
-use Rattle.wire.specs.Bytes.{AreBytes}
+use Rattle.wire.specs.Bounds.{sessionSize}
+use Rattle.wire.specs.Bytes.{joined, AreBytes}
 use Rattle.receiver.specs.declared.receiver.Receiver.{Receiver}
 use Rattle.receiver.specs.Receiver.{startRefusal, refusedReceiver}
 use Rattle.capture_settings.specs.Settings.{readOf}
-use Rattle.capture_records.specs.Records.{mostRecords, recordsOf, isCut}
+use Rattle.capture_records.specs.Records.{lengthSize, mostRecords, recordsOf, isCut, largestLength}
 use Rattle.capture_tally.specs.declared.report.Report.{Report}
 use Rattle.capture_tally.specs.Report.{freshOf}
 use Rattle.capture_tally.specs.Sums.{summed, summedCut}
@@ -37,10 +38,6 @@ captureText l = textOf (captureOf l)
 
 -- ---- pieces
 
-unfoldable pub joined : List (List ℕ) → List ℕ
-joined [] = []
-joined (p ∷ ps) = p ++ joined ps
-
 -- what a program does with pieces ps, where it kept the bytes l: each piece is fed behind what was kept, and what isn't used is
 -- kept; what is left at the end is finished
 unfoldable pub byPieces : Reading → List ℕ → List (List ℕ) → Reading
@@ -58,9 +55,11 @@ StartTakesSettings = (l : List ℕ) → readOf l .refusal .number ≡ 0
 
 -- the most bytes that are kept between two pieces: all but the last byte of the longest record
 abbrev pub mostKept : ℕ
-mostKept = 65536
+mostKept = largestLength + lengthSize - 1
 
--- feeding uses what is there: while more records may be read, it leaves less than a record, so the memory needed is constant
+-- feeding uses what is there: while more records may be read, it leaves less than a record, so the memory needed is constant. Once
+-- 2^32 - 1 records were read no byte is used any more: a caller that keeps what isn't used keeps all that follows, and has to stop
+-- reading there, as a program does whose buffer is full
 pub record KeepsLittle (s : Reading) (l : List ℕ) : Type 0 where
   pub used-within : feedOf s l .used ≤ length l
   pub little : AreBytes l → feedOf s l .reading .report .records < mostRecords → length (drop (feedOf s l .used) l) ≤ mostKept
@@ -69,9 +68,10 @@ pub record KeepsLittle (s : Reading) (l : List ℕ) : Type 0 where
 unfoldable pub OverStays : Type 0
 OverStays = (s : Reading) (l : List ℕ) → isOver (s .stage) ≡ true → (feedOf s l ≡ fed s (length l)) × (finishOf s l ≡ s)
 
--- every report fits
-unfoldable pub FitsTheRoom : Type 0
-FitsTheRoom = (l : List ℕ) → length (captureText l) ≤ room
+-- every report fits: what any reading prints whose receiver's name has ten bytes, as its type holds, and what any capture prints
+pub record FitsTheRoom : Type 0 where
+  pub any-reading : (s : Reading) → length (s .report .receiver .session) ≡ sessionSize → length (textOf s) ≤ room
+  pub any-capture : (l : List ℕ) → length (captureText l) ≤ room
 
 pub record CapturePromises : Type 0 where
   pub any-cutting : AnyCutting

@@ -6,6 +6,7 @@ use mathlib.Core.Path.{_≡_}
 use lib.ListN.{length, take, drop}
 use lib.Dec.{ltb}
 use Rattle.wire.specs.Choice.{if_then_else_}
+use Rattle.wire.specs.Bounds.{largestCount}
 use Rattle.wire.specs.Words.{Words, says, Injective}
 use Rattle.wire.specs.Bytes.{number, bytes, AreBytes}
 use Rattle.capture_records.specs.declared.records.Front.{Front}
@@ -81,7 +82,7 @@ RecordsMakeTheBytes = (k : ℕ) (l : List ℕ) → AreBytes l → recordsBytes (
 
 -- the largest length that two bytes hold
 abbrev pub largestLength : ℕ
-largestLength = 65535
+largestLength = largestCount
 
 -- each datagram can stand in a record
 unfoldable pub AllHeld : List (List ℕ) → Type 0

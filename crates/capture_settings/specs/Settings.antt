@@ -32,10 +32,17 @@ pastOf [] l = l
 pastOf (t ∷ text) [] = []
 pastOf (t ∷ text) (b ∷ l) = if eqb b t then pastOf text l else []
 
--- each byte is 0x20 to 0x7E
+-- the first and the last byte that may stand in a name, 0x20 and 0x7E
+abbrev pub firstPrintable : ℕ
+firstPrintable = 32
+
+abbrev pub lastPrintable : ℕ
+lastPrintable = 126
+
+-- each byte is one of these
 unfoldable pub isPrintable : List ℕ → Bool
 isPrintable [] = true
-isPrintable (b ∷ l) = leb 32 b && leb b 126 && isPrintable l
+isPrintable (b ∷ l) = leb firstPrintable b && leb b lastPrintable && isPrintable l
 
 -- ---- a number of at least 1 without leading zeros, up to a line feed; value 0 where there is none
 
@@ -66,13 +73,13 @@ lineOf l = lineFrom 0 l
 abbrev pub settings : List ℕ → ℕ → ℕ → Settings
 settings name n limit = record { session = name; next = record { 0 = n }; limit = record { 0 = limit } }
 
--- document 01's bad settings: 19, a blank name, and every number 0
+-- our answer to document 01's bad settings: 19 as for a receiver's start, a blank name, and every number 0
 abbrev pub refusedOpened : Opened
 refusedOpened = record { refusal = record { number = badSetting }; settings = settings blank 0 0; size = 0 }
 
 -- the bytes that all settings have: the three keys, the name, and its line feed
 abbrev pub fixedSize : ℕ
-fixedSize = 30
+fixedSize = length sessionKey + length nextKey + length limitKey + sessionSize + 1
 
 -- the number of the line `next=` in front, and that of the line `limit=` after it
 unfoldable pub nextLine : List ℕ → Line

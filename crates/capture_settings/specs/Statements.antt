@@ -1,12 +1,12 @@
 -- What the settings read are, plainly: the one text that document 01 gives.
-use Prim.Native.Nat.{ℕ, _≤_}
+use Prim.Native.Nat.{ℕ, _+_, _≤_}
 use mathlib.Core.List.{List, [], _∷_, _++_}
 use mathlib.Core.Bool.{true}
 use mathlib.Core.Path.{_≡_}
 use lib.ListN.{length, drop}
 use Rattle.wire.specs.Bounds.{leastNumber, largestNumber, leastLimit, largestLimit, sessionSize}
 use Rattle.decimal.specs.Decimal.{digits}
-use Rattle.capture_settings.specs.Settings.{sessionKey, nextKey, limitKey, lineFeed, isPrintable, settings, readOf}
+use Rattle.capture_settings.specs.Settings.{sessionKey, nextKey, limitKey, lineFeed, isPrintable, settings, fixedSize, readOf}
 
 -- a line
 abbrev pub line : List ℕ → List ℕ → List ℕ
@@ -38,9 +38,9 @@ pub record ReadsExactly : Type 0 where
   pub only : (l : List ℕ) → readOf l .refusal .number ≡ 0
       → ReadSo l (readOf l .settings .session) (readOf l .settings .next .0) (readOf l .settings .limit .0) (readOf l .size)
 
--- the most bytes that good settings take
+-- the most bytes that good settings take: 2^64 - 1 has 20 digits, 65,534 has 5, and a line feed follows each
 abbrev pub longest : ℕ
-longest = 57
+longest = fixedSize + (20 + 1) + (5 + 1)
 
 -- that many bytes tell: what comes after them changes nothing
 unfoldable pub Settled : Type 0

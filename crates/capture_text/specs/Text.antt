@@ -82,7 +82,7 @@ refusedText = line settingsKey refusedWord
 abbrev pub room : ℕ
 room = 256
 
--- ---- laying it, part by part
+-- ---- laying it, part by part: for private helpers alone; no public promise uses it
 
 -- bs was laid at a place of l, which gave m; the next place follows it, and it is no longer than most
 pub record Lays (next : ℕ) (l m : List ℕ) (at : ℕ) (bs : List ℕ) (most : ℕ) : Type 0 where

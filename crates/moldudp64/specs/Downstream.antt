@@ -78,6 +78,10 @@ sessionOf l = if wellFormed l then take sessionSize l else []
 unfoldable pub messagesOf : List ℕ → List (List ℕ)
 messagesOf l = if wellFormed l then messages (blockCount l) (drop headerSize l) else []
 
+-- the first message has the header's number, later ones follow by one: the number of the message at a place from 0
+abbrev pub messageNumber : List ℕ → ℕ → ℕ
+messageNumber l i = numberOf l + i
+
 -- the message at a place from 0: no bytes where there is none
 unfoldable pub messageOf : List ℕ → ℕ → List ℕ
 messageOf l i = getD (messagesOf l) i []

@@ -16,14 +16,28 @@ largestDatagram = 65507
 abbrev pub endCount : ℕ
 endCount = 65535
 
+-- where the sequence number stands, and its bytes
+abbrev pub numberAt : ℕ
+numberAt = 10
+
+abbrev pub numberSize : ℕ
+numberSize = 8
+
+-- where the message count stands, and its bytes
+abbrev pub countAt : ℕ
+countAt = 18
+
+abbrev pub countSize : ℕ
+countSize = 2
+
 -- the sequence number
 unfoldable pub numberOf : List ℕ → ℕ
-numberOf l = number l 10 8
+numberOf l = number l numberAt numberSize
 
 -- the message count
 unfoldable pub countOf : List ℕ → ℕ
-countOf l = number l 18 2
+countOf l = number l countAt countSize
 
 -- a header as it is written
 unfoldable pub header : List ℕ → ℕ → ℕ → List ℕ
-header session n c = session ++ bytes 8 n ++ bytes 2 c
+header session n c = session ++ bytes numberSize n ++ bytes countSize c

@@ -1,4 +1,5 @@
 pub mod Header
 pub mod Blocks
 pub mod Downstream
+pub mod Written
 pub mod Request

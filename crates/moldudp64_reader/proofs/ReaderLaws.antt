@@ -11,7 +11,8 @@ use Rattle.moldudp64_messages.specs.declared.cursor.Located.{Located}
 use Rattle.moldudp64_messages.specs.declared.cursor.Cursor.{Cursor}
 use Rattle.moldudp64_messages.specs.Cursor.{located, moved, movedBy, startOf, locateOf, part, WalksTheMessages, PartIsMessage}
 use Rattle.moldudp64_messages.proofs.CursorLaws.{moved-on, moved-stays, walks-the-messages, part-is-message}
-use Rattle.receiver.proofs.DeliveryLaws.{delivery-moves}
+use Rattle.receiver.specs.Delivery.{DeliveryVisits}
+use Rattle.receiver.proofs.DeliveryLaws.{delivery-moves, delivery-visits}
 use Rattle.moldudp64_reader.specs.Reader.{ReadsTheMessages, ReadsTheDelivery}
 
 -- one more move is the last one
@@ -51,5 +52,8 @@ reads-the-messages l i =
     }
 
 pub reads-the-delivery : ReadsTheDelivery
-unfolding ReadsTheDelivery ReadsTheMessages
-reads-the-delivery r l first count skipped i small e = rw (delivery-moves r l first count skipped small e i) (reads-the-messages l (skipped + i))
+unfolding ReadsTheDelivery ReadsTheMessages DeliveryVisits
+reads-the-delivery r l first count skipped i small e = (
+  rw (delivery-moves r l first count skipped small e i) (reads-the-messages l (skipped + i)),
+  omega (arith, delivery-visits r l first count skipped small e .its-number),
+)

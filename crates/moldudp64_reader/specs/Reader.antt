@@ -5,7 +5,7 @@ use mathlib.Core.Path.{_≡_}
 use lib.ListN.{length}
 use Rattle.wire.specs.Bytes.{AreBytes}
 use Rattle.wire.specs.Words.{says}
-use Rattle.moldudp64.specs.Downstream.{messagesOf, messageOf}
+use Rattle.moldudp64.specs.Downstream.{messagesOf, messageNumber, messageOf}
 use Rattle.moldudp64_messages.specs.declared.cursor.Cursor.{Cursor}
 use Rattle.moldudp64_messages.specs.Cursor.{located, moved, movedBy, startOf, locateOf, part}
 use Rattle.receiver.specs.declared.receiver.Receiver.{Receiver}
@@ -28,7 +28,7 @@ pub record StandsAt (l : List ℕ) (i : ℕ) (c : Cursor) : Type 0 where
 unfoldable pub ReadsTheMessages : Type 0
 ReadsTheMessages = (l : List ℕ) (i : ℕ) → StandsAt l i (movedBy i l (startOf l))
 
--- one that is made from a deliver answer, and moved on i times, stands at message skipped + i
+-- one that is made from a deliver answer, and moved on i times, stands at message skipped + i, which has the number first + i
 unfoldable pub ReadsTheDelivery : Type 0
 ReadsTheDelivery = (r : Receiver) (l : List ℕ) (first count skipped i : ℕ) → AreBytes l → answerOf r l ≡ says deliver (first ∷ count ∷ skipped ∷ [])
-    → StandsAt l (skipped + i) (movedBy i l (deliveryOf l count skipped))
+    → StandsAt l (skipped + i) (movedBy i l (deliveryOf l count skipped)) × (messageNumber l (skipped + i) ≡ first + i)

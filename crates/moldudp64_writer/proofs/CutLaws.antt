@@ -5,10 +5,10 @@ use Prim.Native.Nat.{ℕ, zero, suc, _+_, _*_, _^_, _<_}
 use native.Mathlib.Omega.{arith}
 use lib.ListN.{length, getD, take, drop, length-append, length-take, length-drop}
 use lib.Seq.{take-at, drop-at}
-use Rattle.wire.specs.Bytes.{bytes}
+use Rattle.wire.specs.Bytes.{bytes, joined}
 use Rattle.wire.proofs.Numbers.{length-bytes}
 use Rattle.moldudp64.specs.Blocks.{blocksOf}
-use Rattle.moldudp64_writer.specs.Writer.{cut, total, lengthsOf, joined}
+use Rattle.moldudp64_writer.specs.Writer.{cut, total, lengthsOf}
 
 -- ---- one block in front of others
 

@@ -2,7 +2,7 @@
 use mathlib.Core.Path.{_≡_, refl, ap, sym, _∙_}
 use mathlib.Core.List.{List, [], _∷_, _++_, append-assoc, append-nil}
 use mathlib.Core.Bool.{Bool, true, false}
-use Prim.Native.Nat.{ℕ, zero, suc, _+_, _-_, _^_, _≤_, _<_}
+use Prim.Native.Nat.{ℕ, zero, suc, _+_, _^_, _≤_, _<_}
 use native.Mathlib.Omega.{arith}
 use lib.ListN.{length, getD, take, drop, length-append, length-take, length-drop, take-append-drop}
 use lib.Seq.{take-all, take-at, drop-at, take-add}
@@ -10,22 +10,23 @@ use lib.Dec.{eqb}
 use borrow.Author.Tests.{le-leb, eq-eqb, eqb-true}
 use Rattle.wire.specs.Choice.{if_then_else_}
 use Rattle.wire.specs.Words.{says}
-use Rattle.wire.specs.Bytes.{number, bytes, AreBytes}
+use Rattle.wire.specs.Bytes.{number, bytes, joined, AreBytes}
 use Rattle.wire.specs.Output.{writeRefusal, writeAnswer}
 use Rattle.wire.proofs.Numbers.{length-bytes, number-bytes, bytes-number, small-number}
 use Rattle.wire.proofs.Outputs.{wrote-so, wrote-front}
 use Rattle.moldudp64.specs.Header.{numberOf, countOf, header}
 use Rattle.moldudp64.specs.Blocks.{lengthOf, sizeOf, afterBlock, allFit, afterBlocks, messages, blocksRefusal, blocksOf, fits}
 use Rattle.moldudp64.specs.Downstream.{Kind, data-packet, heartbeat, end-of-session, kindOfCount, kindOf, blockCount, valuesOf, refusalOf, readOf, sessionOf, messagesOf}
-use Rattle.moldudp64_writer.specs.Writer.{packet, packetOf, cut, lengthsOf, joined, packetGround, endPacket, endGround}
+use Rattle.moldudp64.specs.Written.{packet, endPacket}
+use Rattle.moldudp64_writer.specs.Writer.{packetOf, cut, lengthsOf, packetGround, endGround}
 use Rattle.moldudp64.specs.Request.{requestGround, requestRefusal, requestOf, requestSession}
-use Rattle.moldudp64_writer.specs.RoundTrips.{ReadsAs, WritesTo, kindOfMessages, valuesOfMessages, AsksFor, PacketReadsBack, PacketWritesBack, EndReadsBack, EndWritesBack, RequestReadsBack, RequestWritesBack, PacketRoundTrip, EndRoundTrip, RequestRoundTrip}
+use Rattle.moldudp64_writer.specs.RoundTrips.{ReadsAs, WritesTo, kindOfMessages, valuesOfMessages, AsksFor, PacketReadsBack, PacketWritesBack, EndReadsBack, EndWritesBack, RequestReadsBack, RequestWritesBack, PacketFits, RequestFits, PacketRoundTrip, EndRoundTrip, RequestRoundTrip}
 use Rattle.moldudp64_writer.proofs.HeaderLaws.{length-header, header-session, header-number, header-count, header-rest, header-again, drop-bytes}
 use Rattle.moldudp64.proofs.BlockLaws.{fits-so, sound-fit, sound-end, first-fits, rest-fit}
-use Rattle.moldudp64.proofs.DownstreamLaws.{kind-heartbeat, kind-end, kind-data, count-end, count-blocks, sound, accepted, said, messages-sound, count-sound}
+use Rattle.moldudp64.proofs.DownstreamLaws.{kind-heartbeat, kind-end, kind-data, count-end, count-blocks, sound, accepted, said, messages-sound, count-sound, sound-ten}
 use Rattle.moldudp64_writer.proofs.CutLaws.{laid, laid-front, laid-size, cut-count, cut-short, cut-size, join-again, lengths-count, lengths-total, joined-size}
 use Rattle.moldudp64_writer.proofs.WriterLaws.{writable, not-writable, end-good}
-use Rattle.moldudp64.proofs.RequestLaws.{request-sound}
+use Rattle.moldudp64.proofs.RequestLaws.{request-sound, request-ten}
 
 -- ---- one block in front of others
 
@@ -374,11 +375,53 @@ request-writes-back l small e =
     let m : 20 ≤ length l = omega (arith, s .0) in
     writes-to l _ _ (s .1) (rw (e, header-again l small m) (take-all 20 l n))
 
+-- ---- the writers' types hold what was read: ten bytes of session, and numbers no wider than the bytes that they were read from
+
+lengths-fit : (n : ℕ) (l : List ℕ) → AreBytes l → (i : ℕ) → getD (lengthsOf (messages n l)) i 0 < 2 ^ 16
+unfolding messages lengthsOf lengthOf
+lengths-fit zero l small i = omega arith
+lengths-fit (suc n) l small zero = omega (arith, small-number 2 l 0 small, length-take (number l 0 2) (drop 2 l))
+lengths-fit (suc n) l small (suc i) = lengths-fit n (afterBlock l) (drop-bytes (sizeOf l) l small) i
+
+number-fits : (l : List ℕ) → AreBytes l → numberOf l < 2 ^ 64
+unfolding numberOf
+number-fits l small = small-number 8 l 10 small
+
+count-fits : (l : List ℕ) → AreBytes l → countOf l < 2 ^ 16
+unfolding countOf
+count-fits l small = small-number 2 l 18 small
+
+session-fits : (l : List ℕ) → refusalOf l ≡ 0 → length (sessionOf l) ≡ 10
+unfolding sessionOf
+session-fits l e = rw e (sound-ten l (refusalOf l) refl e)
+
+packet-fits : (l : List ℕ) → AreBytes l → refusalOf l ≡ 0 → PacketFits l
+packet-fits l small e =
+    record {
+      session-size = session-fits l e;
+      number-fits = number-fits l small;
+      each-length = λ i. rw (messages-sound l e) (lengths-fit (blockCount l) (drop 20 l) (drop-bytes 20 l small) i);
+    }
+
+request-fits : (l : List ℕ) → AreBytes l → requestRefusal l ≡ 0 → RequestFits l
+unfolding requestSession
+request-fits l small e =
+    record {
+      session-size = rw e (request-ten l (requestRefusal l) refl e);
+      number-fits = number-fits l small;
+      count-fits = count-fits l small;
+    }
+
 pub packet-round-trip : PacketRoundTrip
-packet-round-trip = record { reads-back = packet-reads-back; writes-back = packet-writes-back }
+packet-round-trip = record { reads-back = packet-reads-back; writes-back = packet-writes-back; may-be-given = packet-fits }
 
 pub end-round-trip : EndRoundTrip
-end-round-trip = record { reads-back = end-reads-back; writes-back = end-writes-back }
+end-round-trip =
+    record {
+      reads-back = end-reads-back;
+      writes-back = end-writes-back;
+      may-be-given = λ l small e. record { session-size = session-fits l e; number-fits = number-fits l small };
+    }
 
 pub request-round-trip : RequestRoundTrip
-request-round-trip = record { reads-back = request-reads-back; writes-back = request-writes-back }
+request-round-trip = record { reads-back = request-reads-back; writes-back = request-writes-back; may-be-given = request-fits }

@@ -17,7 +17,8 @@ use Rattle.wire.specs.Output.{put, Writes}
 use Rattle.wire.proofs.Outputs.{writes-ground, writes-short, writes-done, put-put, length-put}
 use Rattle.moldudp64.specs.Header.{header}
 use Rattle.moldudp64.specs.Blocks.{blocksOf}
-use Rattle.moldudp64_writer.specs.Writer.{packet, cut, packetOf, total, addUp, packetGround, endPacket, endGround}
+use Rattle.moldudp64.specs.Written.{packet, endPacket}
+use Rattle.moldudp64_writer.specs.Writer.{cut, packetOf, total, addUp, packetGround, endGround}
 use Rattle.moldudp64_writer.proofs.HeaderLaws.{length-header}
 use Rattle.moldudp64_writer.proofs.CutLaws.{cut-count, cut-size}
 use Rattle.moldudp64.proofs.DownstreamLaws.{past-ground}

@@ -6,11 +6,12 @@ use mathlib.Core.Path.{_≡_}
 use lib.ListN.{length, getD, take}
 use Rattle.wire.specs.Bounds.{sessionSize}
 use Rattle.wire.specs.Words.{says}
-use Rattle.wire.specs.Bytes.{AreBytes}
+use Rattle.wire.specs.Bytes.{joined, AreBytes}
 use Rattle.wire.specs.Output.{wrote, put, writeAnswer, writeOutput}
 use Rattle.moldudp64.specs.Header.{numberOf, countOf, header}
 use Rattle.moldudp64.specs.Downstream.{Kind, data-packet, heartbeat, end-of-session, kindOf, refusalOf, readOf, sessionOf, messagesOf}
-use Rattle.moldudp64_writer.specs.Writer.{packetOf, cut, lengthsOf, joined, packetGround, endPacket, endGround}
+use Rattle.moldudp64.specs.Written.{endPacket}
+use Rattle.moldudp64_writer.specs.Writer.{packetOf, cut, lengthsOf, packetGround, endGround}
 use Rattle.moldudp64.specs.Request.{wanted, requestGround, requestRefusal, requestOf, requestSession}
 
 -- the bytes p read as a datagram of this session, kind, values and messages
@@ -49,6 +50,12 @@ PacketWritesBack = (l : List ℕ) → AreBytes l → refusalOf l ≡ 0 → (kind
     → WritesTo l (packetGround (numberOf l) (lengthsOf (messagesOf l)) (joined (messagesOf l)))
     (packetOf (sessionOf l) (numberOf l) (lengthsOf (messagesOf l)) (joined (messagesOf l)))
 
+-- what was read of data or a heartbeat can be handed to its writer
+pub record PacketFits (l : List ℕ) : Type 0 where
+  pub session-size : length (sessionOf l) ≡ sessionSize
+  pub number-fits : numberOf l < 2 ^ 64
+  pub each-length : (i : ℕ) → getD (lengthsOf (messagesOf l)) i 0 < 2 ^ 16
+
 -- ---- end of session
 
 -- the bytes that the writer reports are an end of session with that number
@@ -61,6 +68,11 @@ EndReadsBack = (l session : List ℕ) (n size : ℕ) → length session ≡ sess
 unfoldable pub EndWritesBack : Type 0
 EndWritesBack = (l : List ℕ) → AreBytes l → refusalOf l ≡ 0 → kindOf l ≡ end-of-session
     → WritesTo l (endGround (numberOf l)) (endPacket (sessionOf l) (numberOf l))
+
+-- what was read of an end of session can be handed to its writer
+pub record EndFits (l : List ℕ) : Type 0 where
+  pub session-size : length (sessionOf l) ≡ sessionSize
+  pub number-fits : numberOf l < 2 ^ 64
 
 -- ---- requests
 
@@ -80,16 +92,25 @@ unfoldable pub RequestWritesBack : Type 0
 RequestWritesBack = (l : List ℕ) → AreBytes l → requestRefusal l ≡ 0
     → WritesTo l (requestGround (numberOf l) (countOf l)) (header (requestSession l) (numberOf l) (countOf l))
 
--- ---- each writer promises both ways
+-- what was read of a request can be handed to its writer
+pub record RequestFits (l : List ℕ) : Type 0 where
+  pub session-size : length (requestSession l) ≡ sessionSize
+  pub number-fits : numberOf l < 2 ^ 64
+  pub count-fits : countOf l < 2 ^ 16
+
+-- ---- each writer promises both ways, and that its types hold the parts that it writes back
 
 pub record PacketRoundTrip : Type 0 where
   pub reads-back : PacketReadsBack
   pub writes-back : PacketWritesBack
+  pub may-be-given : (l : List ℕ) → AreBytes l → refusalOf l ≡ 0 → PacketFits l
 
 pub record EndRoundTrip : Type 0 where
   pub reads-back : EndReadsBack
   pub writes-back : EndWritesBack
+  pub may-be-given : (l : List ℕ) → AreBytes l → refusalOf l ≡ 0 → EndFits l
 
 pub record RequestRoundTrip : Type 0 where
   pub reads-back : RequestReadsBack
   pub writes-back : RequestWritesBack
+  pub may-be-given : (l : List ℕ) → AreBytes l → requestRefusal l ≡ 0 → RequestFits l

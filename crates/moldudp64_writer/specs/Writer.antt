@@ -1,20 +1,17 @@
--- Downstream packets as they are written.
-use Prim.Native.Nat.{ℕ, _+_, _*_}
-use mathlib.Core.List.{List, [], _∷_, _++_}
+-- What the writers of downstream packets are given, and what they refuse.
+use Prim.Native.Nat.{ℕ, _+_, _*_, _-_}
+use mathlib.Core.List.{List, [], _∷_}
 use mathlib.Core.Bool.{Bool, not}
 use lib.ListN.{length, take, drop}
 use lib.Dec.{ltb, eqb}
 use Rattle.wire.specs.Choice.{if_then_else_}
 use Rattle.wire.specs.Refusals.{datagramLong, numberZero, numbersRunOut, tooManyMessages, lengthsDiffer}
-use Rattle.moldudp64.specs.Header.{headerSize, largestDatagram, endCount, header}
-use Rattle.moldudp64.specs.Blocks.{lengthSize, blocksOf}
+use Rattle.moldudp64.specs.Header.{headerSize, largestDatagram, endCount}
+use Rattle.moldudp64.specs.Blocks.{lengthSize}
 use Rattle.moldudp64.specs.Downstream.{runOut}
+use Rattle.moldudp64.specs.Written.{packet}
 
--- the packet of a list of messages, the first with number n; no messages make a heartbeat
-unfoldable pub packet : List ℕ → ℕ → List (List ℕ) → List ℕ
-packet session n ms = header session n (length ms) ++ blocksOf ms
-
--- ---- the writer is given lengths and joined data
+-- ---- data and heartbeat: the writer is given lengths and joined data
 
 -- the joined data cut into messages of these lengths
 unfoldable pub cut : List ℕ → List ℕ → List (List ℕ)
@@ -35,14 +32,9 @@ unfoldable pub lengthsOf : List (List ℕ) → List ℕ
 lengthsOf [] = []
 lengthsOf (m ∷ ms) = length m ∷ lengthsOf ms
 
--- messages joined
-unfoldable pub joined : List (List ℕ) → List ℕ
-joined [] = []
-joined (m ∷ ms) = m ++ joined ms
-
--- the most messages of one datagram
+-- the most messages of one datagram: one count is an end of session's
 abbrev pub mostMessages : ℕ
-mostMessages = 65534
+mostMessages = endCount - 1
 
 -- a header, and for each message its length field and its data
 abbrev pub packetSize : List ℕ → List ℕ → ℕ
@@ -64,10 +56,6 @@ packetGround n ks d =
 
 -- ---- end of session
 
--- an end of session with the next number
-unfoldable pub endPacket : List ℕ → ℕ → List ℕ
-endPacket session n = header session n endCount
-
--- its one ground but 41
+-- its one ground but 41: number 0
 unfoldable pub endGround : ℕ → ℕ
 endGround n = if eqb n 0 then numberZero else 0

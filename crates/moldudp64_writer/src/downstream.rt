@@ -20,7 +20,8 @@ ghost use lib.ListN.{length};
 ghost use Rattle.wire.specs.Output.{put, Writes};
 ghost use Rattle.moldudp64.specs.Header.{headerSize};
 ghost use Rattle.moldudp64.specs.Blocks.{blocksOf};
-ghost use Rattle.moldudp64_writer.specs.Writer.{total, cut, packetOf, addUp, packetGround, endPacket, endGround};
+ghost use Rattle.moldudp64.specs.Written.{endPacket};
+ghost use Rattle.moldudp64_writer.specs.Writer.{total, cut, packetOf, addUp, packetGround, endGround};
 ghost use Rattle.moldudp64_writer.specs.RoundTrips.{PacketRoundTrip, EndRoundTrip};
 
 // The most messages of one datagram.

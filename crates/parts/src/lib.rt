@@ -1,16 +1,8 @@
-// Parts of a lent slice: a byte, the bytes at a place, and the first bytes as an array.
+// Parts of a lent slice: the bytes at a place, and the first bytes as an array.
 use wire::kinds::ByteOffset;
 ghost use mathlib.Core.Path.{_≡_};
-ghost use lib.ListN.{getD, take, drop};
+ghost use lib.ListN.{take, drop};
 ghost use Rattle.parts.specs.Parts.{firstBytes};
-
-// The byte at a place, 0 past the end.
-pub fn byte(s: &[u8], at: ByteOffset) -> u8
-    ensures { λ r. ⌜ r ≡ getD (now (s .entry)) (at .0) 0 ⌝ }
-{
-    let i = at.0;
-    if i < s.len() { s[i] } else { 0 }
-}
 
 // So many bytes at a place, or as many as there are.
 pub fn part(s: &[u8], at: ByteOffset, size: usize) -> &[u8]

@@ -16,7 +16,7 @@ use Rattle.wire.proofs.Cases.{zero-or-not}
 use Rattle.wire.proofs.Words.{which-of, values-of}
 use Rattle.wire.proofs.Numbers.{small-number}
 use Rattle.moldudp64.specs.Header.{numberOf, countOf}
-use Rattle.moldudp64.specs.Downstream.{Kind, data-packet, kindOf, refusalOf, messagesOf, messageOf}
+use Rattle.moldudp64.specs.Downstream.{Kind, data-packet, kindOf, refusalOf, messagesOf, messageNumber, messageOf}
 use Rattle.moldudp64.proofs.DownstreamLaws.{count-sound, kind-blocks}
 use Rattle.moldudp64_messages.specs.declared.cursor.Cursor.{Cursor}
 use Rattle.moldudp64_messages.specs.declared.cursor.Located.{Located}
@@ -45,16 +45,18 @@ reaches limit n k f c o (heartbeat-at a b e) w = let x = sym (ap (λ (y : Outcom
 reaches limit n k f c o (any-above h e) w = let x = sym (ap (λ (y : Outcome). y .reply .which) e) ∙ w in let z : _≡_ {A = ℕ} 0 1 = cc in absurd (omega arith)
 reaches limit n k f c o (end-at a b e) w = let x = sym (ap (λ (y : Outcome). y .reply .which) e) ∙ w in let z : _≡_ {A = ℕ} 0 1 = cc in absurd (omega arith)
 
--- a deliver answer is of data that was accepted, and its count and skipped make the datagram's count
-record Delivering (l : List ℕ) (count skipped : ℕ) : Type 0 where
+-- a deliver answer is of data that was accepted; its first number is the one after the skipped messages', and its count and
+-- skipped make the datagram's count
+record Delivering (l : List ℕ) (first count skipped : ℕ) : Type 0 where
   well : refusalOf l ≡ 0
   kind : kindOf l ≡ data-packet
+  starts : first ≡ messageNumber l skipped
   all : count + skipped ≡ countOf l
 
-delivering : (r : Receiver) (l : List ℕ) (first count skipped : ℕ) → answerOf r l ≡ says deliver (first ∷ count ∷ skipped ∷ []) → Delivering l count skipped
+delivering : (r : Receiver) (l : List ℕ) (first count skipped : ℕ) → answerOf r l ≡ says deliver (first ∷ count ∷ skipped ∷ []) → Delivering l first count skipped
 delivering r l first count skipped e = zero-or-not _ (refusalFor r l) good bad
   where
-    good : refusalFor r l ≡ 0 → Delivering l count skipped
+    good : refusalFor r l ≡ 0 → Delivering l first count skipped
     good z =
         let f = sym (row-answer r l z) ∙ e in
         let x = reaches _ _ _ _ _ _ (row-of r l z) (which-of f) in
@@ -62,9 +64,10 @@ delivering r l first count skipped e = zero-or-not _ (refusalFor r l) good bad
         values-of (sym (ap (λ (o : Outcome). o .reply) (x .outcome)) ∙ f) in
         let p : numberOf l + countOf l - r .next .0 ≡ count = cc in
         let q : r .next .0 - numberOf l ≡ skipped = cc in
-        record { well = well-read r l z; kind = x .kind; all = omega (arith, x .begins, x .ends) }
+        let s : r .next .0 ≡ first = cc in
+        record { well = well-read r l z; kind = x .kind; starts = omega (arith, x .begins); all = omega (arith, x .begins, x .ends) }
 
-    bad : (refusalFor r l ≡ 0 → ⊥) → Delivering l count skipped
+    bad : (refusalFor r l ≡ 0 → ⊥) → Delivering l first count skipped
     bad z = let w = which-of (sym (refused-answers r l z) ∙ e) in let k : _≡_ {A = ℕ} 0 1 = cc in absurd (omega arith)
 
 -- ---- the cursor
@@ -125,8 +128,12 @@ delivery-visits r l first count skipped small e =
     λ i. ap (located l) (delivery-moves r l first count skipped small e i) ∙ walks-the-messages l (skipped + i) in
     rw e
     (record {
-      as-many = omega (arith, length-drop skipped (messagesOf l));
-      there = λ i g. ap (λ (p : Located). p .exists) (at i) ∙ there-at l (skipped + i) (omega arith);
-      stops = λ i g. ap (λ (p : Located). p .exists) (at i) ∙ gone-at l (skipped + i) (omega arith);
-      each = λ i. ap (part l) (at i) ∙ part-is-message l (skipped + i) ∙ message-at l skipped i;
+      its-number = delivering r l first count skipped e .starts;
+      visits =
+          record {
+            as-many = omega (arith, length-drop skipped (messagesOf l));
+            there = λ i g. ap (λ (p : Located). p .exists) (at i) ∙ there-at l (skipped + i) (omega arith);
+            stops = λ i g. ap (λ (p : Located). p .exists) (at i) ∙ gone-at l (skipped + i) (omega arith);
+            each = λ i. ap (part l) (at i) ∙ part-is-message l (skipped + i) ∙ message-at l skipped i;
+          };
     })

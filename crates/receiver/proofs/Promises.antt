@@ -1,8 +1,8 @@
--- What the receiver promises at one datagram: the table, the request, the number, the refusal.
+-- What the receiver promises at one datagram: the table, the request, the number, the settings.
 use mathlib.Core.Path.{_≡_, refl, ap, sym, _∙_}
-use mathlib.Core.List.{List}
+use mathlib.Core.List.{List, [], _∷_}
 use mathlib.Core.Bool.{Bool, true, false}
-use Prim.Native.Nat.{ℕ, _+_, _-_, _≤_, _<_}
+use Prim.Native.Nat.{ℕ, _+_, _≤_, _<_}
 use native.Mathlib.Omega.{arith}
 use lib.ListN.{getD}
 use lib.Dec.{eqb}
@@ -10,15 +10,19 @@ use borrow.Author.Tests.{lt-ltb, le-ltb, ltb-false, eqb-true, eqb-false, ne-eqb}
 use Rattle.wire.specs.Choice.{if_then_else_}
 use Rattle.wire.specs.Words.{Case, Words, answer, refused, refuses, Injective}
 use Rattle.wire.proofs.Cases.{below-or-not, zero-or-not}
-use Rattle.wire.proofs.Words.{read-back}
+use Rattle.wire.proofs.Words.{which-of, values-of, read-back}
 use Rattle.moldudp64.specs.Header.{numberOf, countOf}
 use Rattle.moldudp64.specs.Downstream.{Kind, data-packet, heartbeat, end-of-session, kindOf, refusalOf}
+use Rattle.moldudp64.specs.Request.{requestGround}
+use Rattle.moldudp64.proofs.DownstreamLaws.{sound, kind-blocks}
+use Rattle.moldudp64.proofs.RequestLaws.{ground-good}
 use Rattle.receiver.specs.declared.receiver.Receiver.{Receiver}
 use Rattle.receiver.specs.declared.receiver.Answer.{Answer}
 use Rattle.receiver.specs.declared.receiver.Answer.the-variants.{Deliver, Old, Quiet, Ask, Ended, Refused}
-use Rattle.receiver.specs.Table.{Reply, deliver, old, quiet, ask, ended, Outcome, Row, data-reaches, data-below, heartbeat-below, heartbeat-at, any-above, end-at, answerWords, delivers, olds, quiets, asks, endsNow, table}
-use Rattle.receiver.specs.Receiver.{otherSession, endBelow, ownRefusal, refusalFor, rowOf, answerOf, receiverAfter}
-use Rattle.receiver.specs.Statements.{FollowsTheTable, RequestExactlyWhen, NumberNeverFalls, ReceiverPromises}
+use Rattle.receiver.specs.Table.{Reply, deliver, old, quiet, ask, ended, Outcome, Row, data-reaches, data-below, heartbeat-below, heartbeat-at, any-above, end-at, answerWords, askFor, delivers, olds, quiets, asks, endsNow, table}
+use Rattle.receiver.specs.Receiver.{startRefusal, otherSession, endBelow, ownRefusal, refusalFor, rowOf, answerOf, receiverAfter}
+use Rattle.receiver.specs.Statements.{FollowsTheTable, RequestExactlyWhen, NumberNeverFalls, AskIsARequest, StaysGood, KeepsSettings, ReceiverPromises}
+use Rattle.receiver.proofs.StartLaws.{in-bounds, start-good}
 use Rattle.receiver.proofs.TableLaws.{refused-stays, row-answer, row-after}
 
 -- ---- the table is its rows; at an end of session n isn't above f
@@ -122,6 +126,30 @@ request-exactly-when =
       only-when = λ r l e w. asks-above _ _ _ _ _ _ (row-of r l e) (sym (ap (λ (x : Words Reply). x .which) (row-answer r l e)) ∙ w);
     }
 
+-- an ask is from n, which good settings have at 1 or more, for 1 to the limit
+ask-is-a-request : AskIsARequest answerOf
+ask-is-a-request r l from count g e = zero-or-not _ (refusalFor r l) good bad
+  where
+    good : refusalFor r l ≡ 0 → requestGround from count ≡ 0
+    good z =
+        let h : r .next .0 < numberOf l = request-exactly-when .only-when r l z (which-of e) in
+        let v : r .next .0 ∷ askFor (r .limit .0) (r .next .0) (numberOf l) ∷ [] ≡ from ∷ count ∷ [] =
+        values-of (sym (request-exactly-when .when r l z h) ∙ e) in
+        let p : r .next .0 ≡ from = cc in
+        let q : askFor (r .limit .0) (r .next .0) (numberOf l) ≡ count = cc in
+        let b = in-bounds (r .next .0) (r .limit .0) g in
+        let least : 1 ≤ from = omega (arith, b .number-least) in
+        let some : 1 ≤ count = omega (arith, b .limit-least) in
+        let most : count ≤ 65534 = omega (arith, b .limit-most) in
+        sym (ground-good from count (λ x. omega arith) (λ x. omega arith) (λ x. omega arith))
+
+    bad : (refusalFor r l ≡ 0 → ⊥) → requestGround from count ≡ 0
+    bad z = let w = which-of (sym (refused-answers r l z) ∙ e) in let k : _≡_ {A = ℕ} 0 1 = cc in absurd (omega arith)
+
+keeps-settings : KeepsSettings receiverAfter
+keeps-settings r l =
+    zero-or-not _ (refusalFor r l) (λ e. rw (row-after r l e) (refl, refl)) (λ z. rw (← refused-stays r l (refusalFor r l) refl z) (refl, refl))
+
 -- ---- the number
 
 row-rises : (limit n : ℕ) (k : Kind) (f c : ℕ) (o : Outcome) → Row limit n k f c o → n ≤ o .next
@@ -135,6 +163,30 @@ row-rises limit n k f c o (end-at a b e) = rw e (omega arith)
 number-never-falls : NumberNeverFalls receiverAfter
 number-never-falls r l =
     zero-or-not _ (refusalFor r l) (λ e. rw (row-after r l e) (row-rises _ _ _ _ _ _ (row-of r l e))) (λ z. rw (← refused-stays r l (refusalFor r l) refl z) (omega arith))
+
+-- and where it moves it moves to f + c, which 14 holds below 2^64
+row-within : (limit n : ℕ) (k : Kind) (f c : ℕ) (o : Outcome) → Row limit n k f c o → n ≤ 18446744073709551615
+    → (k ≡ data-packet → f + c ≤ 18446744073709551615) → o .next ≤ 18446744073709551615
+row-within limit n k f c o (data-reaches a b d e) h g = rw e (g a)
+row-within limit n k f c o (data-below a b e) h g = rw e h
+row-within limit n k f c o (heartbeat-below a b e) h g = rw e h
+row-within limit n k f c o (heartbeat-at a b e) h g = rw e h
+row-within limit n k f c o (any-above b e) h g = rw e h
+row-within limit n k f c o (end-at a b e) h g = rw e h
+
+data-within : (l : List ℕ) → refusalOf l ≡ 0 → kindOf l ≡ data-packet → numberOf l + countOf l ≤ 18446744073709551615
+data-within l e k = let n = sound l e .numbers-fit in let b = kind-blocks l data-packet k in omega arith
+
+stays-good : StaysGood receiverAfter
+stays-good r l g = zero-or-not _ (refusalFor r l) good (λ z. rw (← refused-stays r l (refusalFor r l) refl z) g)
+  where
+    good : refusalFor r l ≡ 0 → startRefusal (receiverAfter r l .next .0) (receiverAfter r l .limit .0) ≡ 0
+    good e =
+        let b = in-bounds (r .next .0) (r .limit .0) g in
+        let up = row-rises _ _ _ _ _ _ (row-of r l e) in
+        let most = row-within _ _ _ _ _ _ (row-of r l e) (b .number-most) (data-within l (well-read r l e)) in
+        let least : 1 ≤ rowOf r l .next = omega (arith, b .number-least) in
+        rw (row-after r l e) (sym (start-good (rowOf r l .next) (r .limit .0) least most (b .limit-least) (b .limit-most)))
 
 -- ---- the words tell all answers apart: they read back
 
@@ -164,6 +216,8 @@ receiver-promises =
       follows-the-table = follows-the-table;
       request-exactly-when = request-exactly-when;
       number-never-falls = number-never-falls;
-      refusal-changes-nothing = λ r l z. sym (refused-stays r l (refusalFor r l) refl z);
+      ask-is-a-request = ask-is-a-request;
+      stays-good = stays-good;
+      keeps-settings = keeps-settings;
       tells-apart = tells-apart;
     }

@@ -3,7 +3,10 @@ use mathlib.Core.Path.{_≡_, sym, _∙_}
 use mathlib.Core.List.{List}
 use mathlib.Core.Bool.{false}
 use Prim.Native.Nat.{ℕ, _≤_, _<_}
-use borrow.Author.Tests.{lt-ltb, le-ltb}
+use native.Mathlib.Omega.{arith}
+use lib.Dec.{ltb}
+use borrow.Author.Tests.{lt-ltb, le-ltb, ltb-false}
+use Rattle.moldudp64.proofs.DownstreamLaws.{past-ground}
 use Rattle.receiver.specs.declared.receiver.Receiver.{Receiver}
 use Rattle.receiver.specs.Receiver.{receiver, refusedReceiver, startRefusal, startReceiver}
 
@@ -34,6 +37,22 @@ largest-limit n k h i j m = simp (le-ltb _ _ h, le-ltb _ _ i, le-ltb _ _ j, lt-l
 pub start-good : (n k : ℕ) → 1 ≤ n → n ≤ 18446744073709551615 → 1 ≤ k → k ≤ 65534 → 0 ≡ startRefusal n k
 unfolding startRefusal
 start-good n k h i j m = simp (le-ltb _ _ h, le-ltb _ _ i, le-ltb _ _ j, le-ltb _ _ m)
+
+-- settings that are not refused lie within the four bounds
+pub record InBounds (n k : ℕ) : Type 0 where
+  pub number-least : 1 ≤ n
+  pub number-most : n ≤ 18446744073709551615
+  pub limit-least : 1 ≤ k
+  pub limit-most : k ≤ 65534
+
+pub in-bounds : (n k : ℕ) → startRefusal n k ≡ 0 → InBounds n k
+unfolding startRefusal
+in-bounds n k e =
+    let a = past-ground (ltb n 1) _ _ e (omega arith) in
+    let b = past-ground (ltb 18446744073709551615 n) _ _ (a .1) (omega arith) in
+    let c = past-ground (ltb k 1) _ _ (b .1) (omega arith) in
+    let d = past-ground (ltb 65534 k) _ _ (c .1) (omega arith) in
+    record { number-least = ltb-false _ _ (a .0); number-most = ltb-false _ _ (b .0); limit-least = ltb-false _ _ (c .0); limit-most = ltb-false _ _ (d .0) }
 
 pub started : (s : List ℕ) (n k : ℕ) → startRefusal n k ≡ 0 → startReceiver s n k ≡ receiver s n k false
 unfolding startReceiver

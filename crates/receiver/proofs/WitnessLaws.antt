@@ -1,7 +1,7 @@
 -- Condition 3 speaks of something, and rules something out: one feed, and receivers that idle, do too much or too little.
-use Prim.Native.Nat.{ℕ, zero, suc, _+_, _-_, _<_, _≤_}
+use Prim.Native.Nat.{ℕ, zero, suc, _+_, _<_, _≤_}
 use mathlib.Core.Path.{_≡_, refl, ap, sym, _∙_}
-use mathlib.Core.List.{List, [], _∷_, _++_, List·Memᴰ, List·Memᴰ·cases-cons, List·Memᴰ·not-nil}
+use mathlib.Core.List.{List, [], _∷_, List·Memᴰ, List·Memᴰ·cases-cons, List·Memᴰ·not-nil}
 use mathlib.Core.Logic.{⊎-elim}
 use mathlib.Core.Bool.{true, false}
 use native.Mathlib.Omega.{arith}
@@ -11,6 +11,7 @@ use Rattle.wire.proofs.Words.{which-of}
 use Rattle.moldudp64.specs.Header.{numberOf, countOf, header}
 use Rattle.moldudp64.specs.Blocks.{lengthOf, fits, allFit, afterBlocks, messages, blocksRefusal, blocksOf}
 use Rattle.moldudp64.specs.Downstream.{Kind, data-packet, kindOfCount, kindOf, blockCount, refusalOf, messagesOf}
+use Rattle.moldudp64.specs.Written.{packet, endPacket}
 use Rattle.receiver.specs.declared.receiver.Receiver.{Receiver}
 use Rattle.receiver.specs.Table.{Outcome, Row, data-reaches, data-below, heartbeat-below, heartbeat-at, any-above, end-at, delivers, table}
 use Rattle.wire.specs.Bounds.{blank}
@@ -31,7 +32,7 @@ pub data-true : (f : ℕ) (ms : List Message) → kindOf (dataAt f ms) ≡ data-
 data-true f ms k m n t = true-data k (λ i h. rw (n, m) (t i (rw m at h)))
 
 two-true : OfKind session (dataAt 1 (a ∷ b ∷ []))
-unfolding number bytes header blocksOf numberOf countOf kindOfCount blockCount lengthOf fits allFit afterBlocks messages blocksRefusal refusalOf messagesOf
+unfolding number bytes header blocksOf packet numberOf countOf kindOfCount blockCount lengthOf fits allFit afterBlocks messages blocksRefusal refusalOf messagesOf
 two-true = data-true 1 (a ∷ b ∷ []) refl refl refl go
   where
     go : (i : ℕ) → i < 2 → IsMessage session (1 + i) (getD (a ∷ b ∷ []) i [])
@@ -40,7 +41,7 @@ two-true = data-true 1 (a ∷ b ∷ []) refl refl refl go
     go (suc (suc i)) h = absurd (omega arith)
 
 three-true : OfKind session (dataAt 1 (a ∷ b ∷ c ∷ []))
-unfolding number bytes header blocksOf numberOf countOf kindOfCount blockCount lengthOf fits allFit afterBlocks messages blocksRefusal refusalOf messagesOf
+unfolding number bytes header blocksOf packet numberOf countOf kindOfCount blockCount lengthOf fits allFit afterBlocks messages blocksRefusal refusalOf messagesOf
 three-true = data-true 1 (a ∷ b ∷ c ∷ []) refl refl refl go
   where
     go : (i : ℕ) → i < 3 → IsMessage session (1 + i) (getD (a ∷ b ∷ c ∷ []) i [])
@@ -50,7 +51,7 @@ three-true = data-true 1 (a ∷ b ∷ c ∷ []) refl refl refl go
     go (suc (suc (suc i))) h = absurd (omega arith)
 
 overlap-true : OfKind session (dataAt 2 (b ∷ c ∷ []))
-unfolding number bytes header blocksOf numberOf countOf kindOfCount blockCount lengthOf fits allFit afterBlocks messages blocksRefusal refusalOf messagesOf
+unfolding number bytes header blocksOf packet numberOf countOf kindOfCount blockCount lengthOf fits allFit afterBlocks messages blocksRefusal refusalOf messagesOf
 overlap-true = data-true 2 (b ∷ c ∷ []) refl refl refl go
   where
     go : (i : ℕ) → i < 2 → IsMessage session (2 + i) (getD (b ∷ c ∷ []) i [])
@@ -59,7 +60,7 @@ overlap-true = data-true 2 (b ∷ c ∷ []) refl refl refl go
     go (suc (suc i)) h = absurd (omega arith)
 
 last-true : OfKind session (dataAt 3 (c ∷ []))
-unfolding number bytes header blocksOf numberOf countOf kindOfCount blockCount lengthOf fits allFit afterBlocks messages blocksRefusal refusalOf messagesOf
+unfolding number bytes header blocksOf packet numberOf countOf kindOfCount blockCount lengthOf fits allFit afterBlocks messages blocksRefusal refusalOf messagesOf
 last-true = data-true 3 (c ∷ []) refl refl refl go
   where
     go : (i : ℕ) → i < 1 → IsMessage session (3 + i) (getD (c ∷ []) i [])
@@ -67,19 +68,19 @@ last-true = data-true 3 (c ∷ []) refl refl refl go
     go (suc i) h = absurd (omega arith)
 
 end-true : OfKind session (endAt 4)
-unfolding number bytes header numberOf countOf kindOfCount
+unfolding number bytes header endPacket numberOf countOf kindOfCount
 end-true = true-end refl refl
 
 heartbeat-true : OfKind session (heartbeatAt 9)
-unfolding number bytes header countOf kindOfCount
+unfolding number bytes header blocksOf packet countOf kindOfCount
 heartbeat-true = any-heartbeat refl
 
 broken-true : OfKind session (replicate 19 0)
 unfolding refusalOf
 broken-true = not-well-formed (λ e. let z : _≡_ {A = ℕ} 11 0 = e in omega arith)
 
-other-true : OfKind session (header blank 1 1 ++ blocksOf (c ∷ []))
-unfolding header bytes blocksOf
+other-true : OfKind session (packet blank 1 (c ∷ []))
+unfolding header bytes blocksOf packet
 other-true = another-name (λ e. let z : _≡_ {A = ℕ} 32 82 = ap (λ (l : List ℕ). getD l 0 0) e in omega arith)
 
 -- ---- the feed
@@ -95,7 +96,7 @@ feed-true d m =
     in-front last-true (in-front two-true (in-front other-true (in-front heartbeat-true (in-front broken-true (in-front two-true (in-front end-true (in-front overlap-true (in-front end-true none)))))))) m
 
 pub not-vacuous : NotVacuous
-unfolding number bytes header blocksOf numberOf countOf kindOfCount blockCount lengthOf fits allFit afterBlocks messages blocksRefusal refusalOf messagesOf sameBytes otherSession endBelow ownRefusal refusalFor table answerOf receiverAfter deliveredIn after delivered startRefusal startReceiver
+unfolding number bytes header blocksOf packet endPacket numberOf countOf kindOfCount blockCount lengthOf fits allFit afterBlocks messages blocksRefusal refusalOf messagesOf sameBytes otherSession endBelow ownRefusal refusalFor table answerOf receiverAfter deliveredIn after delivered startRefusal startReceiver
 not-vacuous = record { not-refused = refl; starts = refl; of-kind = feed-true; delivers = refl; ends = refl }
 
 -- ---- idle receivers: the receiver stays, and nothing is delivered
@@ -141,7 +142,7 @@ one-delivered limit n k f x o (end-at p q e) g h i = let z : _≡_ {A = ℕ} 0 1
 
 first-row : (answers : Answers) (step : Steps) → FollowsAtFirst answers step
     → (answers fresh (dataAt 1 (a ∷ [])) ≡ delivers 1 1 1 .reply) × (step fresh (dataAt 1 (a ∷ [])) ≡ moved fresh (delivers 1 1 1))
-unfolding number bytes header blocksOf numberOf countOf kindOfCount
+unfolding number bytes header blocksOf packet numberOf countOf kindOfCount
 first-row answers step f =
     let e = one-delivered 100 1 data-packet 1 1 (f .outcome) (f .its-row) refl (omega arith) (omega arith) in
     (f .its-answer ∙ ap (λ (o : Outcome). o .reply) e, f .its-receiver ∙ ap (moved fresh) e)
@@ -156,20 +157,20 @@ unfolding Condition3For startRefusal startReceiver
 at-session answers step f = f session 1 100 refl (omega arith) (omega arith)
 
 never-moves-breaks : Condition3For answerOf stays → ⊥
-unfolding number bytes header blocksOf numberOf countOf kindOfCount blockCount lengthOf fits allFit afterBlocks messages blocksRefusal refusalOf messagesOf sameBytes otherSession endBelow ownRefusal refusalFor table answerOf deliveredIn after delivered messagesFrom
+unfolding number bytes header blocksOf packet numberOf countOf kindOfCount blockCount lengthOf fits allFit afterBlocks messages blocksRefusal refusalOf messagesOf sameBytes otherSession endBelow ownRefusal refusalFor table answerOf deliveredIn after delivered messagesFrom
 never-moves-breaks f =
     let e : a ∷ b ∷ [] ≡ [] = at-session answerOf stays f .delivers-true (dataAt 1 (a ∷ b ∷ []) ∷ []) (one-of _ two-true) .exactly in
     let w : _≡_ {A = ℕ} 2 0 = ap length e in
     omega arith
 
 overlap-breaks : Condition3For overlapOld overlapStays → ⊥
-unfolding number bytes header blocksOf numberOf countOf kindOfCount blockCount lengthOf fits allFit afterBlocks messages blocksRefusal refusalOf messagesOf sameBytes otherSession endBelow ownRefusal refusalFor table answerOf receiverAfter deliveredIn after delivered
+unfolding number bytes header blocksOf packet numberOf countOf kindOfCount blockCount lengthOf fits allFit afterBlocks messages blocksRefusal refusalOf messagesOf sameBytes otherSession endBelow ownRefusal refusalFor table answerOf receiverAfter deliveredIn after delivered
 overlap-breaks f =
     let w : 3 ≤ 2 = at-session overlapOld overlapStays f .one-more [] (dataAt 1 (a ∷ b ∷ c ∷ []) ∷ []) (dataAt 1 (a ∷ b ∷ [])) (one-of _ three-true) two-true .as-many in
     omega arith
 
 jump-breaks : Condition3For jumpDelivers jumps → ⊥
-unfolding number bytes header blocksOf numberOf countOf kindOfCount blockCount lengthOf fits allFit afterBlocks messages blocksRefusal refusalOf messagesOf sameBytes otherSession endBelow ownRefusal refusalFor table answerOf receiverAfter deliveredIn after delivered messagesFrom
+unfolding number bytes header blocksOf packet numberOf countOf kindOfCount blockCount lengthOf fits allFit afterBlocks messages blocksRefusal refusalOf messagesOf sameBytes otherSession endBelow ownRefusal refusalFor table answerOf receiverAfter deliveredIn after delivered messagesFrom
 jump-breaks f =
     let e : c ∷ [] ≡ a ∷ b ∷ c ∷ [] = at-session jumpDelivers jumps f .delivers-true (dataAt 3 (c ∷ []) ∷ []) (one-of _ last-true) .exactly in
     let w : _≡_ {A = ℕ} 1 3 = ap length e in

@@ -6,9 +6,10 @@ use mathlib.Core.Path.{_≡_}
 use lib.ListN.{length, getD, drop}
 use lib.Dec.{ltb}
 use Rattle.wire.specs.Choice.{if_then_else_}
+use Rattle.wire.specs.Bounds.{largestCount}
 use Rattle.wire.specs.Words.{Words, Case, answer, refused, says}
 use Rattle.wire.specs.Bytes.{AreBytes}
-use Rattle.moldudp64.specs.Downstream.{messagesOf}
+use Rattle.moldudp64.specs.Downstream.{messagesOf, messageNumber}
 use Rattle.moldudp64_messages.specs.declared.cursor.Cursor.{Cursor}
 use Rattle.moldudp64_messages.specs.Cursor.{firstOf, movedBy, located, part}
 use Rattle.receiver.specs.declared.receiver.Receiver.{Receiver}
@@ -28,10 +29,6 @@ deliveredIn refused values l = []
 abbrev pub deliveredBy : Words Reply → List ℕ → List (List ℕ)
 deliveredBy w l = deliveredIn (w .which) (w .values) l
 
--- the largest count of 16 bits
-abbrev pub largestCount : ℕ
-largestCount = 65535
-
 -- the cursor at the first message that is not skipped, of a datagram with count + skipped messages; the two may be forged, and
 -- where they make no 16-bit count none is left
 unfoldable pub deliveryOf : List ℕ → ℕ → ℕ → Cursor
@@ -44,7 +41,13 @@ pub record Visits (l : List ℕ) (ms : List (List ℕ)) (c : Cursor) (count : �
   pub stops : (i : ℕ) → count ≤ i → located l (movedBy i l c) .exists ≡ false
   pub each : (i : ℕ) → part l (located l (movedBy i l c)) ≡ getD ms i []
 
--- the cursor visits what a deliver answer delivers
+-- a deliver answer of a datagram, whose values are these: its first number is that of the message after the skipped ones, and
+-- the cursor visits what it delivers
+pub record Delivers (l : List ℕ) (ms : List (List ℕ)) (first count skipped : ℕ) : Type 0 where
+  pub its-number : first ≡ messageNumber l skipped
+  pub visits : Visits l ms (deliveryOf l count skipped) count
+
+-- every deliver answer of a receiver is so
 unfoldable pub DeliveryVisits : Type 0
 DeliveryVisits = (r : Receiver) (l : List ℕ) (first count skipped : ℕ) → AreBytes l → answerOf r l ≡ says deliver (first ∷ count ∷ skipped ∷ [])
-    → Visits l (deliveredBy (answerOf r l) l) (deliveryOf l count skipped) count
+    → Delivers l (deliveredBy (answerOf r l) l) first count skipped

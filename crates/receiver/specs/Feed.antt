@@ -7,7 +7,7 @@ use mathlib.Core.Bool.{Bool, true}
 use lib.ListN.{length, take, drop, getD}
 use Rattle.wire.specs.Bounds.{sessionSize}
 use Rattle.moldudp64.specs.Header.{numberOf}
-use Rattle.moldudp64.specs.Downstream.{data-packet, heartbeat, end-of-session, kindOf, refusalOf, messagesOf}
+use Rattle.moldudp64.specs.Downstream.{data-packet, heartbeat, end-of-session, kindOf, refusalOf, messagesOf, messageNumber}
 
 abbrev pub Message : Type 0
 Message = List ℕ
@@ -34,16 +34,12 @@ pub record IsMessage (s : Session) (k : ℕ) (m : Message) : Type 0 where
 unfoldable pub messagesFrom : Session → ℕ → ℕ → List Message
 messagesFrom s a b = take (b - a) (drop (a - 1) (s .messages))
 
--- a datagram is well-formed when none of 11 to 16 applies to it
-abbrev pub WellFormed : Datagram → Type 0
-WellFormed d = refusalOf d ≡ 0
-
--- condition 3's kind
+-- condition 3's kind; document 01's "well-formed": none of 11 to 16 applies
 pub data OfKind (s : Session) (d : Datagram) : Type 0 where
-  not-well-formed : (WellFormed d → ⊥) → OfKind s d
+  not-well-formed : (refusalOf d ≡ 0 → ⊥) → OfKind s d
   another-name : (take sessionSize d ≡ s .name → ⊥) → OfKind s d
   any-heartbeat : kindOf d ≡ heartbeat → OfKind s d
-  true-data : kindOf d ≡ data-packet → ((i : ℕ) → i < length (messagesOf d) → IsMessage s (numberOf d + i) (getD (messagesOf d) i []))
+  true-data : kindOf d ≡ data-packet → ((i : ℕ) → i < length (messagesOf d) → IsMessage s (messageNumber d i) (getD (messagesOf d) i []))
       → OfKind s d
   true-end : kindOf d ≡ end-of-session → numberOf d ≡ lastOf s + 1 → OfKind s d
 
@@ -54,8 +50,8 @@ All {E} Kind es = (e : E) → List·Memᴰ e es → Kind e
 abbrev pub AllOfKind : Session → List Datagram → Type 0
 AllOfKind s ds = All (OfKind s) ds
 
--- a receiver, whatever it keeps, that takes inputs of a type E one by one (E is Datagram, or a datagram with what is lent beside
--- it): what it is after one, what that one delivers, the receiver's number, whether it is ended
+-- a receiver, whatever it keeps, that takes inputs of a type E one by one: what it is after one, what that one delivers, the
+-- receiver's number, whether it is ended. Condition 3 is stated below for a receiver of datagrams alone, E = Datagram
 pub record Machine (E : Type 0) : Type 1 where
   pub State : Type 0
   pub step : State → E → State

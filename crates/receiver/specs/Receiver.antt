@@ -85,6 +85,8 @@ answerOf r l = if accepted r l then rowOf r l .reply else refuses (refusalFor r 
 unfoldable pub receiverAfter : Receiver → List ℕ → Receiver
 receiverAfter r l = if accepted r l then moved r (rowOf r l) else r
 
+-- ---- for private helpers alone; no public promise uses it
+
 -- a row taken: x is the answer with the next receiver
 pub record Takes (x : Taken) (r : Receiver) (o : Outcome) : Type 0 where
   pub answers : answerWords (x .answer) ≡ o .reply

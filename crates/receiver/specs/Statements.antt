@@ -1,13 +1,14 @@
 -- What is promised of a receiver at one datagram. A receiver is how it answers and what it is then.
-use Prim.Native.Nat.{ℕ, _-_, _<_, _≤_, min}
+use Prim.Native.Nat.{ℕ, _<_, _≤_}
 use mathlib.Core.List.{List, [], _∷_}
 use mathlib.Core.Path.{_≡_}
 use Rattle.wire.specs.Words.{Words, answer, says, refuses, Injective}
 use Rattle.moldudp64.specs.Header.{numberOf, countOf}
 use Rattle.moldudp64.specs.Downstream.{kindOf}
+use Rattle.moldudp64.specs.Request.{requestGround}
 use Rattle.receiver.specs.declared.receiver.Receiver.{Receiver}
-use Rattle.receiver.specs.Table.{Reply, ask, Outcome, Row, answerWords}
-use Rattle.receiver.specs.Receiver.{refusalFor, moved, answerOf, receiverAfter}
+use Rattle.receiver.specs.Table.{Reply, ask, askFor, Outcome, Row, answerWords}
+use Rattle.receiver.specs.Receiver.{startRefusal, refusalFor, moved, answerOf, receiverAfter}
 
 -- how a receiver answers
 abbrev pub Answers : Type 0
@@ -38,21 +39,33 @@ pub record FollowsTheTable (answers : Answers) (step : Steps) : Type 0 where
 -- of the distance and the limit
 pub record RequestExactlyWhen (answers : Answers) : Type 0 where
   pub when : (r : Receiver) (l : List ℕ) → refusalFor r l ≡ 0 → r .next .0 < numberOf l
-      → answers r l ≡ says ask (r .next .0 ∷ min (numberOf l - r .next .0) (r .limit .0) ∷ [])
+      → answers r l ≡ says ask (r .next .0 ∷ askFor (r .limit .0) (r .next .0) (numberOf l) ∷ [])
   pub only-when : (r : Receiver) (l : List ℕ) → refusalFor r l ≡ 0 → answers r l .which ≡ answer ask → r .next .0 < numberOf l
 
 -- the number never falls
 abbrev pub NumberNeverFalls : Steps → Type 0
 NumberNeverFalls step = (r : Receiver) (l : List ℕ) → r .next .0 ≤ step r l .next .0
 
--- a refusal changes nothing
-abbrev pub RefusalChangesNothing : Steps → Type 0
-RefusalChangesNothing step = (r : Receiver) (l : List ℕ) → (refusalFor r l ≡ 0 → ⊥) → step r l ≡ r
+-- the request for an ask of a receiver whose settings are good is never refused
+abbrev pub AskIsARequest : Answers → Type 0
+AskIsARequest answers = (r : Receiver) (l : List ℕ) (from count : ℕ) → startRefusal (r .next .0) (r .limit .0) ≡ 0
+    → answers r l ≡ says ask (from ∷ count ∷ []) → requestGround from count ≡ 0
+
+-- settings that are good stay good, so that this holds after any list
+abbrev pub StaysGood : Steps → Type 0
+StaysGood step = (r : Receiver) (l : List ℕ) → startRefusal (r .next .0) (r .limit .0) ≡ 0
+    → startRefusal (step r l .next .0) (step r l .limit .0) ≡ 0
+
+-- no step changes the name or the limit
+abbrev pub KeepsSettings : Steps → Type 0
+KeepsSettings step = (r : Receiver) (l : List ℕ) → (step r l .session ≡ r .session) × (step r l .limit ≡ r .limit)
 
 -- what taking a datagram promises beside its answer
 pub record ReceiverPromises : Type 0 where
   pub follows-the-table : FollowsTheTable answerOf receiverAfter
   pub request-exactly-when : RequestExactlyWhen answerOf
   pub number-never-falls : NumberNeverFalls receiverAfter
-  pub refusal-changes-nothing : RefusalChangesNothing receiverAfter
+  pub ask-is-a-request : AskIsARequest answerOf
+  pub stays-good : StaysGood receiverAfter
+  pub keeps-settings : KeepsSettings receiverAfter
   pub tells-apart : Injective answerWords

@@ -1,16 +1,16 @@
 -- Condition 3 speaks of something, and rules something out.
-use Prim.Native.Nat.{ℕ, _+_}
+use Prim.Native.Nat.{ℕ}
 use mathlib.Core.Path.{_≡_}
-use mathlib.Core.List.{List, [], _∷_, _++_}
+use mathlib.Core.List.{List, [], _∷_}
 use mathlib.Core.Bool.{Bool, true, false}
-use lib.ListN.{length, replicate}
+use lib.ListN.{replicate}
 use lib.Dec.{ltb, eqb}
 use Rattle.wire.specs.Choice.{if_then_else_}
 use Rattle.wire.specs.Refusals.{datagramShort}
 use Rattle.wire.specs.Words.{says, refuses}
-use Rattle.moldudp64.specs.Header.{endCount, numberOf, countOf, header}
-use Rattle.moldudp64.specs.Blocks.{blocksOf}
+use Rattle.moldudp64.specs.Header.{numberOf, countOf}
 use Rattle.moldudp64.specs.Downstream.{Kind, data-packet, heartbeat, end-of-session, kindOf}
+use Rattle.moldudp64.specs.Written.{packet, endPacket}
 use Rattle.receiver.specs.declared.receiver.Receiver.{Receiver}
 use Rattle.receiver.specs.Table.{deliver, old, ask, delivers}
 use Rattle.wire.specs.Bounds.{blank}
@@ -38,13 +38,13 @@ abbrev pub session : Session
 session = record { name = name; messages = a ∷ b ∷ c ∷ [] }
 
 abbrev pub dataAt : ℕ → List Message → Datagram
-dataAt f ms = header name f (length ms) ++ blocksOf ms
+dataAt f ms = packet name f ms
 
 abbrev pub heartbeatAt : ℕ → Datagram
-heartbeatAt f = header name f 0
+heartbeatAt f = packet name f []
 
 abbrev pub endAt : ℕ → Datagram
-endAt f = header name f endCount
+endAt f = endPacket name f
 
 abbrev pub fresh : Receiver
 fresh = receiver name 1 100 false
@@ -56,7 +56,7 @@ abbrev pub feed : List Datagram
 feed =
     dataAt 3 (c ∷ [])
     ∷ dataAt 1 (a ∷ b ∷ [])
-    ∷ (header blank 1 1 ++ blocksOf (c ∷ []))
+    ∷ packet blank 1 (c ∷ [])
     ∷ heartbeatAt 9
     ∷ replicate 19 0
     ∷ dataAt 1 (a ∷ b ∷ [])
@@ -91,7 +91,9 @@ asksAlways r d = says ask (r .next .0 ∷ r .limit .0 ∷ [])
 
 -- ---- receivers that do too much or too little
 
--- delivers everything at the first datagram: its number is then past all three messages, and from there it goes by the table
+-- answers at the first datagram that it delivers all three messages, as a receiver that gives everything at once would; its number is
+-- then past them, and from there it goes by the table (what an answer delivers is the datagram's own messages, so this one claims
+-- more than it gives)
 abbrev pub allAtOnce : Answers
 allAtOnce r d = if eqb (r .next .0) 1 then says deliver (1 ∷ 3 ∷ 0 ∷ []) else answerOf r d
 
@@ -128,7 +130,7 @@ jumps r d = if ahead r d then moved r (delivers (numberOf d) (numberOf d) (count
 abbrev pub FollowsAtFirst : Answers → Steps → Type 0
 FollowsAtFirst answers step = Follows answers step fresh (dataAt 1 (a ∷ []))
 
--- the idle receivers meet condition 3 and break the table's row at the first message; the one that delivers everything there breaks
+-- the idle receivers meet condition 3 and break the table's row at the first message; the one that claims everything there breaks
 -- that row; the one that delivers and never moves its number, the one that calls an overlap old and the one that jumps break
 -- condition 3
 pub record NotWeak : Type 0 where

@@ -8,6 +8,7 @@ use text_fields::number::Number;
 use wire::kinds::ByteOffset;
 use wire::kinds::SESSION_SIZE;
 use wire::kinds::SequenceNumber;
+use wire::number;
 ghost use mathlib.Core.Path.{_≡_};
 ghost use mathlib.Core.List.{[], _∷_};
 ghost use Prim.Native.Nat.{_+_};
@@ -30,7 +31,7 @@ pub enum Fields {
 pub(crate) fn letter(stream: &[u8]) -> u8
     ensures { λ r. ⌜ r ≡ letterOf (now (stream .entry)) ⌝ }
 {
-    parts::byte(stream, ByteOffset(LENGTH_SIZE))
+    number::byte(stream, ByteOffset(LENGTH_SIZE))
 }
 
 // Where the session stands in a packet of a letter; the number follows it.
@@ -152,7 +153,7 @@ pub(crate) fn packet(stream: &[u8], letter: u8, good: bool, number: Number) -> F
         return with_number(letter, good, number);
     }
     if letter == b'J' {
-        return with_reason(parts::byte(stream, ByteOffset(HEAD_SIZE)));
+        return with_reason(number::byte(stream, ByteOffset(HEAD_SIZE)));
     }
     Fields::Good {
         packet: plain(letter),

@@ -20,6 +20,10 @@ use vector_lines::print;
 const MOST_TEXT: usize = 524288;
 
 fn ask(letter: u8, fields: &[u8]) {
+    if letter == b'a' {
+        bounds::tell();
+        return;
+    }
     if letter < b'e' {
         slices::ask(letter, fields);
         return;
@@ -36,11 +40,7 @@ fn ask(letter: u8, fields: &[u8]) {
         servers::ask(letter, fields);
         return;
     }
-    if letter < b's' {
-        clients::ask(letter, fields);
-        return;
-    }
-    bounds::tell();
+    clients::ask(letter, fields);
 }
 
 // Prints a line's answer, or the line itself where it is a heading.

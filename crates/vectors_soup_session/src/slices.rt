@@ -6,9 +6,6 @@ use wire::kinds::ByteOffset;
 fn cut(letter: u8, fields: &[u8], data: &[u8]) {
     let at = ByteOffset(parse::number(fields, b'a') as usize);
     match letter {
-        b'a' => {
-            print::bytes(&[parts::byte(data, at)]);
-        }
         b'b' => {
             print::bytes(parts::part(data, at, parse::number(fields, b's') as usize));
         }

@@ -27,6 +27,9 @@ fn read(letter: u8, data: &[u8], at: ByteOffset, session: [u8; SESSION_SIZE]) {
         b'g' => {
             print::truth(b"", compare::is_name(data, session));
         }
+        b'h' => {
+            print::number(b"", number::byte(data, at) as u64);
+        }
         _ => {}
     }
 }

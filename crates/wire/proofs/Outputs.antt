@@ -15,7 +15,7 @@ use Rattle.wire.specs.Words.{Case, answer, refused, says, refuses}
 use Rattle.wire.specs.Bytes.{number, bytes}
 use Rattle.wire.specs.declared.output.Written.{Written}
 use Rattle.wire.specs.declared.output.Written.the-variants.{Wrote, Refused}
-use Rattle.wire.specs.Output.{Writing, wrote, writtenWords, put, writeRefusal, writeAnswer, writeOutput, Writes, Outside, ReadsBack, AdjacentAreOne, OnlyItsBytes, RefusalWritesNothing, TellsApart, OutputLaws}
+use Rattle.wire.specs.Output.{Writing, wrote, writtenWords, put, writeRefusal, writeAnswer, writeOutput, Writes, Outside, ReadsBack, AdjacentAreOne, OnlyWhatItReports, RefusalWritesNothing, TellsApart, OutputLaws}
 use Rattle.wire.proofs.Words.{which-of, values-of, read-back}
 use Rattle.wire.proofs.Numbers.{length-bytes, number-bytes}
 
@@ -50,8 +50,7 @@ take-laid : (l : List ℕ) (at : ℕ) (bs : List ℕ) → at + length bs ≤ len
 take-laid l at bs h = omega (arith, length-append (take at l) bs, length-take at l)
 
 -- a write changes nothing outside its bytes
-only-its-bytes : OnlyItsBytes
-unfolding OnlyItsBytes
+only-its-bytes : (l : List ℕ) (at : ℕ) (bs : List ℕ) → Outside l (put l at bs) at (at + length bs)
 only-its-bytes l at bs = either l at bs _ room none
   where
     room : at + length bs ≤ length l → Outside l (put l at bs) at (at + length bs)
@@ -188,6 +187,14 @@ wrote-so g l at bs k = go (eqb g 0) refl (leb (at + length bs) (length l)) refl
     go true d false f e = let w = which-of e in let z : _≡_ {A = ℕ} 0 1 = cc in absurd (omega arith)
     go false d c f e = let w = which-of (rw d at e) in let z : _≡_ {A = ℕ} 0 1 = cc in absurd (omega arith)
 
+-- it changes only the bytes that it reports
+only-what-it-reports : OnlyWhatItReports
+unfolding OnlyWhatItReports
+only-what-it-reports r l m g at bs k w e =
+    let s = wrote-so g l at bs k (sym (w .answers) ∙ e) in
+    let p : m ≡ put l at bs = w .leaves ∙ rw (s .no-ground) in
+    rw (p, s .size) (only-its-bytes l at bs)
+
 -- the bytes that it reports are its bytes
 pub wrote-front : (g : ℕ) (l bs : List ℕ) (k : ℕ) → writeAnswer g l 0 bs ≡ says wrote (k ∷ []) → take k (writeOutput g l 0 bs) ≡ bs
 wrote-front g l bs k e =
@@ -228,7 +235,7 @@ output-laws =
     record {
       reads-back = reads-back;
       adjacent-are-one = adjacent-are-one;
-      only-its-bytes = only-its-bytes;
+      only-what-it-reports = only-what-it-reports;
       refusal-writes-nothing = refusal-nothing;
       tells-apart = tells-apart;
     }

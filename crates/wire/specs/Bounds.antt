@@ -19,7 +19,12 @@ sessionSize = 10
 abbrev pub blank : List ℕ
 blank = replicate sessionSize 32
 
--- the fewest and the most messages that one request may ask for
+-- the largest number of 16 bits, as a count or a length has
+abbrev pub largestCount : ℕ
+largestCount = 65535
+
+-- the bounds of a receiver's asking limit, which are the fewest and the most messages that a request asks for: none is 48, and so is
+-- 65,535, the count of an end of session
 abbrev pub leastLimit : ℕ
 leastLimit = 1
 

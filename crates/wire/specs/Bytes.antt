@@ -16,6 +16,11 @@ unfoldable pub bytes : ℕ → ℕ → List ℕ
 bytes zero v = []
 bytes (suc n) v = bytes n (v / 256) ++ (v % 256 ∷ [])
 
+-- all pieces as one
+unfoldable pub joined : List (List ℕ) → List ℕ
+joined [] = []
+joined (p ∷ ps) = p ++ joined ps
+
 -- two lists have the same bytes in the same order, and no more
 unfoldable pub sameBytes : List ℕ → List ℕ → Bool
 sameBytes [] [] = true

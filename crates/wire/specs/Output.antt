@@ -56,14 +56,16 @@ unfoldable pub AdjacentAreOne : Type 0
 AdjacentAreOne = (l : List ℕ) (at : ℕ) (a b : List ℕ) → at + length a + length b ≤ length l
     → put (put l at a) (at + length a) b ≡ put l at (a ++ b)
 
--- a write changes nothing outside its bytes
+-- an output l and what became of it, m, are the same but for the bytes from one place to another
 pub record Outside (l m : List ℕ) (from to : ℕ) : Type 0 where
   pub size : length m ≡ length l
   pub before : take from m ≡ take from l
   pub behind : drop to m ≡ drop to l
 
-unfoldable pub OnlyItsBytes : Type 0
-OnlyItsBytes = (l : List ℕ) (at : ℕ) (bs : List ℕ) → Outside l (put l at bs) at (at + length bs)
+-- a writer that succeeds changes only the bytes it reports
+unfoldable pub OnlyWhatItReports : Type 0
+OnlyWhatItReports = (r : Written) (l m : List ℕ) (g at : ℕ) (bs : List ℕ) (size : ℕ) → Writes r l m g at bs
+    → writtenWords r ≡ says wrote (size ∷ []) → Outside l m at (at + size)
 
 -- a refusal writes nothing
 unfoldable pub RefusalWritesNothing : Type 0
@@ -78,6 +80,6 @@ TellsApart = Injective writtenWords
 pub record OutputLaws : Type 0 where
   pub reads-back : ReadsBack
   pub adjacent-are-one : AdjacentAreOne
-  pub only-its-bytes : OnlyItsBytes
+  pub only-what-it-reports : OnlyWhatItReports
   pub refusal-writes-nothing : RefusalWritesNothing
   pub tells-apart : TellsApart

@@ -27,7 +27,8 @@ fn join64(a: u8, b: u8, c: u8, d: u8, e: u8, f: u8, g: u8, h: u8) -> u64
     high * 4294967296 + low
 }
 
-fn byte(s: &[u8], at: ByteOffset) -> u8
+// The byte at a place; a byte past the end counts as 0.
+pub fn byte(s: &[u8], at: ByteOffset) -> u8
     ensures { λ r. ⌜ r ≡ getD (now (s .entry)) (at .0) 0 ⌝ }
 {
     let i = at.0;
