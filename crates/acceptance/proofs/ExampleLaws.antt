@@ -9,7 +9,7 @@ use Rattle.parts.specs.Parts.{firstBytes}
 use Rattle.moldudp64.specs.Header.{numberOf, countOf, header}
 use Rattle.moldudp64.specs.Blocks.{lengthOf, fits, allFit, afterBlocks, messages, blocksRefusal, blocksOf}
 use Rattle.moldudp64.specs.Downstream.{kindOfCount, blockCount, refusalOf, readOf, messagesOf}
-use Rattle.moldudp64_writer.specs.Writer as mold
+use Rattle.moldudp64.specs.Written as mold
 use Rattle.receiver.specs.Table.{table}
 use Rattle.receiver.specs.Receiver.{otherSession, endBelow, ownRefusal, refusalFor, answerOf, receiverAfter}
 use Rattle.receiver.specs.Delivery.{deliveredIn}

@@ -8,7 +8,7 @@ use Rattle.wire.specs.Bounds.{blank}
 use Rattle.wire.specs.Refusals.{datagramShort, numbersRunOut, bytesAfterBlocks, fieldBad}
 use Rattle.wire.specs.Words.{Words, says, refuses}
 use Rattle.moldudp64.specs.Downstream.{Kind, data-packet, readOf}
-use Rattle.moldudp64_writer.specs.Writer as mold
+use Rattle.moldudp64.specs.Written as mold
 use Rattle.receiver.specs.Table.{Reply, deliver, old, ask}
 use Rattle.receiver.specs.Receiver.{receiver, answerOf, receiverAfter}
 use Rattle.receiver.specs.Delivery.{deliveredBy}
