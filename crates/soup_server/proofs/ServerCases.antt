@@ -14,13 +14,13 @@ use Rattle.soupbintcp.specs.Head.{letterOf}
 use Rattle.soupbintcp.specs.Front.{packet, frontOf, sessionOf}
 use Rattle.soupbintcp.specs.Front as front
 use Rattle.soupbintcp.proofs.LetterLaws.{choice}
+use Rattle.soupbintcp.proofs.KindLaws.{its-letter}
 use Rattle.soupbintcp.proofs.ScanLaws.{FrontIs, stops-short, stops-at, passes, front-is}
 use Rattle.login.specs.declared.account.Account.{Account}
 use Rattle.login.specs.Account.{Knowing, lookupOf}
 use Rattle.login.specs.Decision.{Deciding, accepted, rejected, decisionOf}
 use Rattle.soup_session.specs.Answer.{Reply, wants-more, unsequenced, heartbeat, debug, logged-out, messageAt, Outcome, stays, takes}
 use Rattle.soup_session.specs.Answer as reply
-use Rattle.soup_session.proofs.PacketLaws.{its-letter}
 use Rattle.soup_session.proofs.FrontCases.{InFront, front-stays, session-stays, username-stays, password-stays, Plain, a-rejection, a-heartbeat, a-debug, a-logout, plain-takes, accepted-takes, unsequenced-takes, plain-not-unsequenced}
 use Rattle.soup_session.proofs.StepLaws.{Rests, waits, refusing, Does}
 use Rattle.soup_session.proofs.StepLaws as does
