@@ -14,7 +14,7 @@ use Rattle.soupbintcp.specs.Letters.{mostPayload, row, rowOf, sends, all
 -- ---- the rows
 
 module _ (c : ℕ) (r : Row) where
-  pub row-plus : r ≡ row true true 0 4096 → c ≡ 43 → r ≡ rowOf c
+  pub row-plus : r ≡ row true true 0 mostPayload → c ≡ 43 → r ≡ rowOf c
   unfolding rowOf
   row-plus f e = simp e f
 
@@ -26,7 +26,7 @@ module _ (c : ℕ) (r : Row) where
   unfolding rowOf
   row-J f e = simp e f
 
-  pub row-S : r ≡ row true false 0 4096 → c ≡ 83 → r ≡ rowOf c
+  pub row-S : r ≡ row true false 0 mostPayload → c ≡ 83 → r ≡ rowOf c
   unfolding rowOf
   row-S f e = simp e f
 
@@ -42,7 +42,7 @@ module _ (c : ℕ) (r : Row) where
   unfolding rowOf
   row-L f e = simp e f
 
-  pub row-U : r ≡ row false true 0 4096 → c ≡ 85 → r ≡ rowOf c
+  pub row-U : r ≡ row false true 0 mostPayload → c ≡ 85 → r ≡ rowOf c
   unfolding rowOf
   row-U f e = simp e f
 
