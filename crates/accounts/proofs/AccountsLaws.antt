@@ -1,6 +1,6 @@
--- Laws of a table of account records: how many records of a table by value are used, and that the same records as bytes give the same answers.
+-- Laws of a table of account records: how many records of a table by value are used, and that the records laid as bytes are read as the same records.
 use Prim.Native.Nat.{ℕ, zero, suc, _*_, _/_, _≤_, _<_}
-use mathlib.Core.Path.{_≡_, refl, ap}
+use mathlib.Core.Path.{_≡_, refl}
 use mathlib.Core.List.{List, [], _∷_, _++_, append-assoc}
 use native.Mathlib.Omega.{arith}
 use lib.ListN.{length, drop, length-append, length-drop}
@@ -9,9 +9,7 @@ use lib.Dec.{lit≤}
 use borrow.Author.Tests.{le-ltb, lt-ltb}
 use Rattle.wire.proofs.Cases.{below-or-not}
 use Rattle.login.specs.declared.account.Account.{Account}
-use Rattle.login.specs.Account.{lookupOf}
 use Rattle.login.specs.Table.{recordOf, recordsUpTo, recordsOf}
-use Rattle.soup_server.specs.Server.{serverStep}
 use Rattle.accounts.specs.Accounts.{usedOf, Sized, AllSized, none, one-more, flat, FlatIsTheSame}
 
 -- ---- a table by value
@@ -81,7 +79,5 @@ records-sized l = up-to-sized (length l / 16) l (omega arith)
 pub flat-same : FlatIsTheSame
 flat-same = record {
   records = flat-records;
-  lookups = λ t left e ss h. ap (λ (u : List Account). lookupOf u e) (flat-records t left ss h);
-  steps = λ t left s l ss h. ap (λ (u : List Account). serverStep u s l) (flat-records t left ss h);
   sized = records-sized;
 }

@@ -7,10 +7,7 @@ use lib.Dec.{ltb}
 use Rattle.wire.specs.Choice.{if_then_else_}
 use Rattle.text_fields.specs.Sound.{usernameSize, passwordSize}
 use Rattle.login.specs.declared.account.Account.{Account}
-use Rattle.login.specs.Account.{lookupOf}
 use Rattle.login.specs.Table.{recordSize, recordsOf}
-use Rattle.soup_server.specs.declared.server.Server.{Server}
-use Rattle.soup_server.specs.Server.{serverStep}
 
 -- how many records a table by value has
 abbrev pub tableRecords : ℕ
@@ -36,11 +33,8 @@ unfoldable pub flat : List Account → List ℕ
 flat [] = []
 flat (a ∷ t) = a .username ++ a .password ++ flat t
 
--- with bytes left over, which are no record, they are the same records and give the same answers; and every table that is lent as bytes
--- holds such records
+-- with bytes left over, which are no record, they are the same records, and so give the same answers; and every table that is lent as
+-- bytes holds such records
 pub record FlatIsTheSame : Type 0 where
   pub records : (t : List Account) (left : List ℕ) → AllSized t → length left < recordSize → recordsOf (flat t ++ left) ≡ t
-  pub lookups : (t : List Account) (left : List ℕ) (e : Account) → AllSized t → length left < recordSize → lookupOf (recordsOf (flat t ++ left)) e ≡ lookupOf t e
-  pub steps : (t : List Account) (left : List ℕ) (s : Server) (l : List ℕ) → AllSized t → length left < recordSize
-      → serverStep (recordsOf (flat t ++ left)) s l ≡ serverStep t s l
   pub sized : (l : List ℕ) → AllSized (recordsOf l)

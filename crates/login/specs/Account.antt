@@ -1,4 +1,4 @@
--- Account records: an entry is a username and a password like one, and the first sound record with its username decides.
+-- Account records: an entry has the same two fields, and the first sound record with its username decides.
 use Prim.Native.Nat.{ℕ, _+_}
 use mathlib.Core.List.{List, [], _∷_}
 use mathlib.Core.Bool.{Bool, true, false}

@@ -3,6 +3,7 @@ use crate::account;
 use crate::account::Account;
 use crate::account::MOST_ACCOUNTS;
 use crate::account::Verdict;
+use text_fields::sound::PASSWORD_SIZE;
 use text_fields::sound::USERNAME_SIZE;
 ghost use mathlib.Core.Path.{_≡_};
 ghost use Prim.Native.Nat.{_≤_};
@@ -11,7 +12,7 @@ ghost use Rattle.login.specs.Account.{verdictWords, lookupOf};
 ghost use Rattle.login.specs.Table.{recordSize, recordOf, recordsOf};
 
 // Bytes of a record.
-pub const RECORD_SIZE: usize = 16;
+pub const RECORD_SIZE: usize = USERNAME_SIZE + PASSWORD_SIZE;
 
 // The first record of a table.
 fn first(table: &[u8]) -> Account

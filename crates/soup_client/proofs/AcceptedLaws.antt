@@ -11,8 +11,9 @@ use Rattle.soupbintcp.specs.Letters.{accepted, letterFor}
 use Rattle.soupbintcp.specs.Head.{letterOf}
 use Rattle.soupbintcp.specs.Fields.{hasFields, sessionAt, sessionBytes}
 use Rattle.soupbintcp.specs.Front.{packet, frontOf, sessionOf}
+use Rattle.soupbintcp.proofs.KindLaws.{its-letter}
 use Rattle.soupbintcp.proofs.StableLaws.{fields-reach, said-session}
-use Rattle.soup_session.proofs.PacketLaws.{whole, its-letter, first-all, part-length}
+use Rattle.soup_session.proofs.PacketLaws.{whole, first-all, part-length}
 
 module _ (l : List ℕ) (k : ℕ) (vs : List ℕ) (e : frontOf Server l ≡ says (packet accepted) (k ∷ vs)) where
   accepted-letter : letterOf l ≡ 65

@@ -16,9 +16,9 @@ use Rattle.soupbintcp.specs.Head.{letterOf}
 use Rattle.soupbintcp.specs.Front.{packet, frontOf, sessionOf}
 use Rattle.soupbintcp.specs.Front as front
 use Rattle.soupbintcp.proofs.LetterLaws.{choice}
+use Rattle.soupbintcp.proofs.KindLaws.{its-letter}
 use Rattle.soupbintcp.proofs.ScanLaws.{FrontIs, stops-short, stops-at, passes, front-is}
 use Rattle.soup_session.specs.Answer.{Reply, wants-more, accepted, rejected, sequenced, heartbeat, debug, end-of-session, messageAt, Outcome, stays, takes}
-use Rattle.soup_session.proofs.PacketLaws.{its-letter}
 use Rattle.soup_session.proofs.FrontCases.{apart, InFront, front-stays, session-stays, Plain, a-rejection, a-heartbeat, a-debug, an-end, plain-takes, accepted-takes, sequenced-takes, plain-not-sequenced}
 use Rattle.soup_session.proofs.StepLaws.{Rests, waits, refusing, Does}
 use Rattle.soup_session.proofs.StepLaws as does

@@ -24,7 +24,7 @@ use Rattle.soupbintcp.proofs.packet.Packet.{the-type}
 use Rattle.soup_session.specs.declared.answer.Answer.{Answer}
 use Rattle.soup_session.specs.declared.answer.Answer.the-variants.{NeedMore, Accepted, Rejected, Sequenced, Heartbeat, Debug, EndOfSession, Refused}
 use Rattle.soup_session.specs.Answer.{answerWords}
-use Rattle.soup_session.proofs.KindLaws.{tagFor, other-letter}
+use Rattle.soup_session.proofs.TagLaws.{tagFor, other-letter}
 use Rattle.soup_client.specs.declared.client.ClientState.{ClientState}
 use Rattle.soup_client.specs.declared.client.ClientState.the-variants.{Asked, In, Ended, Closed}
 use Rattle.soup_client.specs.declared.client.Client.{Client}

@@ -19,7 +19,7 @@ use Rattle.soupbintcp.specs.Fields.{hasFields}
 use Rattle.soupbintcp.specs.Front.{sessionOf}
 use Rattle.soup_session.specs.Answer.{Outcome, stays, takes}
 use Rattle.soup_session.specs.Answer as reply
-use Rattle.soup_session.proofs.FrontCases.{numbered-in-front, sequenced-takes, plain-not-accepted}
+use Rattle.soup_session.proofs.FrontCases.{numbered-in-front, accepted-takes, sequenced-takes, plain-not-accepted}
 use Rattle.soup_session.proofs.StepLaws.{never-rests, changes-nothing, takes-packets, hands-up}
 use Rattle.soup_session.proofs.RunLaws.{any-cutting, runs-on}
 use Rattle.soup_client.specs.declared.client.ClientState.the-variants.{Asked, In}
@@ -102,7 +102,7 @@ sequenced-apart e = let z : _≡_ {A = ℕ} 0 1 = cc in omega arith
 
 accepts-A : (c : Client) (l : List ℕ) (o : Outcome Client) → ClientDoes c l o → o .reply .which ≡ answer reply.accepted → AcceptsA c l
 unfolding letterFor hasFields
-accepts-A c l o (cases.rests w n e) z = absurd (never-rests w n (rw e at z))
+accepts-A c l o (cases.rests w n e) z = absurd (never-rests w n reply.accepted accepted-takes (rw e at z))
 accepts-A c l o (cases.logs-in k vs name i a q x y e) z =
     record {
       asked = q;

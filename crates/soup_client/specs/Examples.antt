@@ -7,7 +7,7 @@ use Rattle.wire.specs.Bounds.{blank}
 use Rattle.text_fields.specs.Letters.{space}
 use Rattle.soupbintcp.specs.Letters.{letterAccepted, letterSequenced, letterServerHeartbeat, letterEnd}
 use Rattle.soup_session.specs.Stream.{Run, run}
-use Rattle.soup_session.specs.Examples.{packetOf}
+use Rattle.soup_session.specs.Examples.{shortPacket}
 use Rattle.soup_client.specs.declared.client.ClientState.the-variants.{Ended}
 use Rattle.soup_client.specs.declared.client.Client.{Client}
 use Rattle.soup_client.specs.Client.{client, startClient, clientStep}
@@ -19,15 +19,15 @@ ours = 82 ∷ 69 ∷ 65 ∷ 68 ∷ 82 ∷ 79 ∷ 79 ∷ 77 ∷ 48 ∷ 49 ∷ []
 
 -- S after Z is left where it is
 abbrev pub late : List ℕ
-late = packetOf letterSequenced (99 ∷ [])
+late = shortPacket letterSequenced (99 ∷ [])
 
 abbrev pub stream : List ℕ
 stream =
-    packetOf letterAccepted (ours ++ replicate 19 space ++ (55 ∷ []))
-    ++ packetOf letterSequenced (97 ∷ [])
-    ++ packetOf letterServerHeartbeat []
-    ++ packetOf letterSequenced []
-    ++ packetOf letterEnd []
+    shortPacket letterAccepted (ours ++ replicate 19 space ++ (55 ∷ []))
+    ++ shortPacket letterSequenced (97 ∷ [])
+    ++ shortPacket letterServerHeartbeat []
+    ++ shortPacket letterSequenced []
+    ++ shortPacket letterEnd []
     ++ late
 
 -- it asks for any session and any number, and is granted READROOM01 from 7 on

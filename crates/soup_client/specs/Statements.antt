@@ -63,8 +63,8 @@ pub record TakesS : Type 0 where
   pub else-34 : (c : Client) (l : List ℕ) (size : ℕ) → c .state ≡ In → SequencedInFront l size → c .number .0 ≡ largestNumber
       → clientStep c l ≡ stays c (refuses numbersUsedUp)
 
--- over a stream: what is handed up under number k is the k-th payload of S from the granted number on, each once, in order, and the
--- client's number is one past the last of them
+-- over a stream: the payloads of S are handed up, each once and in order, under the numbers from the granted one on, and the client's
+-- number is one past the last of them
 pub record HandsUpInOrder (c : Client) (r : Run Client) : Type 0 where
   pub in-order : handedUp (r .taken) ≡ numberedFrom (grantedIn (c .number .0) (packetsOf (r .taken))) (sequencedIn (packetsOf (r .taken)))
   pub counted : r .after .number .0 ≡ grantedIn (c .number .0) (packetsOf (r .taken)) + length (sequencedIn (packetsOf (r .taken)))

@@ -10,8 +10,9 @@ use Rattle.soupbintcp.specs.declared.packet.Sender.the-variants.{Client}
 use Rattle.soupbintcp.specs.Letters.{login, letterFor}
 use Rattle.soupbintcp.specs.Head.{letterOf}
 use Rattle.soupbintcp.specs.Front.{packet, frontOf, packetBytes, loginPart, usernameOf, passwordOf}
+use Rattle.soupbintcp.proofs.KindLaws.{its-letter}
 use Rattle.soupbintcp.proofs.StableLaws.{login-reach, said-login}
-use Rattle.soup_session.proofs.PacketLaws.{whole, its-letter, first-all, part-length}
+use Rattle.soup_session.proofs.PacketLaws.{whole, first-all, part-length}
 
 module _ (l : List ℕ) (k : ℕ) (vs : List ℕ) (e : frontOf Client l ≡ says (packet login) (k ∷ vs)) where
   login-letter : letterOf l ≡ 76

@@ -1,6 +1,6 @@
 -- What a server's step does, by its cases: s is the server, l the stream, x what the table says of the entry in front, k and vs the
 -- size and the values of the packet there.
-use mathlib.Core.Path.{_≡_, refl}
+use mathlib.Core.Path.{_≡_, refl, _∙_}
 use mathlib.Core.List.{List, [], _∷_, _++_}
 use Prim.Native.Nat.{ℕ, suc, _-_}
 use native.Mathlib.Omega.{arith}
@@ -14,13 +14,13 @@ use Rattle.soupbintcp.specs.Head.{letterOf}
 use Rattle.soupbintcp.specs.Front.{packet, frontOf, sessionOf}
 use Rattle.soupbintcp.specs.Front as front
 use Rattle.soupbintcp.proofs.LetterLaws.{choice}
+use Rattle.soupbintcp.proofs.KindLaws.{its-letter}
 use Rattle.soupbintcp.proofs.ScanLaws.{FrontIs, stops-short, stops-at, passes, front-is}
 use Rattle.login.specs.declared.account.Account.{Account}
 use Rattle.login.specs.Account.{Knowing, lookupOf}
 use Rattle.login.specs.Decision.{Deciding, accepted, rejected, decisionOf}
 use Rattle.soup_session.specs.Answer.{Reply, wants-more, unsequenced, heartbeat, debug, logged-out, messageAt, Outcome, stays, takes}
 use Rattle.soup_session.specs.Answer as reply
-use Rattle.soup_session.proofs.PacketLaws.{its-letter}
 use Rattle.soup_session.proofs.FrontCases.{InFront, front-stays, session-stays, username-stays, password-stays, Plain, a-rejection, a-heartbeat, a-debug, a-logout, plain-takes, accepted-takes, unsequenced-takes, plain-not-unsequenced}
 use Rattle.soup_session.proofs.StepLaws.{Rests, waits, refusing, Does}
 use Rattle.soup_session.proofs.StepLaws as does
@@ -36,9 +36,13 @@ pub data ServerDoes (s : Server) (l : List ℕ) (x : Words Knowing) (o : Outcome
   logs-in : (k : ℕ) (vs ws : List ℕ) → InFront Client l k vs → letterOf l ≡ 76 → s .state ≡ Waiting
       → decisionOf x (sessionOf Client l) (getD vs 0 0) (s .session) (s .last .0) .which ≡ answer accepted
       → o ≡ takes k (says reply.accepted ws) (becomes s In) → ServerDoes s l x o
-  hands-up : (k : ℕ) (vs : List ℕ) → InFront Client l k vs → o ≡ takes k (says unsequenced (3 ∷ (k - 3) ∷ [])) (becomes s In) → ServerDoes s l x o
-  goes-by : (k : ℕ) (vs : List ℕ) (w : Words Reply) (t : ServerState) → InFront Client l k vs → Plain (w .which) → o ≡ takes k w (becomes s t)
+  hands-up : (k : ℕ) (vs : List ℕ) → InFront Client l k vs → s .state ≡ In → o ≡ takes k (says unsequenced (3 ∷ (k - 3) ∷ [])) (becomes s In)
       → ServerDoes s l x o
+  goes-by : (k : ℕ) (vs : List ℕ) (w : Words Reply) (t : ServerState) → InFront Client l k vs → Plain (w .which) → (t ≡ In → s .state ≡ In)
+      → o ≡ takes k w (becomes s t) → ServerDoes s l x o
+
+never-in : Closed ≡ In → ⊥
+never-in e = let z : _≡_ {A = ℕ} 0 1 = cc in omega arith
 
 -- ---- the rows
 
@@ -53,27 +57,27 @@ module _ (s : Server) (l : List ℕ) (x : Words Knowing) (k : ℕ) (vs : List �
       → decisionOf x (sessionOf Client l) (getD vs 0 0) (s .session) (s .last .0) .which ≡ d → D (loginAt s k d r ws)
   unfolding loginAt
   login-does a q (answer accepted) r ws e = logs-in k vs ws i a q e refl
-  login-does a q (answer rejected) r ws e = goes-by k vs (says reply.rejected ws) Closed i a-rejection refl
+  login-does a q (answer rejected) r ws e = goes-by k vs (says reply.rejected ws) Closed i a-rejection (λ z. absurd (never-in z)) refl
   login-does a q refused r ws e = refuses-it r
 
   waiting-does : s .state ≡ Waiting → D (waitingRow s k (letterOf l) vs x (sessionOf Client l))
   unfolding waitingRow
   waiting-does q =
       choice D (eqb (letterOf l) 76) (λ e. login-does (eqb-true _ _ e) q _ _ _ refl) (λ e.
-      choice D (eqb (letterOf l) 43) (λ f. goes-by k vs (says debug []) Waiting i a-debug refl) (λ f. refuses-it _))
+      choice D (eqb (letterOf l) 43) (λ f. goes-by k vs (says debug []) Waiting i a-debug (λ z. q ∙ z) refl) (λ f. refuses-it _))
 
-  in-does : D (inRow s k (letterOf l))
+  in-does : s .state ≡ In → D (inRow s k (letterOf l))
   unfolding inRow
-  in-does =
-      choice D (eqb (letterOf l) 85) (λ e. hands-up k vs i refl) (λ e.
-      choice D (eqb (letterOf l) 82) (λ f. goes-by k vs (says heartbeat []) In i a-heartbeat refl) (λ f.
-      choice D (eqb (letterOf l) 43) (λ g. goes-by k vs (says debug []) In i a-debug refl) (λ g.
-      choice D (eqb (letterOf l) 79) (λ h. goes-by k vs (says logged-out []) Closed i a-logout refl) (λ h. refuses-it _))))
+  in-does q =
+      choice D (eqb (letterOf l) 85) (λ e. hands-up k vs i q refl) (λ e.
+      choice D (eqb (letterOf l) 82) (λ f. goes-by k vs (says heartbeat []) In i a-heartbeat (λ z. q) refl) (λ f.
+      choice D (eqb (letterOf l) 43) (λ g. goes-by k vs (says debug []) In i a-debug (λ z. q) refl) (λ g.
+      choice D (eqb (letterOf l) 79) (λ h. goes-by k vs (says logged-out []) Closed i a-logout (λ z. q) refl) (λ h. refuses-it _))))
 
   row-does : (t : ServerState) → s .state ≡ t → D (rowAt t s k (letterOf l) vs x (sessionOf Client l))
   unfolding rowAt
   row-does Waiting q = waiting-does q
-  row-does In q = in-does
+  row-does In q = in-does q
   row-does Closed q = refuses-it _
 
 -- ---- the step by what the table says, and then by the front
@@ -119,8 +123,8 @@ module _ (s : Server) (x : Words Knowing) (l : List ℕ) where
 does-keep : (s : Server) (l : List ℕ) (x : Words Knowing) (o : Outcome Server) → ServerDoes s l x o → Keeps s (o .after)
 does-keep s l x o (rests w n e) = rw e (record { session = refl; last = refl })
 does-keep s l x o (logs-in k vs ws i a q d e) = rw e (record { session = refl; last = refl })
-does-keep s l x o (hands-up k vs i e) = rw e (record { session = refl; last = refl })
-does-keep s l x o (goes-by k vs w t i p e) = rw e (record { session = refl; last = refl })
+does-keep s l x o (hands-up k vs i q e) = rw e (record { session = refl; last = refl })
+does-keep s l x o (goes-by k vs w t i p f e) = rw e (record { session = refl; last = refl })
 
 pub keeps : (t : List Account) (s : Server) (l : List ℕ) → Keeps s (serverStep t s l .after)
 unfolding serverStep
@@ -136,9 +140,9 @@ server-moves s l x o (logs-in k vs ws i a q d e) =
   where
     not-so : answer reply.accepted ≡ answer unsequenced → ⊥
     not-so z = let y : _≡_ {A = ℕ} 0 1 = cc in omega arith
-server-moves s l x o (hands-up k vs i e) =
+server-moves s l x o (hands-up k vs i q e) =
     does.moves k vs (says unsequenced (3 ∷ (k - 3) ∷ [])) (becomes s In) i unsequenced-takes (λ z. refl) e
-server-moves s l x o (goes-by k vs w t i p e) =
+server-moves s l x o (goes-by k vs w t i p f e) =
     does.moves k vs w (becomes s t) i (plain-takes (w .which) p) (λ z. absurd (plain-not-unsequenced (w .which) p z)) e
 
 module _ (t : List Account) where

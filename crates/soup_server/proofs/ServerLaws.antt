@@ -30,7 +30,7 @@ use Rattle.login.specs.Decision.{decisionWords, decisionOf}
 use Rattle.soup_session.specs.declared.answer.Answer.{Answer}
 use Rattle.soup_session.specs.declared.answer.Answer.the-variants.{NeedMore, Accepted, Rejected, Unsequenced, Heartbeat, Debug, LoggedOut, Refused}
 use Rattle.soup_session.specs.Answer.{answerWords}
-use Rattle.soup_session.proofs.KindLaws.{tagFor, other-letter}
+use Rattle.soup_session.proofs.TagLaws.{tagFor, other-letter}
 use Rattle.soup_server.specs.declared.server.ServerState.{ServerState}
 use Rattle.soup_server.specs.declared.server.ServerState.the-variants.{Waiting, In, Closed}
 use Rattle.soup_server.specs.declared.server.Server.{Server}

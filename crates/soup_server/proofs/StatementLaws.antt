@@ -1,5 +1,5 @@
 -- What the session at the server promises beside its answers: t is the table of accounts, s the server, l the stream.
-use mathlib.Core.Path.{_≡_, refl, ap, _∙_}
+use mathlib.Core.Path.{_≡_, refl, ap, sym, _∙_}
 use mathlib.Core.List.{List, [], _∷_}
 use mathlib.Core.Bool.{Bool, true, false}
 use Prim.Native.Nat.{ℕ, _<_}
@@ -17,16 +17,16 @@ use Rattle.login.specs.Account.{Knowing, known, unknown, mostAccounts, verdictO
 use Rattle.login.specs.Decision.{loginOf}
 use Rattle.login.specs.Decision as decided
 use Rattle.login.specs.Statements.{NotRefused}
-use Rattle.login.proofs.StatementLaws.{accepted-exactly-when}
+use Rattle.login.proofs.StatementLaws.{accepted-exactly-when, never-accepted}
 use Rattle.soup_session.specs.Answer.{Outcome, stays, takes}
 use Rattle.soup_session.specs.Answer as reply
-use Rattle.soup_session.proofs.FrontCases.{numbered-in-front, unsequenced-takes, plain-not-accepted}
+use Rattle.soup_session.proofs.FrontCases.{numbered-in-front, accepted-takes, unsequenced-takes, plain-not-accepted, plain-not-unsequenced}
 use Rattle.soup_session.proofs.StepLaws.{never-rests, changes-nothing, takes-packets, hands-up}
 use Rattle.soup_session.proofs.RunLaws.{any-cutting, runs-on}
 use Rattle.soup_server.specs.declared.server.ServerState.the-variants.{Waiting, In, Closed}
 use Rattle.soup_server.specs.declared.server.Server.{Server}
 use Rattle.soup_server.specs.Server.{becomes, loginAt, loginRow, waitingRow, rowAt, stepAt, stepWith, entryOf, serverStep}
-use Rattle.soup_server.specs.Statements.{LoginInFront, EntryIsItsFields, attemptOf, Accepts, LoginExactlyWhen, ServerPromises}
+use Rattle.soup_server.specs.Statements.{LoginInFront, EntryIsItsFields, attemptOf, Accepts, LoginExactlyWhen, WasIn, before, by-login, ServerPromises}
 use Rattle.soup_server.proofs.LoginLaws.{username-first, password-first}
 use Rattle.soup_server.proofs.ServerCases.{ServerDoes, server-does, keeps, server-rests-or-moves, server-steady}
 use Rattle.soup_server.proofs.ServerCases as cases
@@ -69,8 +69,7 @@ accepts : (t : List Account) (s : Server) (l : List ℕ) (o : Outcome Server) �
     → o .reply .which ≡ answer reply.accepted → Accepts t s l
 unfolding EntryIsItsFields letterFor hasFields
 accepts t s l o (cases.rests w n e) z =
-    let f : w .which ≡ answer reply.accepted = rw e at z in
-    absurd (never-rests w n f)
+    absurd (never-rests w n reply.accepted accepted-takes (rw e at z))
 accepts t s l o (cases.logs-in k vs ws i a q d e) z =
     let g : LoginInFront l k (getD vs 0 0) = numbered-in-front Client l k vs login i a refl in
     record {
@@ -80,8 +79,30 @@ accepts t s l o (cases.logs-in k vs ws i a q d e) z =
       front = g;
       rules = accepted-exactly-when .only-when (attemptOf t s l (getD vs 0 0)) (rw (entry-is-its-fields l k (getD vs 0 0) g) at d);
     }
-accepts t s l o (cases.hands-up k vs i e) z = absurd (unsequenced-apart (rw e at z))
-accepts t s l o (cases.goes-by k vs w u i p e) z = absurd (plain-not-accepted (w .which) p (rw e at z))
+accepts t s l o (cases.hands-up k vs i q e) z = absurd (unsequenced-apart (rw e at z))
+accepts t s l o (cases.goes-by k vs w u i p f e) z = absurd (plain-not-accepted (w .which) p (rw e at z))
+
+-- who is in was so before the step, or logs in by it
+is-in : (t : List Account) (s : Server) (l : List ℕ) (o : Outcome Server) → ServerDoes s l (lookupOf t (entryOf l)) o → o .after .state ≡ In → WasIn t s l
+is-in t s l o (cases.rests w n e) z = before (rw e at z)
+is-in t s l o (cases.logs-in k vs ws i a q d e) z = by-login (accepts t s l o (cases.logs-in k vs ws i a q d e) (rw e refl))
+is-in t s l o (cases.hands-up k vs i q e) z = before q
+is-in t s l o (cases.goes-by k vs w u i p f e) z = before (f (rw e at z))
+
+hands-up-in : (s : Server) (l : List ℕ) (x : Words Knowing) (o : Outcome Server) → ServerDoes s l x o → o .reply .which ≡ answer reply.unsequenced → s .state ≡ In
+hands-up-in s l x o (cases.rests w n e) z = absurd (never-rests w n reply.unsequenced unsequenced-takes (rw e at z))
+hands-up-in s l x o (cases.logs-in k vs ws i a q d e) z = absurd (unsequenced-apart (sym (rw e at z)))
+hands-up-in s l x o (cases.hands-up k vs i q e) z = q
+hands-up-in s l x o (cases.goes-by k vs w u i p f e) z = absurd (plain-not-unsequenced (w .which) p (rw e at z))
+
+module _ (t : List Account) (s : Server) (l : List ℕ) where
+  only-in : serverStep t s l .after .state ≡ In → WasIn t s l
+  unfolding serverStep
+  only-in z = is-in t s l (serverStep t s l) (server-does s (lookupOf t (entryOf l)) l) z
+
+  hands-up-only-in : serverStep t s l .reply .which ≡ answer reply.unsequenced → s .state ≡ In
+  unfolding serverStep
+  hands-up-only-in z = hands-up-in s l (lookupOf t (entryOf l)) (serverStep t s l) (server-does s (lookupOf t (entryOf l)) l) z
 
 login-exactly-when : LoginExactlyWhen
 unfolding serverStep
@@ -91,6 +112,8 @@ login-exactly-when =
       only-when = λ t s l z. accepts t s l (serverStep t s l) (server-does s (lookupOf t (entryOf l)) l) z;
       else-A = λ t s l size n q e z f. rejects-it t s l size n q e z _ (accepted-exactly-when .else-A (attemptOf t s l n) z f);
       else-S = λ t s l size n q e z f g. rejects-it t s l size n q e z _ (accepted-exactly-when .else-S (attemptOf t s l n) z f g);
+      no-username = λ t s l size n q e z f. rejects-it t s l size n q e z _ (never-accepted .username (attemptOf t s l n) z f);
+      no-password = λ t s l size n q e z f. rejects-it t s l size n q e z _ (never-accepted .password (attemptOf t s l n) z f);
       too-many = too-many;
     }
 
@@ -98,6 +121,8 @@ pub server-promises : ServerPromises
 server-promises =
     record {
       login-exactly-when = login-exactly-when;
+      only-in = only-in;
+      hands-up-only-in = hands-up-only-in;
       example = server-example;
       changes-nothing = λ t. changes-nothing (serverStep t) Client reply.unsequenced (server-rests-or-moves t);
       takes-packets = λ t. takes-packets (serverStep t) Client reply.unsequenced (server-rests-or-moves t);

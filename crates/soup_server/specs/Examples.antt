@@ -10,19 +10,19 @@ use Rattle.soupbintcp.specs.Letters.{letterLogin, letterUnsequenced, letterClie
 use Rattle.login.specs.Examples.{ours, ann}
 use Rattle.soup_session.specs.Answer.{Reply, accepted, unsequenced, logged-out}
 use Rattle.soup_session.specs.Stream.{Taking, Run, run}
-use Rattle.soup_session.specs.Examples.{packetOf}
+use Rattle.soup_session.specs.Examples.{shortPacket}
 use Rattle.soup_server.specs.declared.server.ServerState.the-variants.{Closed}
 use Rattle.soup_server.specs.declared.server.Server.{Server}
 use Rattle.soup_server.specs.Server.{server, startServer, serverStep}
 
 abbrev pub afterLogout : List ℕ
-afterLogout = packetOf letterClientHeartbeat []
+afterLogout = shortPacket letterClientHeartbeat []
 
 abbrev pub fromClient : List ℕ
 fromClient =
-    packetOf letterLogin (ann .username ++ ann .password ++ blank ++ replicate 19 space ++ (48 ∷ []))
-    ++ packetOf letterUnsequenced (97 ∷ [])
-    ++ packetOf letterLogout []
+    shortPacket letterLogin (ann .username ++ ann .password ++ blank ++ replicate 19 space ++ (48 ∷ []))
+    ++ shortPacket letterUnsequenced (97 ∷ [])
+    ++ shortPacket letterLogout []
     ++ afterLogout
 
 abbrev pub served : Run Server

@@ -12,7 +12,7 @@ use Rattle.soupbintcp.specs.Front.{packet, frontOf, sessionOf, usernameOf, pass
 use Rattle.login.specs.declared.account.Account.{Account}
 use Rattle.login.specs.Account.{mostAccounts}
 use Rattle.login.specs.Decision.{granted, Attempt}
-use Rattle.login.specs.Statements.{AccountRule, NotRefused, Rules}
+use Rattle.login.specs.Statements.{AccountRule, NotRefused, Rules, NoText}
 use Rattle.soup_session.specs.Answer.{accepted, rejected, unsequenced, stays, takes}
 use Rattle.soup_session.specs.Statements.{ChangesNothing, TakesPackets, HandsUpPayload, AnyCutting, RunsOn}
 use Rattle.soup_server.specs.declared.server.ServerState.the-variants.{Waiting, In, Closed}
@@ -57,8 +57,20 @@ pub record LoginExactlyWhen : Type 0 where
   pub else-S : (t : List Account) (s : Server) (l : List ℕ) (size n : ℕ) → s .state ≡ Waiting → LoginInFront l size n
       → NotRefused (attemptOf t s l n) → AccountRule (attemptOf t s l n) → (Rules (attemptOf t s l n) → ⊥)
       → serverStep t s l ≡ takes size (says rejected (sessionNotAvailable ∷ [])) (becomes s Closed)
+  -- a username or a password that is no text gets J with A, whatever the table holds
+  pub no-username : (t : List Account) (s : Server) (l : List ℕ) (size n : ℕ) → s .state ≡ Waiting → LoginInFront l size n
+      → NotRefused (attemptOf t s l n) → NoText (usernameOf Client l)
+      → serverStep t s l ≡ takes size (says rejected (notAuthorized ∷ [])) (becomes s Closed)
+  pub no-password : (t : List Account) (s : Server) (l : List ℕ) (size n : ℕ) → s .state ≡ Waiting → LoginInFront l size n
+      → NotRefused (attemptOf t s l n) → NoText (passwordOf Client l)
+      → serverStep t s l ≡ takes size (says rejected (notAuthorized ∷ [])) (becomes s Closed)
   -- 19 comes first, in every state and on every stream
   pub too-many : (t : List Account) (s : Server) (l : List ℕ) → mostAccounts < length t → serverStep t s l ≡ stays s (refuses badSetting)
+
+-- why a server is in after a step: it was in, or it accepts the login request in front
+pub data WasIn (t : List Account) (s : Server) (l : List ℕ) : Type 0 where
+  before : s .state ≡ In → WasIn t s l
+  by-login : Accepts t s l → WasIn t s l
 
 -- no step changes the session's name or the last number, so that a login accepted can be written with the server that is handed back
 pub record Keeps (s x : Server) : Type 0 where
@@ -68,6 +80,9 @@ pub record Keeps (s x : Server) : Type 0 where
 -- what a step promises beside its answer, with every table
 pub record ServerPromises : Type 0 where
   pub login-exactly-when : LoginExactlyWhen
+  -- nobody is in but by a login that meets the rules, and messages are handed up only of one who is in
+  pub only-in : (t : List Account) (s : Server) (l : List ℕ) → serverStep t s l .after .state ≡ In → WasIn t s l
+  pub hands-up-only-in : (t : List Account) (s : Server) (l : List ℕ) → serverStep t s l .reply .which ≡ answer unsequenced → s .state ≡ In
   pub example : ServerExample
   pub changes-nothing : (t : List Account) → ChangesNothing Server (serverStep t)
   pub takes-packets : (t : List Account) → TakesPackets Server (serverStep t) Client

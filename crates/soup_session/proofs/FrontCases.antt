@@ -14,12 +14,11 @@ use Rattle.soupbintcp.specs.Letters.{PacketKind, letterFor}
 use Rattle.soupbintcp.specs.Head.{letterOf}
 use Rattle.soupbintcp.specs.Fields.{hasFields}
 use Rattle.soupbintcp.specs.Front.{packet, wants-more, frontOf, packetBytes, sessionOf, usernameOf, passwordOf, Stable, StableBytes}
+use Rattle.soupbintcp.proofs.KindLaws.{its-letter, one-number, same-kind}
 use Rattle.soupbintcp.proofs.StableLaws.{front-promises}
 use Rattle.soup_session.specs.Answer.{Reply, accepted, rejected, sequenced, unsequenced, heartbeat, debug, logged-out, end-of-session}
 use Rattle.soup_session.specs.Answer as reply
 use Rattle.soup_session.specs.Statements.{TakesNothing, needs-more, is-refused}
-use Rattle.soup_session.proofs.KindLaws.{same-kind}
-use Rattle.soup_session.proofs.PacketLaws.{its-letter, one-number}
 
 pub apart : {n a b : ℕ} → n ≡ a → eqb a b ≡ false → n ≡ b → ⊥
 apart {n} {a} {b} e f g = eqb-false a b f (sym e ∙ g)

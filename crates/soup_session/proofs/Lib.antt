@@ -1,5 +1,5 @@
 pub mod AnswerLaws
-pub mod KindLaws
+pub mod TagLaws
 pub mod PacketLaws
 pub mod FrontCases
 pub mod StepLaws

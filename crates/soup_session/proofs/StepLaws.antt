@@ -9,7 +9,7 @@ use Rattle.wire.specs.Words.{Words, answer, refused, says, refuses}
 use Rattle.soupbintcp.specs.declared.packet.Sender.{Sender}
 use Rattle.soupbintcp.specs.Front.{packetBytes, payloadOf}
 use Rattle.soupbintcp.proofs.StableLaws.{said-bytes, said-payload}
-use Rattle.soup_session.specs.Answer.{Reply, wants-more, accepted, messageOf, Outcome, stays, takes}
+use Rattle.soup_session.specs.Answer.{Reply, wants-more, messageOf, Outcome, stays, takes}
 use Rattle.soup_session.specs.Stream.{Stepping}
 use Rattle.soup_session.specs.Statements.{ChangesNothing, TakesNothing, needs-more, is-refused, TakesPackets, HandsUpPayload}
 use Rattle.soup_session.proofs.FrontCases.{InFront}
@@ -23,10 +23,9 @@ rests-nothing : (w : Words Reply) → Rests w → TakesNothing (w .which)
 rests-nothing w waits = needs-more
 rests-nothing w (refusing r) = is-refused
 
--- and it accepts no login
-pub never-rests : (w : Words Reply) → Rests w → w .which ≡ answer accepted → ⊥
-never-rests w waits e = let z : _≡_ {A = ℕ} 0 1 = cc in omega arith
-never-rests w (refusing r) e = let z : _≡_ {A = ℕ} 0 1 = cc in omega arith
+-- and it is none that takes a packet
+pub never-rests : (w : Words Reply) → Rests w → (r : Reply) → (TakesNothing (answer r) → ⊥) → w .which ≡ answer r → ⊥
+never-rests w n r f e = let b : TakesNothing (w .which) = rests-nothing w n in f (rw e at b)
 
 -- a step rests, or it takes the packet in front and hands up no more than its payload
 pub data Does {S : Type 0} (s : S) (l : List ℕ) (from : Sender) (kind : Reply) (o : Outcome S) : Type 0 where
@@ -68,9 +67,7 @@ module _ {S : Type 0} {s : S} {l : List ℕ} {from : Sender} {kind : Reply} {o :
 
   hands-payload : (TakesNothing (answer kind) → ⊥) → Does s l from kind o → o .reply .which ≡ answer kind → messageOf (o .reply) l ≡ payloadOf from l
   hands-payload f (rests w n e) z =
-      let a : w .which ≡ answer kind = rw e at z in
-      let b : TakesNothing (w .which) = rests-nothing w n in
-      absurd (f (rw a at b))
+      absurd (never-rests w n kind f (rw e at z))
   hands-payload f (moves k vs w t i n m e) z =
       rw e (m (rw e at z) ∙ sym (said-payload from l (i .kind) k vs (i .front)))
 

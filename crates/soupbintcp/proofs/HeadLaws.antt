@@ -13,7 +13,7 @@ use Rattle.wire.proofs.Words.{which-of, values-of}
 use Rattle.wire.proofs.Numbers.{number-append}
 use Rattle.soupbintcp.specs.declared.packet.Sender.{Sender}
 use Rattle.soupbintcp.specs.declared.head.Head.the-variants.{Whole, NeedMore, Refused}
-use Rattle.soupbintcp.specs.Letters.{sends, allows}
+use Rattle.soupbintcp.specs.Letters.{mostPayload, sends, allows}
 use Rattle.soupbintcp.specs.Head.{Heading, whole, need-more, lengthOf, letterOf, headWords, headOf}
 use Rattle.soupbintcp.proofs.LetterLaws.{choice, allowed-small}
 
@@ -28,36 +28,36 @@ module _ (s : Sender) (l : List ℕ) where
   unfolding headWords headOf lengthOf
   head-21 n h e z = simp (le-ltb _ _ h, ← e, z)
 
-  pub head-22 : (n : ℕ) → 2 ≤ length l → n ≡ number l 0 2 → (n ≡ 0 → ⊥) → 4096 < n - 1
+  pub head-22 : (n : ℕ) → 2 ≤ length l → n ≡ number l 0 2 → (n ≡ 0 → ⊥) → mostPayload < n - 1
       → headWords (Refused (record { number = 22 })) ≡ headOf s l
   unfolding headWords headOf lengthOf
   head-22 n h e z f = simp (le-ltb _ _ h, ← e, ne-eqb _ _ z, lt-ltb _ _ f)
 
-  pub head-three : (n : ℕ) → 2 ≤ length l → n ≡ number l 0 2 → (n ≡ 0 → ⊥) → n - 1 ≤ 4096 → length l < 3
+  pub head-three : (n : ℕ) → 2 ≤ length l → n ≡ number l 0 2 → (n ≡ 0 → ⊥) → n - 1 ≤ mostPayload → length l < 3
       → headWords NeedMore ≡ headOf s l
   unfolding headWords headOf lengthOf
   head-three n h e z f i = simp (le-ltb _ _ h, ← e, ne-eqb _ _ z, le-ltb _ _ f, lt-ltb _ _ i)
 
-  pub head-23 : (n : ℕ) (t : Bool) → 2 ≤ length l → n ≡ number l 0 2 → (n ≡ 0 → ⊥) → n - 1 ≤ 4096 → 3 ≤ length l
+  pub head-23 : (n : ℕ) (t : Bool) → 2 ≤ length l → n ≡ number l 0 2 → (n ≡ 0 → ⊥) → n - 1 ≤ mostPayload → 3 ≤ length l
       → t ≡ sends s (getD l 2 0) → not t ≡ true → headWords (Refused (record { number = 23 })) ≡ headOf s l
   unfolding headWords headOf lengthOf letterOf
   head-23 n t h e z f i g j = simp (le-ltb _ _ h, ← e, ne-eqb _ _ z, le-ltb _ _ f, le-ltb _ _ i, ← g, not-true t j)
 
-  pub head-24 : (n : ℕ) (t u : Bool) → 2 ≤ length l → n ≡ number l 0 2 → (n ≡ 0 → ⊥) → n - 1 ≤ 4096 → 3 ≤ length l
+  pub head-24 : (n : ℕ) (t u : Bool) → 2 ≤ length l → n ≡ number l 0 2 → (n ≡ 0 → ⊥) → n - 1 ≤ mostPayload → 3 ≤ length l
       → t ≡ sends s (getD l 2 0) → not t ≡ false → u ≡ allows (getD l 2 0) (n - 1) → not u ≡ true
       → headWords (Refused (record { number = 24 })) ≡ headOf s l
   unfolding headWords headOf lengthOf letterOf
   head-24 n t u h e z f i g j k m =
       simp (le-ltb _ _ h, ← e, ne-eqb _ _ z, le-ltb _ _ f, le-ltb _ _ i, ← g, not-false t j, ← k, not-true u m)
 
-  pub head-part : (n : ℕ) (t u : Bool) → 2 ≤ length l → n ≡ number l 0 2 → (n ≡ 0 → ⊥) → n - 1 ≤ 4096 → 3 ≤ length l
+  pub head-part : (n : ℕ) (t u : Bool) → 2 ≤ length l → n ≡ number l 0 2 → (n ≡ 0 → ⊥) → n - 1 ≤ mostPayload → 3 ≤ length l
       → t ≡ sends s (getD l 2 0) → not t ≡ false → u ≡ allows (getD l 2 0) (n - 1) → not u ≡ false → length l < n + 2
       → headWords NeedMore ≡ headOf s l
   unfolding headWords headOf lengthOf letterOf
   head-part n t u h e z f i g j k m p =
       simp (le-ltb _ _ h, ← e, ne-eqb _ _ z, le-ltb _ _ f, le-ltb _ _ i, ← g, not-false t j, ← k, not-false u m, lt-ltb _ _ p)
 
-  pub head-whole : (n : ℕ) (t u : Bool) → 2 ≤ length l → n ≡ number l 0 2 → (n ≡ 0 → ⊥) → n - 1 ≤ 4096 → 3 ≤ length l
+  pub head-whole : (n : ℕ) (t u : Bool) → 2 ≤ length l → n ≡ number l 0 2 → (n ≡ 0 → ⊥) → n - 1 ≤ mostPayload → 3 ≤ length l
       → t ≡ sends s (getD l 2 0) → not t ≡ false → u ≡ allows (getD l 2 0) (n - 1) → not u ≡ false → n + 2 ≤ length l
       → headWords (Whole (n + 2)) ≡ headOf s l
   unfolding headWords headOf lengthOf letterOf
@@ -76,10 +76,10 @@ pub record IsHead (s : Sender) (l : List ℕ) : Type 0 where
 module _ (s : Sender) (l : List ℕ) (P : Words Heading → Type 0) where
   pub head-cases : (length l < 2 → P (says need-more []))
       → (2 ≤ length l → lengthOf l ≡ 0 → P (refuses 21))
-      → (2 ≤ length l → (lengthOf l ≡ 0 → ⊥) → 4096 < lengthOf l - 1 → P (refuses 22))
+      → (2 ≤ length l → (lengthOf l ≡ 0 → ⊥) → mostPayload < lengthOf l - 1 → P (refuses 22))
       → (2 ≤ length l → length l < 3 → P (says need-more []))
-      → (3 ≤ length l → (lengthOf l ≡ 0 → ⊥) → lengthOf l - 1 ≤ 4096 → sends s (letterOf l) ≡ false → P (refuses 23))
-      → (3 ≤ length l → (lengthOf l ≡ 0 → ⊥) → lengthOf l - 1 ≤ 4096 → sends s (letterOf l) ≡ true
+      → (3 ≤ length l → (lengthOf l ≡ 0 → ⊥) → lengthOf l - 1 ≤ mostPayload → sends s (letterOf l) ≡ false → P (refuses 23))
+      → (3 ≤ length l → (lengthOf l ≡ 0 → ⊥) → lengthOf l - 1 ≤ mostPayload → sends s (letterOf l) ≡ true
       → allows (letterOf l) (lengthOf l - 1) ≡ false → P (refuses 24))
       → (IsHead s l → length l < lengthOf l + 2 → P (says need-more []))
       → (IsHead s l → lengthOf l + 2 ≤ length l → P (says whole ((lengthOf l + 2) ∷ [])))
@@ -88,7 +88,7 @@ module _ (s : Sender) (l : List ℕ) (P : Words Heading → Type 0) where
   head-cases p0 p1 p2 p3 p4 p5 p6 p7 =
       choice P (ltb (length l) 2) (λ a. p0 (ltb-true _ _ a)) (λ a.
       choice P (eqb (lengthOf l) 0) (λ b. p1 (ltb-false _ _ a) (eqb-true _ _ b)) (λ b.
-      choice P (ltb 4096 (lengthOf l - 1)) (λ c. p2 (ltb-false _ _ a) (eqb-false _ _ b) (ltb-true _ _ c)) (λ c.
+      choice P (ltb mostPayload (lengthOf l - 1)) (λ c. p2 (ltb-false _ _ a) (eqb-false _ _ b) (ltb-true _ _ c)) (λ c.
       choice P (ltb (length l) 3) (λ d. p3 (ltb-false _ _ a) (ltb-true _ _ d)) (λ d.
       choice P (not (sends s (letterOf l)))
       (λ e. p4 (ltb-false _ _ d) (eqb-false _ _ b) (ltb-false _ _ c) (not-true _ e)) (λ e.
@@ -138,7 +138,7 @@ said-whole s l =
     head-cases s l (Wholes s l) (λ a. more) (λ a b. not-refused s l 21) (λ a b c. not-refused s l 22) (λ a b. more)
     (λ a b c d. not-refused s l 23) (λ a b c d e. not-refused s l 24) (λ h f. more) (is-whole s l)
 
-pub whole-short : (s : Sender) (l : List ℕ) (k : ℕ) → IsWhole s l k → lengthOf l - 1 ≤ 4096
+pub whole-short : (s : Sender) (l : List ℕ) (k : ℕ) → IsWhole s l k → lengthOf l - 1 ≤ mostPayload
 whole-short s l k o = allowed-small (letterOf l) (lengthOf l - 1) (o .allowed)
 
 -- and a packet that is there whole has such a head

@@ -9,12 +9,12 @@ use Rattle.wire.specs.Choice.{if_then_else_}
 use Rattle.soupbintcp.specs.declared.packet.Sender.{Sender}
 use Rattle.soupbintcp.specs.declared.packet.Sender.the-variants.{Server, Client}
 use Rattle.soupbintcp.specs.declared.letters.Row.{Row}
-use Rattle.soupbintcp.specs.Letters.{row, rowOf, sends, allows}
+use Rattle.soupbintcp.specs.Letters.{mostPayload, row, rowOf, sends, allows}
 
 -- ---- the rows
 
 module _ (c : ℕ) (r : Row) where
-  pub row-plus : r ≡ row true true 0 4096 → c ≡ 43 → r ≡ rowOf c
+  pub row-plus : r ≡ row true true 0 mostPayload → c ≡ 43 → r ≡ rowOf c
   unfolding rowOf
   row-plus f e = simp e f
 
@@ -26,7 +26,7 @@ module _ (c : ℕ) (r : Row) where
   unfolding rowOf
   row-J f e = simp e f
 
-  pub row-S : r ≡ row true false 0 4096 → c ≡ 83 → r ≡ rowOf c
+  pub row-S : r ≡ row true false 0 mostPayload → c ≡ 83 → r ≡ rowOf c
   unfolding rowOf
   row-S f e = simp e f
 
@@ -42,7 +42,7 @@ module _ (c : ℕ) (r : Row) where
   unfolding rowOf
   row-L f e = simp e f
 
-  pub row-U : r ≡ row false true 0 4096 → c ≡ 85 → r ≡ rowOf c
+  pub row-U : r ≡ row false true 0 mostPayload → c ≡ 85 → r ≡ rowOf c
   unfolding rowOf
   row-U f e = simp e f
 
@@ -98,7 +98,7 @@ choice P true f g = f refl
 choice P false f g = g refl
 
 Small : Row → Type 0
-Small r = r .most ≤ 4096
+Small r = r .most ≤ mostPayload
 
 row-small : (c : ℕ) → Small (rowOf c)
 unfolding rowOf Small
@@ -124,26 +124,26 @@ keeps k n false false e h = let z : _≡_ {A = ℕ} 0 1 = cc in absurd (omega ar
 keeps k n true b e h = let z : _≡_ {A = ℕ} 0 1 = cc in absurd (omega arith)
 
 module _ (c k : ℕ) (h : allows c k ≡ true) where
-  most : k ≤ rowOf c .most
+  pub allowed-most : k ≤ rowOf c .most
   unfolding allows
-  most = keeps k (rowOf c .most) (ltb k (rowOf c .least)) (leb k (rowOf c .most)) refl h
+  allowed-most = keeps k (rowOf c .most) (ltb k (rowOf c .least)) (leb k (rowOf c .most)) refl h
 
-  pub allowed-small : k ≤ 4096
+  pub allowed-small : k ≤ mostPayload
   unfolding Small
-  allowed-small = let a = most in let b = row-small c in omega arith
+  allowed-small = let a = allowed-most in let b = row-small c in omega arith
 
-  least : rowOf c .least ≤ k
+  pub allowed-least : rowOf c .least ≤ k
   unfolding allows
-  least = reaches k (rowOf c .least) (leb k (rowOf c .most)) (ltb k (rowOf c .least)) refl h
+  allowed-least = reaches k (rowOf c .least) (leb k (rowOf c .most)) (ltb k (rowOf c .least)) refl h
 
   pub least-A : c ≡ 65 → 30 ≤ k
   unfolding rowOf
-  least-A e = rw e at least
+  least-A e = rw e at allowed-least
 
   pub least-L : c ≡ 76 → 46 ≤ k
   unfolding rowOf
-  least-L e = rw e at least
+  least-L e = rw e at allowed-least
 
   pub least-J : c ≡ 74 → 1 ≤ k
   unfolding rowOf
-  least-J e = rw e at least
+  least-J e = rw e at allowed-least

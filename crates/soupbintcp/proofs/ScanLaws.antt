@@ -6,7 +6,7 @@ use Prim.Native.Nat.{ℕ, zero, suc, _+_, _-_, _≤_, _<_}
 use native.Mathlib.Omega.{arith}
 use native.Mathlib.Numerals.{add-one}
 use lib.ListN.{length, getD, take, drop, length-drop, drop-of-length-le}
-use lib.Seq.{drop-cons}
+use lib.Seq.{drop-cons, drop-drop}
 use lib.Dec.{ltb, eqb}
 use mir.Val.{Fits}
 use mir.Syntax.{w64}
@@ -39,7 +39,7 @@ use Rattle.soupbintcp.specs.Letters.{PacketKind, packetKind, packetValue
 use Rattle.soupbintcp.specs.Head.{lengthOf, letterOf, whole, need-more, headWords, headOf}
 use Rattle.soupbintcp.specs.Fields.{hasFields, sessionBytes, numberBytes, blankAllowed, leastNumberOf, Fielding, good, bad-field, fieldsWords, numberFields, withNumber, fieldsAt, fieldsOf}
 use Rattle.soupbintcp.specs.Front.{packet, wants-more, packetOf, frontAt, frontOf}
-use Rattle.soupbintcp.specs.Scan.{Stopping, stopped-short, stopWords, Scan, stops, behind, scanAt, scanUpTo, scanOf, Scans, StopsApart}
+use Rattle.soupbintcp.specs.Scan.{Stopping, stopped-short, stopWords, Scan, stops, behind, scanAt, scanUpTo, scanOf, Scans, StopsApart, StopsBy, by-short, by-refusal, ScanPromises}
 
 -- ---- what the head is
 
@@ -435,10 +435,52 @@ stoppedBy : Case Stopping → ℕ → Stop
 stoppedBy (answer stopped-short) r = stopped.NeedMore
 stoppedBy refused r = stopped.Refused (record { number = r })
 
-pub stops-apart : StopsApart
+stops-apart : StopsApart
 unfolding StopsApart stopWords stoppedBy
 stops-apart = read-back stopWords (λ w. stoppedBy (w .which) (w .refusal)) back
   where
     back : (a : Stop) → stoppedBy (stopWords a .which) (stopWords a .refusal) ≡ a
     back stopped.NeedMore = refl
     back (stopped.Refused r) = refl
+
+-- ---- what is left of the stream where a scan stops: its front stops it
+
+record Ends (s : Sender) (l : List ℕ) : Type 0 where
+  by-front : StopsBy (frontOf s (drop (scanOf s l .bytes) l)) (scanOf s l .stop)
+  inside : scanOf s l .bytes ≤ length l
+
+module _ (s : Sender) (l : List ℕ) where
+  ends-short : frontOf s l ≡ says wants-more [] → Ends s l
+  ends-short e =
+      let u = scan-short s l e in
+      let v : StopsBy (frontOf s l) (says stopped-short []) = rw e by-short in
+      record { by-front = rw u v; inside = rw u (omega arith) }
+
+  ends-at : (r : ℕ) → frontOf s l ≡ refuses r → Ends s l
+  ends-at r e =
+      let u = scan-at s l r e in
+      let v : StopsBy (frontOf s l) (refuses r) = rw e (by-refusal r) in
+      record { by-front = rw u v; inside = rw u (omega arith) }
+
+  ends-on : (p : PacketKind) (k : ℕ) (vs : List ℕ) → frontOf s l ≡ says (packet p) (k ∷ vs) → k ≤ length l → Ends s (drop k l) → Ends s l
+  ends-on p k vs e h x =
+      let u = scan-on s l p k vs e in
+      let d = drop-drop (scanOf s (drop k l) .bytes) k l in
+      record { by-front = rw (u, ← d) (x .by-front); inside = rw u (omega (arith, x .inside, length-drop k l)) }
+
+ends : (s : Sender) (n : ℕ) (l : List ℕ) → length l ≤ n → Ends s l
+ends s zero l h = ends-short s l (front-none s l h)
+ends s (suc n) l h = go (front-is s l) (λ (k : ℕ) (a : 3 ≤ k) (b : k ≤ length l). ends s n (drop k l) (omega (arith, length-drop k l)))
+  where
+    go : FrontIs s l → ((k : ℕ) → 3 ≤ k → k ≤ length l → Ends s (drop k l)) → Ends s l
+    go (stops-short e) i = ends-short s l e
+    go (stops-at r e) i = ends-at s l r e
+    go (passes p k vs e a b) i = ends-on s l p k vs e b (i k a b)
+
+pub scan-promises : ScanPromises
+scan-promises =
+    record {
+      stops = λ s l. ends s (length l) l (omega arith) .by-front;
+      within = λ s l. ends s (length l) l (omega arith) .inside;
+      tells-apart = stops-apart;
+    }

@@ -19,6 +19,7 @@ use Rattle.soupbintcp.specs.Front.{packet, frontAt, frontOf, packetAt, p
 use Rattle.soupbintcp.proofs.LetterLaws.{least-A, least-L, least-J}
 use Rattle.soupbintcp.proofs.HeadLaws.{IsWhole, head-cases, head-in-whole, head-stays, letter-stays}
 use Rattle.soupbintcp.proofs.FrontLaws.{front-tells-apart, said-packet, drop-take}
+use Rattle.soupbintcp.proofs.KindLaws.{kind-of-letter}
 use Rattle.soupbintcp.proofs.ScanLaws.{FrontIs, stops-short, stops-at, passes, front-is}
 
 le-trans : {a b c : ℕ} → a ≤ b → b ≤ c → a ≤ c
@@ -169,4 +170,4 @@ stable-bytes s l m z = rw (stable s l m z) (go (front-is s l))
     go (passes p k vs e a b) = rw e (take-append-le k l m b)
 
 pub front-promises : FrontPromises
-front-promises = record { stable = stable; stable-bytes = stable-bytes; tells-apart = front-tells-apart }
+front-promises = record { stable = stable; stable-bytes = stable-bytes; kind-of-letter = kind-of-letter; tells-apart = front-tells-apart }

@@ -5,7 +5,7 @@ use mathlib.Core.Bool.{Bool, true, not}
 use lib.ListN.{getD, take, drop}
 use lib.Dec.{eqb}
 use Rattle.wire.specs.Choice.{if_then_else_}
-use Rattle.wire.specs.Bounds.{sessionSize}
+use Rattle.wire.specs.Bounds.{leastNumber, sessionSize}
 use Rattle.wire.specs.Words.{Words, Case, answer, refused, says}
 use Rattle.text_fields.specs.Session.{goodSession}
 use Rattle.text_fields.specs.Sound.{usernameSize, passwordSize}
@@ -34,13 +34,13 @@ numberBytes c l = if hasFields c then take numberSize (drop (sessionAt c + sessi
 
 -- ---- what they may be
 
--- all spaces only in L
+-- all spaces in L and not in A; of every other letter the session is no bytes, which are blank and never bad
 unfoldable pub blankAllowed : ℕ → Bool
 blankAllowed c = not (eqb c letterAccepted)
 
 -- at least 1 in A
 unfoldable pub leastNumberOf : ℕ → ℕ
-leastNumberOf c = if eqb c letterAccepted then 1 else 0
+leastNumberOf c = if eqb c letterAccepted then leastNumber else 0
 
 -- what the fields make: a packet of a kind, or one of them is bad
 pub data Fielding : Type 0 where

@@ -10,7 +10,7 @@ use Rattle.wire.specs.Words.{Words, Case, answer, refused, says, refuses, refus
 use Rattle.soupbintcp.specs.declared.packet.Sender.{Sender}
 use Rattle.soupbintcp.specs.declared.front.Front.{Front}
 use Rattle.soupbintcp.specs.declared.front.Front.the-variants.{Whole, NeedMore, Refused}
-use Rattle.soupbintcp.specs.Letters.{PacketKind, packetKind, packetValues, letterLogin}
+use Rattle.soupbintcp.specs.Letters.{PacketKind, packetKind, packetValues, letterLogin, letterFor}
 use Rattle.soupbintcp.specs.Head.{headSize, Heading, whole, need-more, headOf, letterOf}
 use Rattle.soupbintcp.specs.Fields.{Fielding, good, bad-field, fieldsOf, sessionBytes}
 use Rattle.text_fields.specs.Sound.{usernameSize, passwordSize}
@@ -80,7 +80,12 @@ Stable = (s : Sender) (l m : List ℕ) → (frontOf s l .which ≡ answer wants-
 unfoldable pub StableBytes : Type 0
 StableBytes = (s : Sender) (l m : List ℕ) → (frontOf s l .which ≡ answer wants-more → ⊥) → packetBytes s (l ++ m) ≡ packetBytes s l
 
+-- a packet's kind is the one that its letter stands for
+unfoldable pub KindOfLetter : Type 0
+KindOfLetter = (s : Sender) (l : List ℕ) (k : PacketKind) (size : ℕ) (vs : List ℕ) → frontOf s l ≡ says (packet k) (size ∷ vs) → letterOf l ≡ letterFor k
+
 pub record FrontPromises : Type 0 where
   pub stable : Stable
   pub stable-bytes : StableBytes
+  pub kind-of-letter : KindOfLetter
   pub tells-apart : Injective frontWords

@@ -1,5 +1,5 @@
 -- The scan: the front read again and again, until it gives no packet.
-use Prim.Native.Nat.{ℕ, zero, suc, _+_}
+use Prim.Native.Nat.{ℕ, zero, suc, _+_, _≤_}
 use mathlib.Core.List.{List, []}
 use mathlib.Core.Path.{_≡_}
 use lib.ListN.{length, getD, drop}
@@ -48,6 +48,19 @@ scanUpTo s (suc f) l =
 
 unfoldable pub scanOf : Sender → List ℕ → Scan
 scanOf s l = scanUpTo s (length l) l
+
+-- ---- what is promised
+
+-- what stops a scan, by the front of the stream there: need more, or the same refusal
+pub data StopsBy : Words Fronting → Words Stopping → Type 0 where
+  by-short : StopsBy (says wants-more []) (says stopped-short [])
+  by-refusal : (r : ℕ) → StopsBy (refuses r) (refuses r)
+
+-- a scan goes on to where the front of what is left gives no packet, and passes no more bytes than there are
+pub record ScanPromises : Type 0 where
+  pub stops : (s : Sender) (l : List ℕ) → StopsBy (frontOf s (drop (scanOf s l .bytes) l)) (scanOf s l .stop)
+  pub within : (s : Sender) (l : List ℕ) → scanOf s l .bytes ≤ length l
+  pub tells-apart : StopsApart
 
 -- the promise of a scan that answers r
 pub record Scans (r : Scanned) (s : Sender) (l : List ℕ) : Type 0 where

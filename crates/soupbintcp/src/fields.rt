@@ -2,10 +2,12 @@
 use crate::packet;
 use crate::packet::HEAD_SIZE;
 use crate::packet::LENGTH_SIZE;
+use crate::packet::LOGIN_SESSION_AT;
 use crate::packet::Packet;
 use text_fields::number::NUMBER_SIZE;
 use text_fields::number::Number;
 use wire::kinds::ByteOffset;
+use wire::kinds::LEAST_NUMBER;
 use wire::kinds::SESSION_SIZE;
 use wire::kinds::SequenceNumber;
 use wire::number;
@@ -17,9 +19,6 @@ ghost use Rattle.text_fields.specs.Number.{numberWords};
 ghost use Rattle.soupbintcp.specs.Letters.{plainOf, packetKind, packetValues};
 ghost use Rattle.soupbintcp.specs.Head.{headSize, letterOf};
 ghost use Rattle.soupbintcp.specs.Fields.{hasFields, sessionAt, sessionBytes, numberBytes, blankAllowed, leastNumberOf, numberedOf, withNumber, reasonFields, fieldsWords, fieldsAt};
-
-// Where the session stands in a login request: after the username and the password.
-const LOGIN_SESSION_AT: usize = 19;
 
 // What the fields make: a packet, or one of them is bad.
 pub enum Fields {
@@ -35,13 +34,13 @@ pub(crate) fn letter(stream: &[u8]) -> u8
 }
 
 // Where the session stands in a packet of a letter; the number follows it.
-fn session_at(letter: u8) -> usize
-    ensures { λ r. ⌜ r ≡ sessionAt letter ⌝ }
+fn session_at(letter: u8) -> ByteOffset
+    ensures { λ r. ⌜ r .0 ≡ sessionAt letter ⌝ }
 {
     if letter == b'L' {
         LOGIN_SESSION_AT
     } else {
-        HEAD_SIZE
+        ByteOffset(HEAD_SIZE)
     }
 }
 
@@ -57,7 +56,7 @@ pub(crate) fn session_field(stream: &[u8], letter: u8) -> &[u8]
     ensures { λ r. ⌜ now r ≡ sessionBytes letter (now (stream .entry)) ⌝ }
 {
     if has_fields(letter) {
-        return parts::part(stream, ByteOffset(session_at(letter)), SESSION_SIZE);
+        return parts::part(stream, session_at(letter), SESSION_SIZE);
     }
     parts::part(stream, ByteOffset(0), 0)
 }
@@ -67,11 +66,8 @@ pub(crate) fn number_field(stream: &[u8], letter: u8) -> &[u8]
     ensures { λ r. ⌜ now r ≡ numberBytes letter (now (stream .entry)) ⌝ }
 {
     if has_fields(letter) {
-        return parts::part(
-            stream,
-            ByteOffset(session_at(letter) + SESSION_SIZE),
-            NUMBER_SIZE,
-        );
+        let at = session_at(letter);
+        return parts::part(stream, ByteOffset(at.0 + SESSION_SIZE), NUMBER_SIZE);
     }
     parts::part(stream, ByteOffset(0), 0)
 }
@@ -88,7 +84,7 @@ pub(crate) fn least(letter: u8) -> SequenceNumber
     ensures { λ r. ⌜ r .0 ≡ leastNumberOf letter ⌝ }
 {
     if letter == b'A' {
-        return SequenceNumber(1);
+        return LEAST_NUMBER;
     }
     SequenceNumber(0)
 }

@@ -4,6 +4,7 @@ use crate::fields::Fields;
 use crate::head;
 use crate::head::Head;
 use crate::packet::HEAD_SIZE;
+use crate::packet::LOGIN_PASSWORD_AT;
 use crate::packet::Packet;
 use crate::packet::Sender;
 use text_fields::number;
@@ -118,7 +119,7 @@ pub fn password(stream: &[u8], sender: Sender) -> &[u8]
 {
     login_part(
         packet_bytes(stream, sender),
-        ByteOffset(HEAD_SIZE + USERNAME_SIZE),
+        LOGIN_PASSWORD_AT,
         PASSWORD_SIZE,
     )
 }

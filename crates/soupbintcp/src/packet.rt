@@ -1,4 +1,9 @@
 // What a logical packet says.
+use text_fields::number::NUMBER_SIZE;
+use text_fields::sound::PASSWORD_SIZE;
+use text_fields::sound::USERNAME_SIZE;
+use wire::kinds::ByteOffset;
+use wire::kinds::SESSION_SIZE;
 use wire::kinds::SequenceNumber;
 ghost use mathlib.Core.Path.{_≡_};
 ghost use Rattle.soupbintcp.specs.Fields.{goodReason};
@@ -24,18 +29,23 @@ pub enum Packet {
     Logout,
 }
 
-// The bytes of the payload of A, J and L.
-pub const ACCEPTED_PAYLOAD: usize = 30;
+// The bytes of the payload of A: session and number; of J: the reason; of L: username, password, session and number.
+pub const ACCEPTED_PAYLOAD: usize = SESSION_SIZE + NUMBER_SIZE;
 
 pub const REJECTED_PAYLOAD: usize = 1;
 
-pub const LOGIN_PAYLOAD: usize = 46;
+pub const LOGIN_PAYLOAD: usize = USERNAME_SIZE + PASSWORD_SIZE + SESSION_SIZE + NUMBER_SIZE;
 
 // Bytes before the payload: the length and the letter.
 pub const HEAD_SIZE: usize = 3;
 
 // Bytes of the length, which counts all but itself.
 pub const LENGTH_SIZE: usize = 2;
+
+// Where the fields of L stand after its username.
+pub const LOGIN_PASSWORD_AT: ByteOffset = ByteOffset(HEAD_SIZE + USERNAME_SIZE);
+
+pub const LOGIN_SESSION_AT: ByteOffset = ByteOffset(HEAD_SIZE + USERNAME_SIZE + PASSWORD_SIZE);
 
 // The most bytes of a payload.
 pub const MOST_PAYLOAD: usize = 4096;

@@ -10,7 +10,7 @@ use text_fields::session;
 use text_fields::session::SessionState;
 use wire::refusal;
 use wire::refusal::Refusal;
-ghost use Rattle.soupbintcp.specs.Scan.{Scans, StopsApart};
+ghost use Rattle.soupbintcp.specs.Scan.{Scans, ScanPromises};
 
 // What stopped a scan: too few bytes, or the refusal of the packet there.
 pub enum Stop {
@@ -28,7 +28,7 @@ pub struct Scanned {
 // Scans the packets at the front of a stream, up to the first that is refused or not whole.
 pub fn scan(stream: &[u8], sender: Sender) -> Scanned
     ensures { λ r. ⌜ Scans r sender (now (stream .entry)) ⌝ }
-    ensures tells_apart { λ _. ⌜ StopsApart ⌝ }
+    ensures promises { λ _. ⌜ ScanPromises ⌝ }
 {
     let mut rest = stream;
     let mut packets: usize = 0;

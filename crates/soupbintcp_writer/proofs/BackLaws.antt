@@ -7,8 +7,9 @@ use native.Mathlib.Omega.{arith}
 use lib.ListN.{length, getD, take, drop, length-append}
 use lib.Seq.{getD-at, take-at, drop-at, drop-drop}
 use lib.Dec.{ltb, eqb}
-use borrow.Author.Tests.{le-leb, le-ltb, ltb-false, eqb-false, ne-eqb}
+use borrow.Author.Tests.{le-leb, le-ltb, ltb-false, eqb-false}
 use Rattle.wire.specs.Choice.{if_then_else_}
+use Rattle.wire.specs.Refusals.{payloadLong}
 use Rattle.wire.specs.Words.{says}
 use Rattle.wire.specs.Bytes.{bytes}
 use Rattle.wire.proofs.Numbers.{length-bytes, number-bytes}
@@ -18,38 +19,18 @@ use Rattle.text_fields.specs.Number.{value, numberOf, numberField}
 use Rattle.text_fields.proofs.FieldLaws.{number-laws}
 use Rattle.soupbintcp.specs.declared.packet.Sender.{Sender}
 use Rattle.soupbintcp.specs.declared.packet.Sender.the-variants.{Server, Client}
-use Rattle.soupbintcp.specs.Letters.{PacketKind, rejected, accepted, login, rowOf, sends, allows, plainOf}
-use Rattle.soupbintcp.specs.Head.{whole, lengthOf, letterOf, headOf}
+use Rattle.soupbintcp.specs.Letters.{PacketKind, debug, accepted, rejected, sequenced, server-heartbeat, end-of-session, login, unsequenced, client-heartbeat, logout, letterRejected, letterFor, mostPayload, rowOf, sends, allows, plainOf}
+use Rattle.soupbintcp.specs.Head.{lengthOf, letterOf}
 use Rattle.soupbintcp.specs.Fields.{good, bad-field, hasFields, sessionAt, sessionBytes, numberBytes, blankAllowed, leastNumberOf, numberedOf, numberFields, withNumber, goodReason, reasonFields, fieldsAt, fieldsOf}
-use Rattle.soupbintcp.specs.Front.{packetOf, frontAt, frontOf, packetAt, packetBytes, payloadOf, sessionOf, loginPart, usernameOf, passwordOf}
+use Rattle.soupbintcp.specs.Front.{frontOf, packetBytes, payloadOf, sessionOf, loginPart, usernameOf, passwordOf}
 use Rattle.soupbintcp.specs.Front as front
+use Rattle.soupbintcp.proofs.LetterLaws.{allowed-small}
+use Rattle.soupbintcp.proofs.HeadLaws.{IsWhole}
+use Rattle.soupbintcp.proofs.FrontLaws.{packet-so}
+use Rattle.soupbintcp.proofs.StableLaws.{said-bytes}
 use Rattle.soupbintcp_writer.specs.Packets.{headBytes, packet, payloadGround, acceptedGround, acceptedPayload, reasonGround, goodLogin, loginGround, loginPayload}
-use Rattle.soupbintcp_writer.specs.RoundTrips.{WithPayload, server-debug, client-debug, is-sequenced, is-unsequenced, LetterAlone, is-server-heartbeat, is-end-of-session, is-client-heartbeat, is-logout, ReadsAs, AcceptedReads, LoginReads}
+use Rattle.soupbintcp_writer.specs.RoundTrips.{PayloadUpTo, WithPayload, LetterAlone, ReadsAs, AcceptedReads, LoginReads}
 use Rattle.soupbintcp_writer.proofs.WriteLaws.{length-head, length-packet, length-field, length-accepted, length-login}
-
--- ---- any front: k is the payload's length in its head
-
-head-whole : (s : Sender) (l : List ℕ) (k : ℕ) → lengthOf l ≡ k + 1 → k ≤ 4096 → k + 3 ≤ length l → sends s (letterOf l) ≡ true
-    → allows (letterOf l) k ≡ true → headOf s l ≡ says whole ((k + 3) ∷ [])
-unfolding headOf
-head-whole s l k e h f g i =
-    let a : 2 ≤ length l = omega arith in
-    let b : k + 1 ≡ 0 → ⊥ = λ (z : k + 1 ≡ 0). omega arith in
-    let d : k + 1 - 1 ≡ k = omega arith in
-    let j : 3 ≤ length l = omega arith in
-    let m : k + 1 + 2 ≡ k + 3 = omega arith in
-    rw (le-ltb _ _ a, e, ne-eqb _ _ b, d, le-ltb _ _ h, le-ltb _ _ j, g, i, m, le-ltb _ _ f)
-
-front-packet : (s : Sender) (l : List ℕ) (size : ℕ) (k : PacketKind) (vs : List ℕ) → headOf s l ≡ says whole (size ∷ [])
-    → fieldsOf l ≡ says (good k) vs → frontOf s l ≡ says (front.packet k) (size ∷ vs)
-unfolding frontOf frontAt packetOf
-front-packet s l size k vs h f = rw (h, f)
-
--- the bytes of the packet in front
-pub front-bytes : (s : Sender) (l : List ℕ) (size : ℕ) (k : PacketKind) (vs : List ℕ) → frontOf s l ≡ says (front.packet k) (size ∷ vs)
-    → packetBytes s l ≡ take size l
-unfolding packetBytes packetAt
-front-bytes s l size k vs e = rw e
 
 -- ---- what is sent
 
@@ -61,7 +42,7 @@ module _ (c : ℕ) (p rest : List ℕ) where
   sent-size : length (packet c p ++ rest) ≡ length p + 3 + length rest
   sent-size = omega (arith, length-append (packet c p) rest, length-packet c p)
 
-  sent-length : length p ≤ 4096 → lengthOf (packet c p ++ rest) ≡ length p + 1
+  sent-length : length p ≤ mostPayload → lengthOf (packet c p ++ rest) ≡ length p + 1
   unfolding lengthOf
   sent-length h = rw as-sent (number-bytes 2 (length p + 1) (omega arith) [] (c ∷ (p ++ rest)))
 
@@ -73,16 +54,24 @@ module _ (c : ℕ) (p rest : List ℕ) where
   unfolding packet
   sent-behind = rw (append-assoc (headBytes c (length p)) p rest) (drop-at (headBytes c (length p)) (p ++ rest) 3 (length-head c (length p)))
 
-  sent-head : (s : Sender) → length p ≤ 4096 → sends s c ≡ true → allows c (length p) ≡ true
-      → headOf s (packet c p ++ rest) ≡ says whole ((length p + 3) ∷ [])
-  sent-head s h f g =
+  sent-whole : (s : Sender) → sends s c ≡ true → allows c (length p) ≡ true → IsWhole s (packet c p ++ rest) (length p + 3)
+  sent-whole s f g =
       let e = sent-letter in
-      head-whole s (packet c p ++ rest) (length p) (sent-length h) h (omega (arith, sent-size)) (rw e f) (rw e g)
+      let n = sent-length (allowed-small c (length p) g) in
+      let d : lengthOf (packet c p ++ rest) - 1 ≡ length p = omega arith in
+      record {
+        size = omega arith;
+        within = omega (arith, sent-size);
+        head = omega arith;
+        some = λ (z : lengthOf (packet c p ++ rest) ≡ 0). omega arith;
+        sent = rw e f;
+        allowed = rw (e, d) g;
+      }
 
   sent-bytes : (s : Sender) (k : PacketKind) (vs : List ℕ) → frontOf s (packet c p ++ rest) ≡ says (front.packet k) ((length p + 3) ∷ vs)
       → packetBytes s (packet c p ++ rest) ≡ packet c p
   sent-bytes s k vs e =
-      front-bytes s (packet c p ++ rest) (length p + 3) k vs e ∙ take-at (packet c p) rest (length p + 3) (length-packet c p)
+      said-bytes s (packet c p ++ rest) k (length p + 3) vs e ∙ take-at (packet c p) rest (length p + 3) (length-packet c p)
 
   sent-payload : (s : Sender) (k : PacketKind) (vs : List ℕ) → frontOf s (packet c p ++ rest) ≡ says (front.packet k) ((length p + 3) ∷ vs)
       → payloadOf s (packet c p ++ rest) ≡ p
@@ -90,69 +79,63 @@ module _ (c : ℕ) (p rest : List ℕ) where
   sent-payload s k vs e = ap (drop 3) (sent-bytes s k vs e) ∙ drop-at (headBytes c (length p)) p 3 (length-head c (length p))
 
   -- by what its fields make
-  sent-front : (s : Sender) (k : PacketKind) (vs : List ℕ) → length p ≤ 4096 → sends s c ≡ true → allows c (length p) ≡ true
+  sent-front : (s : Sender) (k : PacketKind) (vs : List ℕ) → sends s c ≡ true → allows c (length p) ≡ true
       → fieldsOf (packet c p ++ rest) ≡ says (good k) vs → frontOf s (packet c p ++ rest) ≡ says (front.packet k) ((length p + 3) ∷ vs)
-  sent-front s k vs h f g e = front-packet s (packet c p ++ rest) (length p + 3) k vs (sent-head s h f g) e
+  sent-front s k vs f g e = packet-so s (packet c p ++ rest) k (length p + 3) vs (sent-whole s f g) e
 
-  sent-reads : (s : Sender) (k : PacketKind) (vs : List ℕ) → length p ≤ 4096 → sends s c ≡ true → allows c (length p) ≡ true
+  sent-reads : (s : Sender) (k : PacketKind) (vs : List ℕ) → sends s c ≡ true → allows c (length p) ≡ true
       → fieldsOf (packet c p ++ rest) ≡ says (good k) vs → ReadsAs s (packet c p ++ rest) k ((length p + 3) ∷ vs) p
-  sent-reads s k vs h f g e = let x = sent-front s k vs h f g e in record { front = x; its-payload = sent-payload s k vs x }
+  sent-reads s k vs f g e = let x = sent-front s k vs f g e in record { front = x; its-payload = sent-payload s k vs x }
 
--- ---- letters that say all: what the table has of them
+-- ---- letters that say all: a payload that may be empty has no field that must be there
 
-record Plain (s : Sender) (c : ℕ) (k : PacketKind) (j : ℕ) : Type 0 where
-  sent : sends s c ≡ true
-  allowed : allows c j ≡ true
-  no-fields : hasFields c ≡ false
-  no-reason : eqb c 74 ≡ false
-  kind : plainOf c ≡ k
+record SaysAll (k : PacketKind) : Type 0 where
+  no-fields : hasFields (letterFor k) ≡ false
+  no-reason : eqb (letterFor k) letterRejected ≡ false
+  kind : plainOf (letterFor k) ≡ k
 
-with-payload : (s : Sender) (c : ℕ) (k : PacketKind) → WithPayload s c k → (j : ℕ) → j ≤ 4096 → Plain s c k j
-unfolding sends allows rowOf hasFields plainOf
-with-payload s c k server-debug j h =
-    let z : 0 ≤ j = omega arith in
-    record { sent = refl; allowed = rw (le-ltb _ _ z) (le-leb _ _ h); no-fields = refl; no-reason = refl; kind = refl }
-with-payload s c k client-debug j h =
-    let z : 0 ≤ j = omega arith in
-    record { sent = refl; allowed = rw (le-ltb _ _ z) (le-leb _ _ h); no-fields = refl; no-reason = refl; kind = refl }
-with-payload s c k is-sequenced j h =
-    let z : 0 ≤ j = omega arith in
-    record { sent = refl; allowed = rw (le-ltb _ _ z) (le-leb _ _ h); no-fields = refl; no-reason = refl; kind = refl }
-with-payload s c k is-unsequenced j h =
-    let z : 0 ≤ j = omega arith in
-    record { sent = refl; allowed = rw (le-ltb _ _ z) (le-leb _ _ h); no-fields = refl; no-reason = refl; kind = refl }
+says-all : (k : PacketKind) → rowOf (letterFor k) .least ≡ 0 → SaysAll k
+unfolding rowOf letterFor hasFields plainOf
+says-all debug e = record { no-fields = refl; no-reason = refl; kind = refl }
+says-all accepted e = absurd (omega arith)
+says-all rejected e = absurd (omega arith)
+says-all sequenced e = record { no-fields = refl; no-reason = refl; kind = refl }
+says-all server-heartbeat e = record { no-fields = refl; no-reason = refl; kind = refl }
+says-all end-of-session e = record { no-fields = refl; no-reason = refl; kind = refl }
+says-all login e = absurd (omega arith)
+says-all unsequenced e = record { no-fields = refl; no-reason = refl; kind = refl }
+says-all client-heartbeat e = record { no-fields = refl; no-reason = refl; kind = refl }
+says-all logout e = record { no-fields = refl; no-reason = refl; kind = refl }
 
-letter-alone : (s : Sender) (c : ℕ) (k : PacketKind) → LetterAlone s c k → Plain s c k 0
-unfolding sends allows rowOf hasFields plainOf
-letter-alone s c k is-server-heartbeat = record { sent = refl; allowed = refl; no-fields = refl; no-reason = refl; kind = refl }
-letter-alone s c k is-end-of-session = record { sent = refl; allowed = refl; no-fields = refl; no-reason = refl; kind = refl }
-letter-alone s c k is-client-heartbeat = record { sent = refl; allowed = refl; no-fields = refl; no-reason = refl; kind = refl }
-letter-alone s c k is-logout = record { sent = refl; allowed = refl; no-fields = refl; no-reason = refl; kind = refl }
-
-plain-fields : (l : List ℕ) (c : ℕ) → letterOf l ≡ c → hasFields c ≡ false → eqb c 74 ≡ false → fieldsOf l ≡ says (good (plainOf c)) []
+plain-fields : (l : List ℕ) (c : ℕ) → letterOf l ≡ c → hasFields c ≡ false → eqb c letterRejected ≡ false → fieldsOf l ≡ says (good (plainOf c)) []
 unfolding fieldsOf fieldsAt
 plain-fields l c e f g = rw (e, f, g)
 
-plain-reads : (s : Sender) (c : ℕ) (k : PacketKind) (p rest : List ℕ) → length p ≤ 4096 → Plain s c k (length p)
-    → ReadsAs s (packet c p ++ rest) k ((length p + 3) ∷ []) p
-plain-reads s c k p rest h t =
-    let f = plain-fields (packet c p ++ rest) c (sent-letter c p rest) (t .no-fields) (t .no-reason) in
-    sent-reads c p rest s k [] h (t .sent) (t .allowed) (rw (t .kind) at f)
+module _ (s : Sender) (k : PacketKind) (n : ℕ) (t : PayloadUpTo s k n) where
+  up-to-allows : (j : ℕ) → j ≤ n → allows (letterFor k) j ≡ true
+  unfolding allows
+  up-to-allows j h = let z : 0 ≤ j = omega arith in rw (t .least, t .most, le-ltb _ _ z) (le-leb _ _ h)
 
-ground-small : (p : List ℕ) → payloadGround p ≡ 0 → length p ≤ 4096
+  plain-reads : (p rest : List ℕ) → length p ≤ n → ReadsAs s (packet (letterFor k) p ++ rest) k ((length p + 3) ∷ []) p
+  plain-reads p rest h =
+      let a = says-all k (t .least) in
+      let f = plain-fields (packet (letterFor k) p ++ rest) (letterFor k) (sent-letter (letterFor k) p rest) (a .no-fields) (a .no-reason) in
+      sent-reads (letterFor k) p rest s k [] (t .sent) (up-to-allows (length p) h) (rw (a .kind) at f)
+
+ground-small : (p : List ℕ) → payloadGround p ≡ 0 → length p ≤ mostPayload
 unfolding payloadGround
-ground-small p = go (ltb 4096 (length p)) refl
+ground-small p = go (ltb mostPayload (length p)) refl
   where
-    go : (t : Bool) → ltb 4096 (length p) ≡ t → _≡_ {A = ℕ} (if t then 22 else 0) 0 → length p ≤ 4096
+    go : (t : Bool) → ltb mostPayload (length p) ≡ t → _≡_ {A = ℕ} (if t then payloadLong else 0) 0 → length p ≤ mostPayload
     go true e h = absurd (omega arith)
     go false e h = ltb-false _ _ e
 
-pub payload-back : (s : Sender) (c : ℕ) (k : PacketKind) → WithPayload s c k → (p rest : List ℕ) → payloadGround p ≡ 0
-    → ReadsAs s (packet c p ++ rest) k ((length p + 3) ∷ []) p
-payload-back s c k t p rest g = let h = ground-small p g in plain-reads s c k p rest h (with-payload s c k t (length p) h)
+pub payload-back : (s : Sender) (k : PacketKind) → WithPayload s k → (p rest : List ℕ) → payloadGround p ≡ 0
+    → ReadsAs s (packet (letterFor k) p ++ rest) k ((length p + 3) ∷ []) p
+payload-back s k t p rest g = plain-reads s k mostPayload t p rest (ground-small p g)
 
-pub letter-back : (s : Sender) (c : ℕ) (k : PacketKind) → LetterAlone s c k → (rest : List ℕ) → ReadsAs s (packet c [] ++ rest) k (3 ∷ []) []
-letter-back s c k t rest = plain-reads s c k [] rest (omega arith) (letter-alone s c k t)
+pub letter-back : (s : Sender) (k : PacketKind) → LetterAlone s k → (rest : List ℕ) → ReadsAs s (packet (letterFor k) [] ++ rest) k (3 ∷ []) []
+letter-back s k t rest = plain-reads s k 0 t [] rest (omega arith)
 
 -- ---- login rejected
 
@@ -178,7 +161,7 @@ rejected-allowed = refl
 
 pub rejected-back : (b : ℕ) (rest : List ℕ) → reasonGround b ≡ 0 → ReadsAs Server (packet 74 (b ∷ []) ++ rest) rejected (4 ∷ b ∷ []) (b ∷ [])
 rejected-back b rest g =
-    sent-reads 74 (b ∷ []) rest Server rejected (b ∷ []) (omega arith) rejected-sent rejected-allowed
+    sent-reads 74 (b ∷ []) rest Server rejected (b ∷ []) rejected-sent rejected-allowed
     (rejected-fields (packet 74 (b ∷ []) ++ rest) b (sent-letter 74 (b ∷ []) rest) (sent-reason b rest) g)
 
 -- ---- letters with a session and a number
@@ -247,7 +230,7 @@ accepted-back s n rest ten h g =
     let k : length p ≡ 30 = length-accepted s n ten in
     let e = sent-letter 65 p rest in
     let f = accepted-fields (packet 65 p ++ rest) s n e (accepted-session s n rest ten rest) (accepted-number s n rest ten) (o .0) (o .1) h in
-    let x = sent-front 65 p rest Server accepted (n ∷ []) (omega arith) accepted-sent (rw k accepted-allowed) f in
+    let x = sent-front 65 p rest Server accepted (n ∷ []) accepted-sent (rw k accepted-allowed) f in
     record { front = rw k at x; its-session = sent-session 65 p rest Server accepted (n ∷ []) x ∙ accepted-session s n rest ten [] }
 
 -- ---- login request
@@ -320,7 +303,7 @@ login-back u w s n rest six ten ten' h g =
     let e = sent-letter 76 p rest in
     let a = login-session u w s n six ten ten' rest in
     let f = login-fields (packet 76 p ++ rest) s n e a (login-number u w s n six ten ten' rest) (login-ground u w s g) h in
-    let x = sent-front 76 p rest Client login (n ∷ []) (omega arith) login-sent (rw k login-allowed) f in
+    let x = sent-front 76 p rest Client login (n ∷ []) login-sent (rw k login-allowed) f in
     record {
       front = rw k at x;
       its-username = sent-part p rest (n ∷ []) 3 6 x ∙ login-username u w s n six ten ten' [];

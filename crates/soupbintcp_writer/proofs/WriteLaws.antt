@@ -18,6 +18,7 @@ use Rattle.text_fields.specs.Letters.{space}
 use Rattle.text_fields.specs.Session.{goodSession}
 use Rattle.text_fields.specs.Sound.{sound}
 use Rattle.text_fields.specs.Number.{numberSize, numberField}
+use Rattle.soupbintcp.specs.Letters.{mostPayload}
 use Rattle.soupbintcp.specs.Fields.{goodReason}
 use Rattle.soupbintcp_writer.specs.Packets.{headBytes, packet, payloadGround, acceptedGround, acceptedPayload, reasonGround, goodLogin, loginGround, loginPayload}
 
@@ -60,22 +61,22 @@ packet-put : (l l₁ l₂ : List ℕ) (c : ℕ) (p : List ℕ) → length p + 3 
 unfolding packet
 packet-put l l₁ l₂ c p h e f = laid-on l l₁ l₂ (headBytes c (length p)) p 3 (length-head c (length p)) (omega arith) e f
 
-payload-22 : (p : List ℕ) → 4096 < length p → payloadGround p ≡ 22
+payload-22 : (p : List ℕ) → mostPayload < length p → payloadGround p ≡ 22
 unfolding payloadGround
 payload-22 p h = simp (lt-ltb _ _ h)
 
-payload-good : (p : List ℕ) → length p ≤ 4096 → payloadGround p ≡ 0
+payload-good : (p : List ℕ) → length p ≤ mostPayload → payloadGround p ≡ 0
 unfolding payloadGround
 payload-good p h = simp (le-ltb _ _ h)
 
-pub payload-refused : (l bs p : List ℕ) → 4096 < length p → Writes (Refused (record { number = 22 })) l l (payloadGround p) 0 bs
+pub payload-refused : (l bs p : List ℕ) → mostPayload < length p → Writes (Refused (record { number = 22 })) l l (payloadGround p) 0 bs
 payload-refused l bs p h = not-written l bs (payloadGround p) 22 (payload-22 p h) (omega arith)
 
-pub payload-short : (l p : List ℕ) (c : ℕ) → length p ≤ 4096 → length l < length p + 3
+pub payload-short : (l p : List ℕ) (c : ℕ) → length p ≤ mostPayload → length l < length p + 3
     → Writes (Refused (record { number = 41 })) l l (payloadGround p) 0 (packet c p)
 payload-short l p c h i = no-room l (packet c p) (payloadGround p) (length p + 3) (payload-good p h) (length-packet c p) i
 
-pub payload-done : (l l₁ l₂ p : List ℕ) (c : ℕ) → length p ≤ 4096 → length p + 3 ≤ length l → l₁ ≡ put l 0 (headBytes c (length p)) → l₂ ≡ put l₁ 3 p
+pub payload-done : (l l₁ l₂ p : List ℕ) (c : ℕ) → length p ≤ mostPayload → length p + 3 ≤ length l → l₁ ≡ put l 0 (headBytes c (length p)) → l₂ ≡ put l₁ 3 p
     → Writes (Wrote (length p + 3)) l l₂ (payloadGround p) 0 (packet c p)
 payload-done l l₁ l₂ p c h i e f =
     written l (packet c p) (payloadGround p) (length p + 3) l₂ (payload-good p h) (length-packet c p) i (packet-put l l₁ l₂ c p i e f)

@@ -11,56 +11,56 @@ use Rattle.text_fields.specs.Number.{NoLeadingZero}
 use Rattle.text_fields.specs.Sound.{usernameSize, passwordSize, soundUsername, soundPassword}
 use Rattle.soupbintcp.specs.declared.packet.Sender.{Sender}
 use Rattle.soupbintcp.specs.declared.packet.Sender.the-variants.{Server, Client}
-use Rattle.soupbintcp.specs.Letters.{PacketKind, debug, accepted, rejected, sequenced, server-heartbeat, end-of-session, login, unsequenced, client-heartbeat, logout, letterAccepted, letterRejected, letterLogin}
-use Rattle.soupbintcp.specs.Head.{headSize, letterOf}
+use Rattle.soupbintcp.specs.Letters.{PacketKind, accepted, rejected, login, letterAccepted, letterRejected, letterLogin, letterFor, mostPayload, acceptedPayloadSize, rejectedPayloadSize, loginPayloadSize, rowOf, sends}
+use Rattle.soupbintcp.specs.Head.{headSize}
 use Rattle.soupbintcp.specs.Fields.{numberBytes}
 use Rattle.soupbintcp.specs.Front.{packet, frontOf, payloadOf, sessionOf, usernameOf, passwordOf}
 use Rattle.soupbintcp_writer.specs.Packets as written
 use Rattle.soupbintcp_writer.specs.Packets.{payloadGround, acceptedGround, acceptedPayload, reasonGround, loginGround, loginPayload}
 
--- a packet that a sender sends, by its letter and its kind: with any payload, or with none
-pub data WithPayload : Sender → ℕ → PacketKind → Type 0 where
-  server-debug : WithPayload Server 43 debug
-  client-debug : WithPayload Client 43 debug
-  is-sequenced : WithPayload Server 83 sequenced
-  is-unsequenced : WithPayload Client 85 unsequenced
+-- a packet that a sender sends with a payload of none to n bytes, as the table of letters has it
+pub record PayloadUpTo (s : Sender) (k : PacketKind) (n : ℕ) : Type 0 where
+  pub sent : sends s (letterFor k) ≡ true
+  pub least : rowOf (letterFor k) .least ≡ 0
+  pub most : rowOf (letterFor k) .most ≡ n
 
-pub data LetterAlone : Sender → ℕ → PacketKind → Type 0 where
-  is-server-heartbeat : LetterAlone Server 72 server-heartbeat
-  is-end-of-session : LetterAlone Server 90 end-of-session
-  is-client-heartbeat : LetterAlone Client 82 client-heartbeat
-  is-logout : LetterAlone Client 79 logout
+-- + S U: with any payload; H Z R O: the letter alone
+abbrev pub WithPayload : Sender → PacketKind → Type 0
+WithPayload s k = PayloadUpTo s k mostPayload
+
+abbrev pub LetterAlone : Sender → PacketKind → Type 0
+LetterAlone s k = PayloadUpTo s k 0
 
 -- l in front of a stream reads as this packet, with this payload
 pub record ReadsAs (s : Sender) (l : List ℕ) (k : PacketKind) (values : List ℕ) (payload : List ℕ) : Type 0 where
   pub front : frontOf s l ≡ says (packet k) values
   pub its-payload : payloadOf s l ≡ payload
 
--- every packet that is read, of any letter, is its letter and its payload written
+-- every packet that is read, of any kind, is its kind's letter and its payload written
 unfoldable pub EveryPacketWritesBack : Type 0
 EveryPacketWritesBack = (s : Sender) (l : List ℕ) (k : PacketKind) (size : ℕ) (vs : List ℕ) → AreBytes l
-    → frontOf s l ≡ says (packet k) (size ∷ vs) → written.packet (letterOf l) (payloadOf s l) ≡ take size l
+    → frontOf s l ≡ says (packet k) (size ∷ vs) → written.packet (letterFor k) (payloadOf s l) ≡ take size l
 
 -- + S U
 pub record PayloadRoundTrip : Type 0 where
-  pub reads-back : (s : Sender) (c : ℕ) (k : PacketKind) → WithPayload s c k → (p rest : List ℕ) → payloadGround p ≡ 0
-      → ReadsAs s (written.packet c p ++ rest) k ((length p + headSize) ∷ []) p
-  pub writes-back : (s : Sender) (c : ℕ) (k : PacketKind) → WithPayload s c k → (l : List ℕ) (size : ℕ) → AreBytes l
-      → frontOf s l ≡ says (packet k) (size ∷ []) → written.packet c (payloadOf s l) ≡ take size l
-  pub may-be-written : (s : Sender) (c : ℕ) (k : PacketKind) → WithPayload s c k → (l : List ℕ) (size : ℕ)
+  pub reads-back : (s : Sender) (k : PacketKind) → WithPayload s k → (p rest : List ℕ) → payloadGround p ≡ 0
+      → ReadsAs s (written.packet (letterFor k) p ++ rest) k ((length p + headSize) ∷ []) p
+  pub writes-back : (s : Sender) (k : PacketKind) → WithPayload s k → (l : List ℕ) (size : ℕ) → AreBytes l
+      → frontOf s l ≡ says (packet k) (size ∷ []) → written.packet (letterFor k) (payloadOf s l) ≡ take size l
+  pub may-be-written : (s : Sender) (k : PacketKind) → WithPayload s k → (l : List ℕ) (size : ℕ)
       → frontOf s l ≡ says (packet k) (size ∷ []) → payloadGround (payloadOf s l) ≡ 0
 
 -- H Z R O
 pub record LetterRoundTrip : Type 0 where
-  pub reads-back : (s : Sender) (c : ℕ) (k : PacketKind) → LetterAlone s c k → (rest : List ℕ)
-      → ReadsAs s (written.packet c [] ++ rest) k (headSize ∷ []) []
-  pub writes-back : (s : Sender) (c : ℕ) (k : PacketKind) → LetterAlone s c k → (l : List ℕ) (size : ℕ) → AreBytes l
-      → frontOf s l ≡ says (packet k) (size ∷ []) → written.packet c [] ≡ take size l
+  pub reads-back : (s : Sender) (k : PacketKind) → LetterAlone s k → (rest : List ℕ)
+      → ReadsAs s (written.packet (letterFor k) [] ++ rest) k (headSize ∷ []) []
+  pub writes-back : (s : Sender) (k : PacketKind) → LetterAlone s k → (l : List ℕ) (size : ℕ) → AreBytes l
+      → frontOf s l ≡ says (packet k) (size ∷ []) → written.packet (letterFor k) [] ≡ take size l
 
 -- J
 pub record RejectedRoundTrip : Type 0 where
   pub reads-back : (reason : ℕ) (rest : List ℕ) → reasonGround reason ≡ 0
-      → ReadsAs Server (written.packet letterRejected (reason ∷ []) ++ rest) rejected ((headSize + 1) ∷ reason ∷ []) (reason ∷ [])
+      → ReadsAs Server (written.packet letterRejected (reason ∷ []) ++ rest) rejected ((headSize + rejectedPayloadSize) ∷ reason ∷ []) (reason ∷ [])
   pub writes-back : (l : List ℕ) (size reason : ℕ) → AreBytes l → frontOf Server l ≡ says (packet rejected) (size ∷ reason ∷ [])
       → written.packet letterRejected (reason ∷ []) ≡ take size l
   pub may-be-written : (l : List ℕ) (size reason : ℕ) → frontOf Server l ≡ says (packet rejected) (size ∷ reason ∷ []) → reasonGround reason ≡ 0
@@ -78,7 +78,7 @@ abbrev pub acceptedBytes : List ℕ → ℕ → List ℕ
 acceptedBytes session n = written.packet letterAccepted (acceptedPayload session n)
 
 pub record AcceptedReads (session : List ℕ) (n : ℕ) (rest : List ℕ) : Type 0 where
-  pub front : frontOf Server (acceptedBytes session n ++ rest) ≡ says (packet accepted) (33 ∷ n ∷ [])
+  pub front : frontOf Server (acceptedBytes session n ++ rest) ≡ says (packet accepted) ((headSize + acceptedPayloadSize) ∷ n ∷ [])
   pub its-session : sessionOf Server (acceptedBytes session n ++ rest) ≡ session
 
 -- an A that is read writes back to its own bytes, save a number with leading zeros
@@ -104,7 +104,7 @@ abbrev pub loginBytes : List ℕ → List ℕ → List ℕ → ℕ → List ℕ
 loginBytes username password session n = written.packet letterLogin (loginPayload username password session n)
 
 pub record LoginReads (username password session : List ℕ) (n : ℕ) (rest : List ℕ) : Type 0 where
-  pub front : frontOf Client (loginBytes username password session n ++ rest) ≡ says (packet login) (49 ∷ n ∷ [])
+  pub front : frontOf Client (loginBytes username password session n ++ rest) ≡ says (packet login) ((headSize + loginPayloadSize) ∷ n ∷ [])
   pub its-username : usernameOf Client (loginBytes username password session n ++ rest) ≡ username
   pub its-password : passwordOf Client (loginBytes username password session n ++ rest) ≡ password
   pub its-session : sessionOf Client (loginBytes username password session n ++ rest) ≡ session

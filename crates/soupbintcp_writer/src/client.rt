@@ -1,6 +1,9 @@
 // What a client sends; debug packets are with the server's.
 use crate::packets;
 use soupbintcp::packet::HEAD_SIZE;
+use soupbintcp::packet::LOGIN_PASSWORD_AT;
+use soupbintcp::packet::LOGIN_PAYLOAD;
+use soupbintcp::packet::LOGIN_SESSION_AT;
 use text_fields::number;
 use text_fields::session;
 use text_fields::sound;
@@ -14,24 +17,21 @@ use wire::output::Written;
 use wire::refusal;
 ghost use mathlib.Core.Path.{_≡_};
 ghost use mathlib.Core.List.{[], _++_};
-ghost use Prim.Native.Nat.{_≤_};
+ghost use Prim.Native.Nat.{_+_, _≤_};
 ghost use lib.ListN.{length};
+ghost use Rattle.wire.specs.Bounds.{sessionSize};
 ghost use Rattle.wire.specs.Output.{Writes, put};
+ghost use Rattle.text_fields.specs.Sound.{usernameSize, passwordSize};
 ghost use Rattle.soupbintcp.specs.Letters.{letterClientHeartbeat, letterLogin, letterLogout, letterUnsequenced};
+ghost use Rattle.soupbintcp.specs.Head.{headSize};
 ghost use Rattle.soupbintcp_writer.specs.Packets.{packet, payloadGround, goodLogin, loginGround, loginPayload};
 ghost use Rattle.soupbintcp_writer.specs.RoundTrips.{PayloadRoundTrip, LetterRoundTrip, LoginRoundTrip};
 
-// Bytes of a login request: the head, the username, the password, the session and the number; and of its payload alone.
-const LOGIN_SIZE: usize = 49;
+// Bytes of a login request: the head, the username, the password, the session and the number.
+const LOGIN_SIZE: usize = HEAD_SIZE + LOGIN_PAYLOAD;
 
-const LOGIN_PAYLOAD: u16 = 46;
-
-// Where its fields stand after the username.
-const PASSWORD_AT: usize = 9;
-
-const SESSION_AT: usize = 19;
-
-const NUMBER_AT: usize = 29;
+// Where its number stands: after the three names.
+const NUMBER_AT: ByteOffset = ByteOffset(HEAD_SIZE + USERNAME_SIZE + PASSWORD_SIZE + SESSION_SIZE);
 
 // Writes an unsequenced message.
 pub fn write_unsequenced(out: &mut [u8], payload: &[u8]) -> Written
@@ -89,12 +89,12 @@ fn put_names(
     password: [u8; PASSWORD_SIZE],
     session: [u8; SESSION_SIZE],
 )
-    requires { ⌜ 29 ≤ length (now out) ⌝ }
-    ensures { λ _. ⌜ now (out .exit) ≡ put (now (out .entry)) 3 (username ++ password ++ session) ⌝ }
+    requires { ⌜ headSize + usernameSize + passwordSize + sessionSize ≤ length (now out) ⌝ }
+    ensures { λ _. ⌜ now (out .exit) ≡ put (now (out .entry)) headSize (username ++ password ++ session) ⌝ }
 {
     output::put_bytes(out, ByteOffset(HEAD_SIZE), &username);
-    output::put_bytes(out, ByteOffset(PASSWORD_AT), &password);
-    output::put_bytes(out, ByteOffset(SESSION_AT), &session);
+    output::put_bytes(out, LOGIN_PASSWORD_AT, &password);
+    output::put_bytes(out, LOGIN_SESSION_AT, &session);
 }
 
 // Writes a login request from its parts.
@@ -115,7 +115,7 @@ fn write_parts(
     }
     packets::put_head(out, b'L', LOGIN_PAYLOAD);
     put_names(out, username, password, session);
-    number::put(out, ByteOffset(NUMBER_AT), number);
+    number::put(out, NUMBER_AT, number);
     Written::Wrote { size: LOGIN_SIZE }
 }
 

@@ -16,11 +16,11 @@ ghost use Rattle.soupbintcp.specs.Head.{headSize};
 ghost use Rattle.soupbintcp_writer.specs.Packets.{headBytes, packet, payloadGround};
 
 // Lays the length and the letter before a payload of so many bytes.
-pub(crate) fn put_head(out: &mut [u8], letter: u8, payload: u16)
+pub(crate) fn put_head(out: &mut [u8], letter: u8, payload: usize)
     requires { ⌜ (headSize ≤ length (now out)) × (payload ≤ mostPayload) ⌝ }
     ensures { λ _. ⌜ now (out .exit) ≡ put (now (out .entry)) 0 (headBytes letter payload) ⌝ }
 {
-    output::put16(out, ByteOffset(0), payload + 1);
+    output::put16(out, ByteOffset(0), (payload + 1) as u16);
     output::put_bytes(out, ByteOffset(LENGTH_SIZE), &[letter]);
 }
 
@@ -35,7 +35,7 @@ pub(crate) fn write_payload(out: &mut [u8], letter: u8, payload: &[u8]) -> Writt
     if out.len() < size + HEAD_SIZE {
         return Written::Refused(refusal::OUTPUT_SHORT);
     }
-    put_head(out, letter, size as u16);
+    put_head(out, letter, size);
     output::put_bytes(out, ByteOffset(HEAD_SIZE), payload);
     Written::Wrote {
         size: size + HEAD_SIZE,

@@ -1,6 +1,7 @@
 // What a server sends; debug packets are sent by both.
 use crate::packets;
 use soupbintcp::packet;
+use soupbintcp::packet::ACCEPTED_PAYLOAD;
 use soupbintcp::packet::HEAD_SIZE;
 use text_fields::number;
 use text_fields::session;
@@ -16,10 +17,11 @@ ghost use Rattle.soupbintcp.specs.Letters.{letterAccepted, letterDebug, letterE
 ghost use Rattle.soupbintcp_writer.specs.Packets.{packet, payloadGround, acceptedGround, acceptedPayload, reasonGround};
 ghost use Rattle.soupbintcp_writer.specs.RoundTrips.{EveryPacketWritesBack, PayloadRoundTrip, LetterRoundTrip, AcceptedRoundTrip, RejectedRoundTrip};
 
-// Bytes of a login accepted: the head, the session and the number; and of its payload alone.
-const ACCEPTED_SIZE: usize = 33;
+// Bytes of a login accepted: the head, the session and the number.
+const ACCEPTED_SIZE: usize = HEAD_SIZE + ACCEPTED_PAYLOAD;
 
-const ACCEPTED_PAYLOAD: u16 = 30;
+// Where its number stands: after the session.
+const NUMBER_AT: ByteOffset = ByteOffset(HEAD_SIZE + SESSION_SIZE);
 
 // Writes a debug packet, which a client sends too.
 pub fn write_debug(out: &mut [u8], payload: &[u8]) -> Written
@@ -74,7 +76,7 @@ pub fn write_accepted(
     }
     packets::put_head(out, b'A', ACCEPTED_PAYLOAD);
     output::put_bytes(out, ByteOffset(HEAD_SIZE), &session);
-    number::put(out, ByteOffset(HEAD_SIZE + SESSION_SIZE), number);
+    number::put(out, NUMBER_AT, number);
     Written::Wrote {
         size: ACCEPTED_SIZE,
     }

@@ -94,18 +94,18 @@ pub fn put(out: &mut [u8], at: ByteOffset, number: SequenceNumber) -> Written
     ensures { λ r. ⌜ Writes r (now (out .entry)) (now (out .exit)) 0 (at .0) (numberField (number .0)) ⌝ }
     ensures laws { λ _. ⌜ NumberLaws ⌝ }
 {
-    let mut field = [b' '; NUMBER_SIZE];
-    right_justify(&mut field, number.0);
+    let mut field = [letters::SPACE; NUMBER_SIZE];
+    right_justify(&mut field, number);
     output::put_bytes(out, at, &field)
 }
 
 // Lays the digits of a number at the end of a field of spaces.
-fn right_justify(field: &mut [u8], n: u64)
+fn right_justify(field: &mut [u8], number: SequenceNumber)
     requires { ⌜ now field ≡ replicate numberSize space ⌝ }
-    ensures { λ _. ⌜ now (field .exit) ≡ numberField n ⌝ }
+    ensures { λ _. ⌜ now (field .exit) ≡ numberField (number .0) ⌝ }
 {
     let mut text = [0u8; NUMBER_SIZE];
-    match writing::put(&mut text, ByteOffset(0), n) {
+    match writing::put(&mut text, ByteOffset(0), number.0) {
         Written::Wrote { size } => {
             output::put_bytes(field, ByteOffset(NUMBER_SIZE - size), &text[..size]);
         }

@@ -7,9 +7,6 @@ use Rattle.soupbintcp.proofs.front.password.Tie as tie
 packet-bytes-requires : tie.Need-packet-bytes-requires
 packet-bytes-requires c κs = search needs
 
-add-t4 : tie.Need-add-t4
-add-t4 c = search needs
-
 login-part-requires : tie.Need-login-part-requires
 login-part-requires c κs = search needs
 
@@ -17,4 +14,4 @@ returns : tie.Need-returns
 returns c = search within
 
 pub password-spec : {M : Type 1} → statement M
-password-spec = tie.close (tie.spec packet-bytes-requires add-t4 login-part-requires returns)
+password-spec = tie.close (tie.spec packet-bytes-requires login-part-requires returns)

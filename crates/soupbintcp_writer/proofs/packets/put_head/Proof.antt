@@ -7,6 +7,9 @@ use Rattle.soupbintcp_writer.proofs.packets.put_head.Tie as tie
 add-put16 : tie.Need-add-put16
 add-put16 c = search needs
 
+cast-put16 : tie.Need-cast-put16
+cast-put16 c = search needs
+
 put16-requires : tie.Need-put16-requires
 put16-requires c κs = search needs
 
@@ -27,6 +30,7 @@ put-head-spec =
     tie.close
     (tie.spec
     add-put16
+    cast-put16
     put16-requires
     slice-aggregate-put-bytes
     put-bytes-requires

@@ -13,9 +13,6 @@ add-if2 c = search needs
 returns-2 : tie.Need-returns-2
 returns-2 c = search packets
 
-cast-put-head : tie.Need-cast-put-head
-cast-put-head c = search needs
-
 put-head-requires : tie.Need-put-head-requires
 put-head-requires c κs = search needs
 
@@ -38,7 +35,6 @@ write-payload-spec =
     returns
     add-if2
     returns-2
-    cast-put-head
     put-head-requires
     put-bytes-requires
     add-t7

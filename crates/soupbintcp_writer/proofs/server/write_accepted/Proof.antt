@@ -28,9 +28,6 @@ slice-aggregate-put-bytes c = search needs
 put-bytes-requires : tie.Need-put-bytes-requires
 put-bytes-requires c κs = search needs
 
-add-t11 : tie.Need-add-t11
-add-t11 c = search needs
-
 put-requires : tie.Need-put-requires
 put-requires c κs = search needs
 
@@ -52,7 +49,6 @@ write-accepted-spec =
     put-head-requires
     slice-aggregate-put-bytes
     put-bytes-requires
-    add-t11
     put-requires
     same-length
     returns-4)

@@ -1,6 +1,5 @@
--- The kinds of packet are told apart by their letters, and the arm of a `match` that takes what is left knows which letters it doesn't
--- have: p and q are kinds, x a packet, ts the tags of such an arm.
-use mathlib.Core.Path.{_≡_, refl, ap, sym, _∙_}
+-- The arm of a `match` that takes what is left knows which letters it doesn't have: p is a kind, x a packet, ts the tags of such an arm.
+use mathlib.Core.Path.{_≡_, refl}
 use mathlib.Core.List.{List}
 use mathlib.Core.Bool.{false, not}
 use Prim.Native.Nat.{ℕ}
@@ -9,42 +8,11 @@ use borrow.Author.Tests.{ne-eqb}
 use types.Run.{OneOf, miss}
 use mir.Val.{hasKey}
 use denote.Enum.Declared.{tagOf}
-use Rattle.wire.specs.Choice.{if_then_else_}
 use Rattle.soupbintcp.specs.declared.packet.Packet.{Packet}
 use Rattle.soupbintcp.specs.declared.packet.Packet.the-variants as packet
 use Rattle.soupbintcp.specs.Letters.{PacketKind, debug, accepted, rejected, sequenced, server-heartbeat, end-of-session, login, unsequenced, client-heartbeat, logout, letterFor, packetKind}
+use Rattle.soupbintcp.proofs.KindLaws.{same-kind}
 use Rattle.soupbintcp.proofs.packet.Packet.{the-type}
-
-kindFor : ℕ → PacketKind
-kindFor n =
-    if eqb n 43 then debug
-    else if eqb n 65 then accepted
-    else if eqb n 74 then rejected
-    else if eqb n 83 then sequenced
-    else if eqb n 72 then server-heartbeat
-    else if eqb n 90 then end-of-session
-    else if eqb n 76 then login
-    else if eqb n 85 then unsequenced
-    else if eqb n 82 then client-heartbeat
-    else logout
-
-its-kind : (p : PacketKind) → kindFor (letterFor p) ≡ p
-unfolding kindFor letterFor
-its-kind debug = refl
-its-kind accepted = refl
-its-kind rejected = refl
-its-kind sequenced = refl
-its-kind server-heartbeat = refl
-its-kind end-of-session = refl
-its-kind login = refl
-its-kind unsequenced = refl
-its-kind client-heartbeat = refl
-its-kind logout = refl
-
-pub same-kind : (p q : PacketKind) → letterFor p ≡ letterFor q → p ≡ q
-same-kind p q e = sym (its-kind p) ∙ ap kindFor e ∙ its-kind q
-
--- ---- tags
 
 unfoldable pub tagFor : PacketKind → ℕ
 tagFor debug = 0
