@@ -13,11 +13,12 @@ PAGE = ROOT / "docs/ACCEPTANCE.md"
 
 
 def known():
-    """Every word that a name may be made of."""
+    """Every word of the sources, but for comments, that a name may be made of."""
     words = set()
     for path in ROOT.glob("crates/**/*"):
         if path.suffix in (".rt", ".antt") and "proofs" not in path.parts:
-            words |= set(re.findall(r"[\w·-]+", path.read_text()))
+            code = re.sub(r"(//|--)[^\n]*", "", path.read_text())
+            words |= set(re.findall(r"[\w·-]+", code))
         words |= {path.stem} if path.suffix == ".edit" else {path.name}
     return words | {"rt", "requires", "ensures"}
 

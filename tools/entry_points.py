@@ -16,8 +16,10 @@ ROOT = pathlib.Path(__file__).resolve().parent.parent
 LIST = ROOT / "docs/ENTRY-POINTS.md"
 # what the vector programs share: no library of the tender's, and without promises (docs/DECISIONS.md)
 UNPROMISED = {"vector_lines", "vector_sessions"}
-FUNCTION = re.compile(r"^( *)pub (?:extern \"C\" )?fn (\w+).*?\n\1\{\}?$", re.M | re.S)
-CLAUSE = re.compile(r"^ *(ensures|requires) ?(\w*) ?\{ (.*) \}$", re.M)
+FUNCTION = re.compile(r"^( *)(?:#\[\w+\] )*pub (?:extern \"C\" |const |unsafe )*fn (\w+)", re.M)
+# a header ends where a line opens the body, alone or behind the signature
+BODY = re.compile(r"^ *\{\}?$|[^{}]*[^{} ] \{\}?$", re.M)
+ENSURES = re.compile(r"^ *ensures ?(\w*) ?\{ (.*) \}$", re.M)
 HEADER = """# Entry points
 
 Made by `tools/entry_points.py` from the sources; the gate compares. Every public function of the libraries: what it promises of its
@@ -41,9 +43,8 @@ def plain(clause):
 
 class Function:
     def __init__(self, place, name, header):
-        self.place, self.name, self.edits = place, name, []
-        self.clauses = [(kind, label, plain(text)) for kind, label, text in CLAUSE.findall(header)]
-        self.lends = re.search(r": &(?:'a )?mut\b", header) is not None
+        self.place, self.name, self.header, self.edits = place, name, header, []
+        self.promises = [plain(text) for _, text in ENSURES.findall(header)]
 
     def names(self):
         """What an edit may call it: its path, or an end of it."""
@@ -51,13 +52,13 @@ class Function:
         return {"::".join(words[at:]) for at in range(len(words))}
 
     def faults(self):
-        promises = [text for kind, _, text in self.clauses if kind == "ensures"]
-        if any(kind == "requires" for kind, _, _ in self.clauses):
+        if re.search(r"\brequires\b", self.header):
             yield "has a requires"
-        if not promises:
+        if not self.promises:
             yield "promises nothing"
-        if self.lends and not any("′" in text for text in promises):
-            yield "lends memory of which no clause speaks"
+        for lent in re.findall(r"(\w+): &(?:'\w+ )?mut\b|&(?:'\w+ )?mut (self)\b", self.header):
+            if f"{''.join(lent)}′" not in " ".join(self.promises):
+                yield f"lends `{''.join(lent)}`, of which no clause speaks"
         if len(self.edits) < 2:
             yield f"has {len(self.edits)} must-fail edits"
 
@@ -71,7 +72,8 @@ def functions_of(crate):
         owners = [(m.start(), m.group(1)) for m in re.finditer(r"^impl (\w+)", text, re.M)]
         for m in FUNCTION.finditer(text):
             owner = [name for at, name in owners if at < m.start()][-1:] if m.group(1) else []
-            yield Function((*module, *owner), m.group(2), m.group(0))
+            end = BODY.search(text, m.end())
+            yield Function((*module, *owner), m.group(2), text[m.start() : end.end()])
 
 
 def edits_of(crate):
@@ -95,7 +97,7 @@ def section(crate, faults):
     for f in functions:
         path = "::".join((*f.place, f.name))
         faults += [f"{crate}::{path} {fault}" for fault in f.faults()]
-        promises = "; ".join(f"`{text}`" for _, _, text in f.clauses).replace("|", "\\|")
+        promises = "; ".join(f"`{text}`" for text in f.promises).replace("|", "\\|")
         rows.append(f"| `{path}` | {promises} | {', '.join(f'`{label}`' for label in f.edits)} |")
     if not rows:
         return ""

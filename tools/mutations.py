@@ -4,9 +4,10 @@
     tools/mutations.py [--seed N] [--count N] [--jobs N] [NAME ...]
 
 NAME is a library of crates.txt with promises of its own (default: each of them). For each, `count` changes are drawn by the seed
-from all that its code offers; a change that the compiler turns down is no program, and another is drawn for it. The crates have to
-be proved (`rt check`): the work is done in a copy, over their incremental folders. A line for each change, and one for each crate.
-It exits 1 where a change is still proved: either the two programs mean the same, or a contract has a hole.
+from all that its code offers; a change that the compiler turns down is no program, and another is drawn for it. A public constant that
+the crate doesn't use itself is left to the crates above. The crates have to be proved (`rt check`): the work is done in a copy, over what
+is proved. A line for each change, and one for each crate. It exits 1 where a change is still proved: either the two programs mean the
+same, or a contract has a hole.
 """
 import argparse
 import concurrent.futures
@@ -73,6 +74,12 @@ def is_code(line):
     return not re.match(r"\s*(//|use |ghost |pub mod |mod |requires|ensures|struct|pub struct|enum|pub enum)", line)
 
 
+def is_for_others(line, whole):
+    """Whether a line is a public constant that its crate doesn't use."""
+    m = re.match(r"\s*pub const (\w+)", line)
+    return m is not None and len(re.findall(rf"\b{m.group(1)}\b", whole)) == 1
+
+
 def changes_in(line, plain, fields, numbers):
     """Each change of a line: where it starts and ends, and what stands there then."""
     for m in OPERATOR.finditer(line):
@@ -104,9 +111,11 @@ def changes_in(line, plain, fields, numbers):
 def changes_of(name):
     """Every change that a crate's code offers: file, line, the line as it is, the line as it becomes."""
     plain, fields, numbers, found = enums(), siblings(), refusals(), []
-    for path in sorted((ROOT / "crates" / name / "src").rglob("*.rt")):
+    paths = sorted((ROOT / "crates" / name / "src").rglob("*.rt"))
+    whole = "\n".join(path.read_text() for path in paths)
+    for path in paths:
         for at, line in enumerate(path.read_text().splitlines()):
-            if is_code(line):
+            if is_code(line) and not is_for_others(line, whole):
                 new = {line[:start] + text + line[end:] for start, end, text in changes_in(line, plain, fields, numbers)}
                 found += [(path.relative_to(ROOT), at, line, other) for other in sorted(new - {line})]
     return found
@@ -158,7 +167,9 @@ def run(name, seed, count):
                 tally[verdict] += 1
                 path, at, line, new = change
                 lines.append(f"{verdict} {path}:{at + 1}: {line.strip()}  ->  {new.strip()}")
-    lines.append(f"{name}: {sum(tally.values())} changes of {len(found)}, {tally['refused']} refused, {tally['PROVED']} still proved")
+    tried = sum(tally.values())
+    few = "" if tried == count else ", all that are programs"
+    lines.append(f"{name}: {tried} changes of {len(found)}{few}, {tally['refused']} refused, {tally['PROVED']} still proved")
     return lines, tally
 
 

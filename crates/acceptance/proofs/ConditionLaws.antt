@@ -16,6 +16,7 @@ condition-1 =
       writers = output-laws .refusal-writes-nothing;
       receiver = receiver-promises .follows-the-table .refused;
       server = server-promises .changes-nothing;
+      server-with = server-promises .changes-nothing-with;
       client = client-promises .changes-nothing;
     }
 
@@ -34,6 +35,8 @@ condition-2 =
       decided-exactly-when = login-promises .accepted-exactly-when;
       never-accepted = login-promises .never-accepted;
       accepted-exactly-when = server-promises .login-exactly-when;
+      only-in = server-promises .only-in;
+      hands-up-only-in = server-promises .hands-up-only-in;
       follows-the-table = receiver-promises .follows-the-table;
       request-exactly-when = receiver-promises .request-exactly-when;
     }

@@ -2,6 +2,7 @@
 use Prim.Native.Nat.{ℕ}
 use mathlib.Core.List.{List}
 use mathlib.Core.Path.{_≡_}
+use Rattle.wire.specs.Words.{Words, answer}
 use Rattle.wire.specs.Output.{RefusalWritesNothing}
 use Rattle.moldudp64_writer.specs.RoundTrips.{PacketRoundTrip, EndRoundTrip, RequestRoundTrip}
 use Rattle.receiver.specs.declared.receiver.Receiver.{Receiver}
@@ -11,13 +12,16 @@ use Rattle.receiver.specs.Condition3 as receiver
 use Rattle.receiver.specs.Witnesses.{NotVacuous, NotWeak}
 use Rattle.soupbintcp_writer.specs.RoundTrips.{EveryPacketWritesBack, PayloadRoundTrip, LetterRoundTrip, AcceptedRoundTrip, RejectedRoundTrip, LoginRoundTrip}
 use Rattle.login.specs.declared.account.Account.{Account}
+use Rattle.login.specs.Account.{Knowing}
 use Rattle.login.specs.Statements.{AcceptedExactlyWhen, NeverAccepted}
 use Rattle.soup_server.specs.declared.server.Server.{Server}
 use Rattle.soup_client.specs.declared.client.Client.{Client}
-use Rattle.soup_server.specs.Server.{serverStep}
+use Rattle.soup_server.specs.declared.server.ServerState.the-variants.{In}
+use Rattle.soup_server.specs.Server.{stepWith, serverStep}
 use Rattle.soup_client.specs.Client.{clientStep}
+use Rattle.soup_session.specs.Answer.{unsequenced}
 use Rattle.soup_session.specs.Statements.{ChangesNothing}
-use Rattle.soup_server.specs.Statements.{LoginExactlyWhen}
+use Rattle.soup_server.specs.Statements.{LoginExactlyWhen, WasIn}
 
 -- Condition 1: a refusal changes neither state nor one lent byte. That every function ends and does nothing undefined, on any bytes, is
 -- no statement: each function of each crate is proved, and no public one of a library has a `requires` (docs/ACCEPTANCE.md).
@@ -28,10 +32,11 @@ pub record Condition1 : Type 0 where
   pub receiver : (r : Receiver) (l : List ℕ) → (refusalFor r l ≡ 0 → ⊥) → Refuses answerOf receiverAfter r l
   -- the session is as it was, no bytes are taken, and no other number is given; so it is where more is needed
   pub server : (table : List Account) → ChangesNothing Server (serverStep table)
+  pub server-with : (verdict : List ℕ → Words Knowing) → ChangesNothing Server (λ s l. stepWith s (verdict l) l)
   pub client : ChangesNothing Client clientStep
 
 -- Condition 2. That bytes are read and written exactly as the layouts say is each reader's and writer's own promise, an equation with
--- its definition: `readOf`, `requestOf`, `frontOf`; `packetOf`, `endPacket`, `header`, `packet`.
+-- its definition: `readOf`, `requestOf` (moldudp64) and `frontOf` (soupbintcp); `packet`, `endPacket`, `header` (moldudp64) and `packet` (soupbintcp_writer).
 pub record Condition2 : Type 0 where
   -- what is written reads back as itself; what is accepted writes back to its own bytes, save the named exceptions
   pub datagrams : PacketRoundTrip
@@ -47,6 +52,9 @@ pub record Condition2 : Type 0 where
   pub decided-exactly-when : AcceptedExactlyWhen
   pub never-accepted : NeverAccepted
   pub accepted-exactly-when : LoginExactlyWhen
+  -- nobody is in but by such a login, and messages are handed up only of one who is in
+  pub only-in : (table : List Account) (s : Server) (l : List ℕ) → serverStep table s l .after .state ≡ In → WasIn table s l
+  pub hands-up-only-in : (table : List Account) (s : Server) (l : List ℕ) → serverStep table s l .reply .which ≡ answer unsequenced → s .state ≡ In
   -- the receiver answers, and moves its number, exactly as the table says
   pub follows-the-table : FollowsTheTable answerOf receiverAfter
   -- an accepted datagram draws a request exactly when its number lies above the expected one

@@ -145,10 +145,14 @@ server-moves s l x o (hands-up k vs i q e) =
 server-moves s l x o (goes-by k vs w t i p f e) =
     does.moves k vs w (becomes s t) i (plain-takes (w .which) p) (λ z. absurd (plain-not-unsequenced (w .which) p z)) e
 
+-- with any verdict on the entry in front
+pub with-rests-or-moves : (verdict : List ℕ → Words Knowing) (s : Server) (l : List ℕ) → Does s l Client unsequenced (stepWith s (verdict l) l)
+with-rests-or-moves verdict s l = server-moves s l (verdict l) (stepWith s (verdict l) l) (server-does s (verdict l) l)
+
 module _ (t : List Account) where
   pub server-rests-or-moves : (s : Server) (l : List ℕ) → Does s l Client unsequenced (serverStep t s l)
   unfolding serverStep
-  server-rests-or-moves s l = server-moves s l (lookupOf t (entryOf l)) (stepWith s (lookupOf t (entryOf l)) l) (server-does s (lookupOf t (entryOf l)) l)
+  server-rests-or-moves s l = with-rests-or-moves (λ m. lookupOf t (entryOf m)) s l
 
   module _ (s : Server) (l m : List ℕ) where
     entry-stays : (k : ℕ) (vs : List ℕ) → InFront Client l k vs → entryOf (l ++ m) ≡ entryOf l

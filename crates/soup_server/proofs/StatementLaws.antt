@@ -28,7 +28,7 @@ use Rattle.soup_server.specs.declared.server.Server.{Server}
 use Rattle.soup_server.specs.Server.{becomes, loginAt, loginRow, waitingRow, rowAt, stepAt, stepWith, entryOf, serverStep}
 use Rattle.soup_server.specs.Statements.{LoginInFront, EntryIsItsFields, attemptOf, Accepts, LoginExactlyWhen, WasIn, before, by-login, ServerPromises}
 use Rattle.soup_server.proofs.LoginLaws.{username-first, password-first}
-use Rattle.soup_server.proofs.ServerCases.{ServerDoes, server-does, keeps, server-rests-or-moves, server-steady}
+use Rattle.soup_server.proofs.ServerCases.{ServerDoes, server-does, keeps, server-rests-or-moves, server-steady, with-rests-or-moves}
 use Rattle.soup_server.proofs.ServerCases as cases
 use Rattle.soup_server.proofs.ExampleLaws.{server-example}
 
@@ -125,6 +125,7 @@ server-promises =
       hands-up-only-in = hands-up-only-in;
       example = server-example;
       changes-nothing = λ t. changes-nothing (serverStep t) Client reply.unsequenced (server-rests-or-moves t);
+      changes-nothing-with = λ v. changes-nothing (λ s l. stepWith s (v l) l) Client reply.unsequenced (with-rests-or-moves v);
       takes-packets = λ t. takes-packets (serverStep t) Client reply.unsequenced (server-rests-or-moves t);
       keeps = keeps;
       hands-up-payload = λ t. hands-up (serverStep t) Client reply.unsequenced (server-rests-or-moves t) unsequenced-takes;

@@ -4,20 +4,20 @@ use mathlib.Core.List.{List, [], _∷_}
 use mathlib.Core.Path.{_≡_}
 use lib.ListN.{length}
 use Rattle.wire.specs.Refusals.{badSetting}
-use Rattle.wire.specs.Words.{answer, says, refuses}
+use Rattle.wire.specs.Words.{Words, answer, says, refuses}
 use Rattle.soupbintcp.specs.declared.packet.Sender.the-variants.{Client}
 use Rattle.soupbintcp.specs.Letters.{login}
 use Rattle.soupbintcp.specs.Fields.{notAuthorized, sessionNotAvailable}
 use Rattle.soupbintcp.specs.Front.{packet, frontOf, sessionOf, usernameOf, passwordOf}
 use Rattle.login.specs.declared.account.Account.{Account}
-use Rattle.login.specs.Account.{mostAccounts}
+use Rattle.login.specs.Account.{Knowing, mostAccounts}
 use Rattle.login.specs.Decision.{granted, Attempt}
 use Rattle.login.specs.Statements.{AccountRule, NotRefused, Rules, NoText}
 use Rattle.soup_session.specs.Answer.{accepted, rejected, unsequenced, stays, takes}
 use Rattle.soup_session.specs.Statements.{ChangesNothing, TakesPackets, HandsUpPayload, AnyCutting, RunsOn}
 use Rattle.soup_server.specs.declared.server.ServerState.the-variants.{Waiting, In, Closed}
 use Rattle.soup_server.specs.declared.server.Server.{Server}
-use Rattle.soup_server.specs.Server.{becomes, entryOf, serverStep}
+use Rattle.soup_server.specs.Server.{becomes, entryOf, stepWith, serverStep}
 use Rattle.soup_server.specs.Examples.{ServerExample}
 
 -- a login request in front
@@ -85,6 +85,8 @@ pub record ServerPromises : Type 0 where
   pub hands-up-only-in : (t : List Account) (s : Server) (l : List ℕ) → serverStep t s l .reply .which ≡ answer unsequenced → s .state ≡ In
   pub example : ServerExample
   pub changes-nothing : (t : List Account) → ChangesNothing Server (serverStep t)
+  -- so does a step with any verdict on the entry in front
+  pub changes-nothing-with : (verdict : List ℕ → Words Knowing) → ChangesNothing Server (λ s l. stepWith s (verdict l) l)
   pub takes-packets : (t : List Account) → TakesPackets Server (serverStep t) Client
   pub keeps : (t : List Account) (s : Server) (l : List ℕ) → Keeps s (serverStep t s l .after)
   pub hands-up-payload : (t : List Account) → HandsUpPayload Server (serverStep t) Client unsequenced

@@ -120,7 +120,8 @@ impl Server {
         self.step_with(table::lookup(table, entry(stream)), stream)
     }
 
-    // The same from what a table says of the entry in front, so that the accounts may be kept in any form.
+    // The same from what a table says of the entry in front, so that the accounts may be kept in any form. The verdict it is given is
+    // believed: a caller has it from a lookup of the entry in front.
     pub fn step_with(self, verdict: Verdict, stream: &[u8]) -> Stepped
         ensures { λ r. ⌜ Steps r (stepWith self (verdictWords verdict) (now (stream .entry))) ⌝ }
     {

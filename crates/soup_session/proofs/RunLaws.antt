@@ -7,7 +7,8 @@ use native.Mathlib.Omega.{arith}
 use lib.ListN.{length, take, drop, length-drop, take-append-drop}
 use lib.Seq.{take-append-le, drop-append-le}
 use Rattle.soup_session.specs.Answer.{Outcome}
-use Rattle.soup_session.specs.Stream.{Taking, Run, Stepping, stopped, then-run, runAt, runUpTo, run, runOn, runPieces, joined, packetsOf}
+use Rattle.wire.specs.Bytes.{joined}
+use Rattle.soup_session.specs.Stream.{Taking, Run, Stepping, stopped, then-run, runAt, runUpTo, run, runOn, runPieces, packetsOf}
 use Rattle.soup_session.specs.Statements.{TakesNothing, AnyCutting, RunsOn}
 
 -- what a run asks of its step: it takes no more than there is, what it takes doesn't change by what follows, and it takes nothing

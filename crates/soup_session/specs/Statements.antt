@@ -8,7 +8,8 @@ use Rattle.soupbintcp.specs.declared.packet.Sender.{Sender}
 use Rattle.soupbintcp.specs.Head.{headSize}
 use Rattle.soupbintcp.specs.Front.{packetBytes, payloadOf}
 use Rattle.soup_session.specs.Answer.{Reply, wants-more, messageOf, stays}
-use Rattle.soup_session.specs.Stream.{Stepping, stopped, run, runPieces, joined, packetsOf}
+use Rattle.wire.specs.Bytes.{joined}
+use Rattle.soup_session.specs.Stream.{Stepping, stopped, run, runPieces, packetsOf}
 
 -- need more and a refusal: no other number, no bytes taken, and the session as it was
 pub record ChangesNothing (S : Type 0) (step : Stepping S) : Type 0 where

@@ -53,11 +53,6 @@ unfoldable pub runPieces : {S : Type 0} → Stepping S → Run S → List (List 
 runPieces step r [] = r
 runPieces step r (m ∷ ms) = runPieces step (runOn step r m) ms
 
--- all pieces as one
-unfoldable pub joined : List (List ℕ) → List ℕ
-joined [] = []
-joined (m ∷ ms) = m ++ joined ms
-
 -- the bytes of the packets taken
 unfoldable pub packetsOf : List Taking → List (List ℕ)
 packetsOf [] = []

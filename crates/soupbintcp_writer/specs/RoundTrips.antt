@@ -11,7 +11,7 @@ use Rattle.text_fields.specs.Number.{NoLeadingZero}
 use Rattle.text_fields.specs.Sound.{usernameSize, passwordSize, soundUsername, soundPassword}
 use Rattle.soupbintcp.specs.declared.packet.Sender.{Sender}
 use Rattle.soupbintcp.specs.declared.packet.Sender.the-variants.{Server, Client}
-use Rattle.soupbintcp.specs.Letters.{PacketKind, accepted, rejected, login, letterAccepted, letterRejected, letterLogin, letterFor, mostPayload, acceptedPayloadSize, rejectedPayloadSize, loginPayloadSize, rowOf, sends}
+use Rattle.soupbintcp.specs.Letters.{PacketKind, debug, accepted, rejected, sequenced, server-heartbeat, end-of-session, login, unsequenced, client-heartbeat, logout, letterAccepted, letterRejected, letterLogin, letterFor, mostPayload, acceptedPayloadSize, rejectedPayloadSize, loginPayloadSize, rowOf, sends}
 use Rattle.soupbintcp.specs.Head.{headSize}
 use Rattle.soupbintcp.specs.Fields.{numberBytes}
 use Rattle.soupbintcp.specs.Front.{packet, frontOf, payloadOf, sessionOf, usernameOf, passwordOf}
@@ -36,6 +36,19 @@ pub record ReadsAs (s : Sender) (l : List ℕ) (k : PacketKind) (values : List �
   pub front : frontOf s l ≡ says (packet k) values
   pub its-payload : payloadOf s l ≡ payload
 
+-- the packets that are meant: the round trips below speak of each
+pub record PayloadKinds : Type 0 where
+  pub server-debug : WithPayload Server debug
+  pub client-debug : WithPayload Client debug
+  pub is-sequenced : WithPayload Server sequenced
+  pub is-unsequenced : WithPayload Client unsequenced
+
+pub record AloneKinds : Type 0 where
+  pub is-server-heartbeat : LetterAlone Server server-heartbeat
+  pub is-end-of-session : LetterAlone Server end-of-session
+  pub is-client-heartbeat : LetterAlone Client client-heartbeat
+  pub is-logout : LetterAlone Client logout
+
 -- every packet that is read, of any kind, is its kind's letter and its payload written
 unfoldable pub EveryPacketWritesBack : Type 0
 EveryPacketWritesBack = (s : Sender) (l : List ℕ) (k : PacketKind) (size : ℕ) (vs : List ℕ) → AreBytes l
@@ -43,6 +56,7 @@ EveryPacketWritesBack = (s : Sender) (l : List ℕ) (k : PacketKind) (size : ℕ
 
 -- + S U
 pub record PayloadRoundTrip : Type 0 where
+  pub of : PayloadKinds
   pub reads-back : (s : Sender) (k : PacketKind) → WithPayload s k → (p rest : List ℕ) → payloadGround p ≡ 0
       → ReadsAs s (written.packet (letterFor k) p ++ rest) k ((length p + headSize) ∷ []) p
   pub writes-back : (s : Sender) (k : PacketKind) → WithPayload s k → (l : List ℕ) (size : ℕ) → AreBytes l
@@ -52,6 +66,7 @@ pub record PayloadRoundTrip : Type 0 where
 
 -- H Z R O
 pub record LetterRoundTrip : Type 0 where
+  pub of : AloneKinds
   pub reads-back : (s : Sender) (k : PacketKind) → LetterAlone s k → (rest : List ℕ)
       → ReadsAs s (written.packet (letterFor k) [] ++ rest) k (headSize ∷ []) []
   pub writes-back : (s : Sender) (k : PacketKind) → LetterAlone s k → (l : List ℕ) (size : ℕ) → AreBytes l
