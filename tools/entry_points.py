@@ -5,8 +5,9 @@
     tools/entry_points.py --check    compares with that file, and exits 1 on a difference
 
 Either way it exits 1 where a public function has a `requires`, has no `ensures`, lends `&mut` memory of which no clause speaks, or has
-fewer than two edits; and where an edit names no public function of its crate. An edit's first line names the functions whose wrong
-answers it is: `# step: ..`, or `# Server::step, Server::step_with: ..` where a crate has several of one name.
+fewer than two edits; and where an edit names neither a public function nor a statement of its crate. An edit's first line names the
+functions whose wrong answers it is: `# step: ..`, or `# Server::step, Server::step_with: ..` where a crate has several of one name; or
+the statement of specs/ that it breaks: `# AnyCutting: ..`. Such an edit counts for no function.
 """
 import pathlib
 import re
@@ -83,13 +84,21 @@ def edits_of(crate):
         yield path.stem, re.sub(r"^# ", "", first).split(": ")[0].split(", ")
 
 
+def statements_of(crate):
+    """The names of the statements of a crate's specs/."""
+    texts = [path.read_text() for path in (ROOT / "crates" / crate / "specs").glob("*.antt")]
+    return set(re.findall(r"^(?:pub record|unfoldable pub|abbrev pub) ([A-Z]\w*)", "\n".join(texts), re.M))
+
+
 def section(crate, faults):
     """The part of the list that is about a crate; what is wrong with it is added to the faults."""
-    functions = list(functions_of(crate))
+    functions, statements, broken = list(functions_of(crate)), statements_of(crate), []
     for label, names in edits_of(crate):
         for name in names:
             meant = [f for f in functions if name in f.names()]
-            if len(meant) != 1:
+            if name in statements:
+                broken.append(f"`{label}` of `{name}`")
+            elif len(meant) != 1:
                 faults.append(f"{crate}/must-fail/{label}: `{name}` names {len(meant)} public functions")
             for f in meant:
                 f.edits.append(label)
@@ -101,7 +110,8 @@ def section(crate, faults):
         rows.append(f"| `{path}` | {promises} | {', '.join(f'`{label}`' for label in f.edits)} |")
     if not rows:
         return ""
-    return "\n".join([f"\n## `{crate}`\n", "| function | promises | edits |", "|---|---|---|", *rows]) + "\n"
+    also = [f"\nEdits of a statement: {', '.join(broken)}."] if broken else []
+    return "\n".join([f"\n## `{crate}`\n", "| function | promises | edits |", "|---|---|---|", *rows, *also]) + "\n"
 
 
 def main():

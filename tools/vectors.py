@@ -14,6 +14,7 @@ import sys
 sys.dont_write_bytecode = True
 TOOLS = pathlib.Path(__file__).resolve().parent
 NAMES = sorted(path.stem for path in TOOLS.glob("vectors_*.py"))
+PROGRAMS = sorted(line.split(":")[0] for line in (TOOLS.parent / "crates.txt").read_text().splitlines() if line.startswith("vectors_"))
 
 
 def run(name, check):
@@ -42,6 +43,7 @@ def main():
     check = words[1:] == ["--check"]
     if not words or words[0] not in [*NAMES, "all"] or (words[1:] and not check):
         sys.exit(f"{__doc__}\nNAME is one of: {' '.join([*NAMES, 'all'])}")
+    assert NAMES == PROGRAMS, f"a program or a file of vectors without the other: {sorted(set(NAMES) ^ set(PROGRAMS))}"
     names = NAMES if words[0] == "all" else [words[0]]
     sys.exit(0 if all([run(name, check) for name in names]) else 1)
 
