@@ -1,0 +1,5 @@
+pub mod WordLaws
+pub mod MessageLaws
+pub mod ReceiverLaws
+pub mod NameLaws
+pub mod Rules

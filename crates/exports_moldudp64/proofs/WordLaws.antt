@@ -1,0 +1,44 @@
+-- The words of datagrams, requests and answers: of a known case, and of what was read.
+use Prim.Native.Nat.{ℕ}
+use mathlib.Core.List.{List}
+use mathlib.Core.Bool.{Bool, false}
+use mathlib.Core.Path.{_≡_}
+use Rattle.moldudp64.specs.declared.downstream.Downstream.{Downstream}
+use Rattle.moldudp64.specs.declared.request.Request.{Request}
+use Rattle.moldudp64.specs.Downstream.{downstreamWords, readOf}
+use Rattle.moldudp64.specs.Request.{requestWords, requestOf}
+use Rattle.receiver.specs.declared.receiver.Answer.{Answer}
+use Rattle.receiver.specs.Table.{answerWords}
+use Rattle.host_answers.specs.Answers.{padded, wordsOf, Reports, Answers}
+use Rattle.exports_moldudp64.specs.Datagrams.{kindNumber, replyNumber}
+
+-- ---- a known case y
+
+pub datagram-refusal : {x y : Downstream} {g : ℕ} → x ≡ y → g ≡ downstreamWords y .refusal → g ≡ downstreamWords x .refusal
+datagram-refusal e h = rw e h
+
+pub datagram-words : {x y : Downstream} {ws : List ℕ} → x ≡ y → ws ≡ wordsOf kindNumber 3 (downstreamWords y) → ws ≡ wordsOf kindNumber 3 (downstreamWords x)
+datagram-words e h = rw e h
+
+pub request-refusal : {x y : Request} {g : ℕ} → x ≡ y → g ≡ requestWords y .refusal → g ≡ requestWords x .refusal
+request-refusal e h = rw e h
+
+pub request-words : {x y : Request} {ws : List ℕ} → x ≡ y → ws ≡ padded 2 (requestWords y .values) → ws ≡ padded 2 (requestWords x .values)
+request-words e h = rw e h
+
+pub answer-refusal : {x y : Answer} {g : ℕ} → x ≡ y → g ≡ answerWords y .refusal → g ≡ answerWords x .refusal
+answer-refusal e h = rw e h
+
+pub answer-words : {x y : Answer} {ws : List ℕ} → x ≡ y → ws ≡ wordsOf replyNumber 4 (answerWords y) → ws ≡ wordsOf replyNumber 4 (answerWords x)
+answer-words e h = rw e h
+
+-- ---- what was read
+
+module _ (l : List ℕ) (r : ℕ) (ws ws′ : List ℕ) (g : ℕ) (vs : List ℕ) where
+  pub datagram-read : (x : Downstream) → downstreamWords x ≡ readOf l → g ≡ downstreamWords x .refusal → vs ≡ wordsOf kindNumber 3 (downstreamWords x)
+      → Reports r ws ws′ false g vs → Answers r ws ws′ false kindNumber 3 (readOf l)
+  datagram-read x e a b h = rw (← e, ← a, ← b) h
+
+  pub request-read : (x : Request) → requestWords x ≡ requestOf l → g ≡ requestWords x .refusal → vs ≡ padded 2 (requestWords x .values)
+      → Reports r ws ws′ false g vs → Reports r ws ws′ false (requestOf l .refusal) (padded 2 (requestOf l .values))
+  request-read x e a b h = rw (← e, ← a, ← b) h

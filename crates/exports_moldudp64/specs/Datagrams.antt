@@ -1,0 +1,25 @@
+-- What the exported functions of MoldUDP64 answer, by number.
+use Prim.Native.Nat.{ℕ}
+use mathlib.Core.List.{List, [], _∷_}
+use Rattle.moldudp64.specs.Downstream.{Kind, data-packet, heartbeat, end-of-session}
+use Rattle.moldudp64_messages.specs.declared.cursor.Located.{Located}
+use Rattle.receiver.specs.Table.{Reply, deliver, old, quiet, ask, ended}
+use Rattle.host_answers.specs.Answers.{flag}
+
+-- what a datagram is; its number, and its count if it is data, follow
+unfoldable pub kindNumber : Kind → ℕ
+kindNumber data-packet = 1
+kindNumber heartbeat = 2
+kindNumber end-of-session = 3
+
+-- whether a message is there, its offset and its length
+abbrev pub locatedWords : Located → List ℕ
+locatedWords p = flag (p .exists) ∷ p .offset .0 ∷ p .length ∷ []
+
+-- what a receiver answers; its values follow
+unfoldable pub replyNumber : Reply → ℕ
+replyNumber deliver = 1
+replyNumber old = 2
+replyNumber quiet = 3
+replyNumber ask = 4
+replyNumber ended = 5

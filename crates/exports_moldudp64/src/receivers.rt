@@ -1,0 +1,112 @@
+// The receiver: started, and given datagrams.
+use host_states::receiver_state;
+use receiver::receiver::Answer;
+use receiver::receiver::Receiver;
+use wire::kinds::MessageCount;
+use wire::kinds::SESSION_SIZE;
+use wire::kinds::SequenceNumber;
+use wire::refusal;
+use wire::refusal::Refusal;
+ghost use mathlib.Core.Path.{_≡_};
+ghost use mathlib.Core.Bool.{_||_};
+ghost use lib.ListN.{length};
+ghost use lib.Dec.{ltb};
+ghost use Rattle.wire.specs.Bounds.{sessionSize};
+ghost use Rattle.parts.specs.Parts.{firstBytes};
+ghost use Rattle.receiver.specs.Table.{answerWords};
+ghost use Rattle.receiver.specs.Receiver.{startRefusal, startReceiver, answerOf, receiverAfter};
+ghost use Rattle.host_answers.specs.Answers.{codeOf, wordsOf, Answers};
+ghost use Rattle.host_states.specs.Receiver.{receiverSize, receiverIn, KeepsReceiver};
+ghost use Rattle.exports_moldudp64.specs.Datagrams.{replyNumber};
+
+// The words of an answer: which it is, and its three values.
+const ANSWER_WORDS: usize = 4;
+
+// An answer as a host gets it: its refusal, or its words.
+struct SaidAnswer {
+    refusal: Refusal,
+    words: [u64; ANSWER_WORDS],
+}
+
+fn answer_words(answer: Answer) -> SaidAnswer
+    ensures { λ r. ⌜ (r .refusal .number ≡ answerWords answer .refusal) × (r .words ≡ wordsOf replyNumber 4 (answerWords answer)) ⌝ }
+{
+    match answer {
+        Answer::Deliver {
+            first,
+            count,
+            skipped,
+        } => SaidAnswer {
+            refusal: refusal::NONE,
+            words: [1, first.0, count.0 as u64, skipped.0 as u64],
+        },
+        Answer::Old => SaidAnswer {
+            refusal: refusal::NONE,
+            words: [2, 0, 0, 0],
+        },
+        Answer::Quiet => SaidAnswer {
+            refusal: refusal::NONE,
+            words: [3, 0, 0, 0],
+        },
+        Answer::Ask { from, count } => SaidAnswer {
+            refusal: refusal::NONE,
+            words: [4, from.0, count.0 as u64, 0],
+        },
+        Answer::Ended => SaidAnswer {
+            refusal: refusal::NONE,
+            words: [5, 0, 0, 0],
+        },
+        Answer::Refused(r) => SaidAnswer {
+            refusal: r,
+            words: [0; ANSWER_WORDS],
+        },
+    }
+}
+
+// Starts a receiver.
+#[no_mangle]
+pub extern "C" fn eiderwagon_receiver_start(
+    session: &[u8],
+    next: u64,
+    limit: u16,
+    state: &mut [u8],
+) -> u32
+    ensures { λ r. ⌜ r ≡ codeOf (ltb (length (now (session .entry))) sessionSize || ltb (length (now (state .entry))) receiverSize) (startRefusal next limit) ⌝ }
+    ensures keeps { λ r. ⌜ KeepsReceiver r (now (state .entry)) (now (state .exit)) (startReceiver (firstBytes sessionSize (now (session .entry))) next limit) ⌝ }
+{
+    let started = Receiver::new(
+        parts::ten(session),
+        SequenceNumber(next),
+        MessageCount(limit),
+    );
+    let receiver = started.receiver;
+    let short = (session.len() < SESSION_SIZE) | (state.len() < receiver_state::SIZE);
+    let code = host_answers::code(short, started.refusal);
+    receiver_state::write(state, code, receiver);
+    code
+}
+
+// Takes a datagram.
+#[no_mangle]
+pub extern "C" fn eiderwagon_receiver_take(
+    state: &mut [u8],
+    datagram: &[u8],
+    words: &mut [u64],
+) -> u32
+    ensures { λ r. ⌜ Answers r (now (words .entry)) (now (words .exit)) (ltb (length (now (state .entry))) receiverSize) replyNumber 4 (answerOf (receiverIn (now (state .entry))) (now (datagram .entry))) ⌝ }
+    ensures keeps { λ r. ⌜ KeepsReceiver r (now (state .entry)) (now (state .exit)) (receiverAfter (receiverIn (now (state .entry))) (now (datagram .entry))) ⌝ }
+{
+    let taken = receiver_state::read(state).take(datagram);
+    let answer = taken.answer;
+    let receiver = taken.receiver;
+    let said = answer_words(answer);
+    let values = said.words;
+    let code = host_answers::report(
+        words,
+        state.len() < receiver_state::SIZE,
+        said.refusal,
+        &values,
+    );
+    receiver_state::write(state, code, receiver);
+    code
+}

@@ -1,0 +1,3 @@
+pub mod PacketLaws
+pub mod NameLaws
+pub mod Rules

@@ -1,0 +1,78 @@
+-- The words of what stands at the front of a stream, and of a scan.
+use Prim.Native.Nat.{ℕ}
+use mathlib.Core.List.{List, [], _∷_}
+use mathlib.Core.Bool.{false}
+use mathlib.Core.Path.{_≡_, refl, ap, sym, _∙_}
+use borrow.Author.Tests.{eq-eqb, ne-eqb}
+use Rattle.wire.specs.Words.{Words}
+use Rattle.wire.specs.declared.refusal.Refusal.{Refusal}
+use Rattle.soupbintcp.specs.declared.packet.Sender.{Sender}
+use Rattle.soupbintcp.specs.declared.packet.Sender.the-variants.{Server, Client}
+use Rattle.soupbintcp.specs.declared.packet.Packet.{Packet}
+use Rattle.soupbintcp.specs.declared.front.Front.{Front}
+use Rattle.soupbintcp.specs.declared.front.Front.the-variants.{Whole, NeedMore, Refused}
+use Rattle.soupbintcp.specs.declared.scan.Stop.{Stop}
+use Rattle.soupbintcp.specs.declared.scan.Scanned.{Scanned}
+use Rattle.soupbintcp.specs.declared.scan.Stop.the-variants as stop
+use Rattle.soupbintcp.specs.Letters.{packetKind, packetValues, letterFor}
+use Rattle.soupbintcp.specs.Front.{frontWords, frontOf}
+use Rattle.soupbintcp.specs.Scan.{stopWords, scanOf, Scans}
+use Rattle.host_answers.specs.Answers.{padded, wordsAt, wordsOf, Reports}
+use Rattle.exports_soupbintcp.specs.Packets.{senderOf, frontNumber, scanWords}
+
+pub from-server : (n : ℕ) → n ≡ 0 → Server ≡ senderOf n
+unfolding senderOf
+from-server n e = rw (eq-eqb n 0 e)
+
+pub from-client : (n : ℕ) → (n ≡ 0 → ⊥) → Client ≡ senderOf n
+unfolding senderOf
+from-client n e = rw (ne-eqb n 0 e)
+
+-- a packet of a known kind
+pub packet-words : {x y : Packet} {ws : List ℕ} (size : ℕ) → x ≡ y → ws ≡ padded 3 (letterFor (packetKind y) ∷ size ∷ packetValues y)
+    → ws ≡ padded 3 (letterFor (packetKind x) ∷ size ∷ packetValues x)
+packet-words size e h = rw e h
+
+-- the front of a known case
+module _ (x : Front) where
+  pub whole-refusal : (p : Packet) (size : ℕ) → x ≡ Whole p size → 0 ≡ frontWords x .refusal
+  unfolding frontWords
+  whole-refusal p size e = rw e
+
+  pub whole-words : (p : Packet) (size : ℕ) (ws : List ℕ) → x ≡ Whole p size → ws ≡ padded 3 (letterFor (packetKind p) ∷ size ∷ packetValues p)
+      → ws ≡ wordsOf frontNumber 3 (frontWords x)
+  unfolding frontWords wordsAt frontNumber
+  whole-words p size ws e h = rw e h
+
+  pub more-refusal : x ≡ NeedMore → 0 ≡ frontWords x .refusal
+  unfolding frontWords
+  more-refusal e = rw e
+
+  pub more-words : x ≡ NeedMore → 0 ∷ 0 ∷ 0 ∷ [] ≡ wordsOf frontNumber 3 (frontWords x)
+  unfolding frontWords wordsAt frontNumber padded
+  more-words e = rw e
+
+  pub refused-refusal : (r : Refusal) → x ≡ Refused r → r .number ≡ frontWords x .refusal
+  unfolding frontWords
+  refused-refusal r e = rw e
+
+  pub refused-words : (r : Refusal) → x ≡ Refused r → 0 ∷ 0 ∷ 0 ∷ [] ≡ wordsOf frontNumber 3 (frontWords x)
+  unfolding frontWords wordsAt padded
+  refused-words r e = rw e
+
+pub stop-more : (x : Stop) → x ≡ stop.NeedMore → 0 ≡ stopWords x .refusal
+unfolding stopWords
+stop-more x e = rw e
+
+pub stop-refused : (x : Stop) (r : Refusal) → x ≡ stop.Refused r → r .number ≡ stopWords x .refusal
+unfolding stopWords
+stop-refused x r e = rw e
+
+module _ (n : ℕ) (s : Sender) (l : List ℕ) (r : ℕ) (ws ws′ : List ℕ) (e : s ≡ senderOf n) where
+  pub read-answers : (x : Front) (g : ℕ) (vs : List ℕ) → frontWords x ≡ frontOf s l → g ≡ frontWords x .refusal → vs ≡ wordsOf frontNumber 3 (frontWords x)
+      → Reports r ws ws′ false g vs → Reports r ws ws′ false (frontOf (senderOf n) l .refusal) (wordsOf frontNumber 3 (frontOf (senderOf n) l))
+  read-answers x g vs f a b h = rw (← e, ← f, ← a, ← b) h
+
+  pub scan-answers : (x : Scanned) (k : ℕ) → Scans x s l → k ≡ stopWords (x .stop) .refusal → Reports r ws ws′ false 0 (x .packets ∷ x .bytes ∷ k ∷ [])
+      → Reports r ws ws′ false 0 (scanWords (scanOf (senderOf n) l))
+  scan-answers x k f a h = rw (← e, ← f .packets, ← f .bytes, ← f .stop, ← a) h

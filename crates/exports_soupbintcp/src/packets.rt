@@ -1,0 +1,111 @@
+// The front of a stream, and the scan over its packets.
+use host_answers;
+use soupbintcp::front;
+use soupbintcp::front::Front;
+use soupbintcp::packet::Packet;
+use soupbintcp::packet::Sender;
+use soupbintcp::scan;
+use soupbintcp::scan::Stop;
+use wire::refusal;
+use wire::refusal::Refusal;
+ghost use mathlib.Core.Path.{_≡_};
+ghost use mathlib.Core.List.{[], _∷_};
+ghost use mathlib.Core.Bool.{false};
+ghost use Rattle.host_answers.specs.Answers.{padded, wordsOf, Reports};
+ghost use Rattle.soupbintcp.specs.Letters.{packetKind, packetValues, letterFor};
+ghost use Rattle.soupbintcp.specs.Front.{frontWords, frontOf};
+ghost use Rattle.soupbintcp.specs.Scan.{stopWords, scanOf};
+ghost use Rattle.exports_soupbintcp.specs.Packets.{senderOf, frontNumber, scanWords};
+
+// The words of a packet's answer: its letter, its size and its value.
+const PACKET_WORDS: usize = 3;
+
+// An answer as a host gets it: its refusal, or its words.
+struct Said {
+    refusal: Refusal,
+    words: [u64; PACKET_WORDS],
+}
+
+// Who sends a stream: 0 is the server, every other number the client.
+fn sender_of(number: u8) -> Sender
+    ensures { λ r. ⌜ r ≡ senderOf number ⌝ }
+{
+    if number == 0 {
+        Sender::Server
+    } else {
+        Sender::Client
+    }
+}
+
+// A packet by its letter, its size, and its number or reason.
+fn packet_words(packet: Packet, size: u64) -> [u64; PACKET_WORDS]
+    ensures { λ r. ⌜ r ≡ padded 3 (letterFor (packetKind packet) ∷ size ∷ packetValues packet) ⌝ }
+{
+    match packet {
+        Packet::Debug => [b'+' as u64, size, 0],
+        Packet::Accepted { number } => [b'A' as u64, size, number.0],
+        Packet::Rejected { reason } => [b'J' as u64, size, reason as u64],
+        Packet::Sequenced => [b'S' as u64, size, 0],
+        Packet::ServerHeartbeat => [b'H' as u64, size, 0],
+        Packet::EndOfSession => [b'Z' as u64, size, 0],
+        Packet::Login { number } => [b'L' as u64, size, number.0],
+        Packet::Unsequenced => [b'U' as u64, size, 0],
+        Packet::ClientHeartbeat => [b'R' as u64, size, 0],
+        Packet::Logout => [b'O' as u64, size, 0],
+    }
+}
+
+// What the front of a stream is.
+fn front_words(front: Front) -> Said
+    ensures { λ r. ⌜ (r .refusal .number ≡ frontWords front .refusal) × (r .words ≡ wordsOf frontNumber 3 (frontWords front)) ⌝ }
+{
+    match front {
+        Front::Whole { packet, size } => Said {
+            refusal: refusal::NONE,
+            words: packet_words(packet, size as u64),
+        },
+        Front::NeedMore => Said {
+            refusal: refusal::NONE,
+            words: [0; PACKET_WORDS],
+        },
+        Front::Refused(r) => Said {
+            refusal: r,
+            words: [0; PACKET_WORDS],
+        },
+    }
+}
+
+// Reads the packet at the front of a stream.
+#[no_mangle]
+pub extern "C" fn eiderwagon_soup_read(stream: &[u8], sender: u8, words: &mut [u64]) -> u32
+    ensures { λ r. ⌜ Reports r (now (words .entry)) (now (words .exit)) false (frontOf (senderOf sender) (now (stream .entry)) .refusal) (wordsOf frontNumber 3 (frontOf (senderOf sender) (now (stream .entry)))) ⌝ }
+{
+    let said = front_words(front::read(stream, sender_of(sender)));
+    let values = said.words;
+    host_answers::report(words, false, said.refusal, &values)
+}
+
+// The refusal that stopped a scan, its number 0 where more bytes are needed.
+fn stop_number(stop: Stop) -> u64
+    ensures { λ r. ⌜ r ≡ stopWords stop .refusal ⌝ }
+{
+    match stop {
+        Stop::NeedMore => 0,
+        Stop::Refused(r) => r.number as u64,
+    }
+}
+
+// Passes all good packets at the front of a stream.
+#[no_mangle]
+pub extern "C" fn eiderwagon_soup_scan(stream: &[u8], sender: u8, words: &mut [u64]) -> u32
+    ensures { λ r. ⌜ Reports r (now (words .entry)) (now (words .exit)) false 0 (scanWords (scanOf (senderOf sender) (now (stream .entry)))) ⌝ }
+{
+    let scanned = scan::scan(stream, sender_of(sender));
+    let stop = scanned.stop;
+    let values = [
+        scanned.packets as u64,
+        scanned.bytes as u64,
+        stop_number(stop),
+    ];
+    host_answers::report(words, false, refusal::NONE, &values)
+}

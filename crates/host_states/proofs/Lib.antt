@@ -1,0 +1,6 @@
+pub mod FieldLaws
+pub mod CursorLaws
+pub mod ReceiverLaws
+pub mod SessionLaws
+pub mod ReadingLaws
+pub mod Rules

@@ -1,0 +1,30 @@
+-- Each case by its number.
+use Rattle.host_states.specs.Session.{serverStateByte}
+use Rattle.host_states.proofs.Rules.{servers}
+use Rattle.host_states.proofs.server_state.state_byte.Statement.{statement}
+use Rattle.host_states.proofs.server_state.state_byte.Tie as tie
+
+enum-told : tie.Need-enum-told
+enum-told c = search servers
+
+enum-told-2 : tie.Need-enum-told-2
+enum-told-2 c = search servers
+
+enum-told-3 : tie.Need-enum-told-3
+enum-told-3 c = search servers
+
+returns : tie.Need-returns
+unfolding serverStateByte
+returns c = search servers
+
+returns-2 : tie.Need-returns-2
+unfolding serverStateByte
+returns-2 c = search servers
+
+returns-3 : tie.Need-returns-3
+unfolding serverStateByte
+returns-3 c = search servers
+
+pub state-byte-spec : {M : Type 1} → statement M
+state-byte-spec =
+    tie.close (tie.spec enum-told enum-told-2 enum-told-3 returns returns-2 returns-3)

@@ -1,0 +1,34 @@
+-- A state kept in lent bytes, and a flag in one byte.
+use Prim.Native.Nat.{ℕ, _≤_}
+use mathlib.Core.List.{List, _++_}
+use mathlib.Core.Bool.{Bool, not}
+use mathlib.Core.Path.{_≡_}
+use lib.ListN.{length}
+use lib.Dec.{eqb}
+use Rattle.wire.specs.Bytes.{bytes}
+use Rattle.wire.specs.Output.{put}
+use Rattle.host_answers.specs.Answers.{onSuccess}
+
+-- the promise of keeping a state x, whose bytes are bs, as many as its layout has, in the bytes l, which become m: they change on
+-- success alone, and then the state that is read from them is x
+pub record Keeps {S : Type 0} (code : ℕ) (l m : List ℕ) (size : ℕ) (reads : List ℕ → S) (bs : List ℕ) (x : S) : Type 0 where
+  pub fits : length bs ≡ size
+  pub leaves : m ≡ onSuccess code (put l 0 bs) l
+  pub reads-back : code ≡ 0 → size ≤ length l → reads m ≡ x
+
+-- ---- for private helpers alone; no public promise uses it
+
+-- the same where there is room: the bytes are laid, and the state that is read from them is x
+pub record Lays {S : Type 0} (l m : List ℕ) (reads : List ℕ → S) (bs : List ℕ) (x : S) : Type 0 where
+  pub laid : m ≡ put l 0 bs
+  pub back : reads m ≡ x
+
+-- the name and the number that stand in front of a receiver and of a SoupBinTCP session
+unfoldable pub frontBytes : List ℕ → ℕ → List ℕ
+frontBytes name n = name ++ bytes 8 n
+
+-- ---- flags
+
+-- it is set when its byte isn't 0
+unfoldable pub flagOf : ℕ → Bool
+flagOf b = not (eqb b 0)

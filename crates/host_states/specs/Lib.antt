@@ -1,0 +1,5 @@
+pub mod Fields
+pub mod Cursor
+pub mod Receiver
+pub mod Session
+pub mod Reading

@@ -1,0 +1,54 @@
+// The SoupBinTCP session at the client.
+use crate::fields;
+use soup_client::client::Client;
+use soup_client::client::ClientState;
+use wire::kinds::SequenceNumber;
+use wire::number;
+ghost use mathlib.Core.Path.{_≡_};
+ghost use Rattle.host_states.specs.Session.{clientStateOf, clientStateByte, clientIn, KeepsClient};
+
+// Bytes of a client.
+pub const SIZE: usize = fields::SESSION_STATE_SIZE;
+
+// 1 is asked, 2 is in, 3 is ended, and every other byte closed.
+fn state_of(byte: u8) -> ClientState
+    ensures { λ r. ⌜ r ≡ clientStateOf byte ⌝ }
+{
+    match byte {
+        1 => ClientState::Asked,
+        2 => ClientState::In,
+        3 => ClientState::Ended,
+        _ => ClientState::Closed,
+    }
+}
+
+fn state_byte(state: ClientState) -> u8
+    ensures { λ r. ⌜ r ≡ clientStateByte state ⌝ }
+{
+    match state {
+        ClientState::Asked => 1,
+        ClientState::In => 2,
+        ClientState::Ended => 3,
+        ClientState::Closed => 0,
+    }
+}
+
+// The client in some bytes.
+pub fn read(state: &[u8]) -> Client
+    ensures { λ r. ⌜ r ≡ clientIn (now (state .entry)) ⌝ }
+{
+    Client {
+        session: parts::ten(state),
+        number: SequenceNumber(number::be64(state, fields::NUMBER_AT)),
+        state: state_of(number::byte(state, fields::STATE_AT)),
+    }
+}
+
+// Lays a client, where the code is 0.
+pub fn write(state: &mut [u8], code: u32, client: Client)
+    ensures { λ _. ⌜ KeepsClient code (now (state .entry)) (now (state .exit)) client ⌝ }
+{
+    let session = client.session;
+    let phase = client.state;
+    fields::lay_session(state, code, session, client.number.0, state_byte(phase));
+}

@@ -1,0 +1,52 @@
+// The SoupBinTCP session at the server.
+use crate::fields;
+use soup_server::server::Server;
+use soup_server::server::ServerState;
+use wire::kinds::SequenceNumber;
+use wire::number;
+ghost use mathlib.Core.Path.{_≡_};
+ghost use Rattle.host_states.specs.Session.{serverStateOf, serverStateByte, serverIn, KeepsServer};
+
+// Bytes of a server.
+pub const SIZE: usize = fields::SESSION_STATE_SIZE;
+
+// 1 is waiting, 2 is in, and every other byte closed.
+fn state_of(byte: u8) -> ServerState
+    ensures { λ r. ⌜ r ≡ serverStateOf byte ⌝ }
+{
+    match byte {
+        1 => ServerState::Waiting,
+        2 => ServerState::In,
+        _ => ServerState::Closed,
+    }
+}
+
+fn state_byte(state: ServerState) -> u8
+    ensures { λ r. ⌜ r ≡ serverStateByte state ⌝ }
+{
+    match state {
+        ServerState::Waiting => 1,
+        ServerState::In => 2,
+        ServerState::Closed => 0,
+    }
+}
+
+// The server in some bytes.
+pub fn read(state: &[u8]) -> Server
+    ensures { λ r. ⌜ r ≡ serverIn (now (state .entry)) ⌝ }
+{
+    Server {
+        session: parts::ten(state),
+        last: SequenceNumber(number::be64(state, fields::NUMBER_AT)),
+        state: state_of(number::byte(state, fields::STATE_AT)),
+    }
+}
+
+// Lays a server, where the code is 0.
+pub fn write(state: &mut [u8], code: u32, server: Server)
+    ensures { λ _. ⌜ KeepsServer code (now (state .entry)) (now (state .exit)) server ⌝ }
+{
+    let session = server.session;
+    let phase = server.state;
+    fields::lay_session(state, code, session, server.last.0, state_byte(phase));
+}

@@ -1,0 +1,357 @@
+/* Eiderwagon: MoldUDP64 and SoupBinTCP, at both ends, for hosts in C and in every language that calls C.
+ *
+ * Link with libeiderwagon.a, which `tools/host_library.sh` builds for x86-64 Linux. Nothing here allocates, blocks, reads a clock,
+ * touches a socket or keeps anything between two calls: a state is bytes that you keep, and lend to each call.
+ *
+ * What is lent
+ *   A buffer is a pointer and, behind it, how many elements it has. No pointer is NULL, not even where it has none, and no buffer that
+ *   is written overlaps another one of the same call. Any bytes, of any length, may be lent: nothing needs to be checked beforehand.
+ *
+ * What comes back
+ *   Each function returns 0, or the number of a refusal (EIDERWAGON_REFUSED_...). On 0, the answer stands in `words`, in the order that
+ *   the function's comment gives; each word that it names is set, those that an answer has no value for to 0, and no further one is
+ *   touched. A refusal changes no word, no byte of a lent output and no byte of a state.
+ *
+ * 41
+ *   A buffer of a fixed size (a name, a state, a cursor, `words`) with fewer elements than that is refused with 41, before every other
+ *   ground; of one with more, only the first are used. An output that is too short for what is to be written is refused with 41 after
+ *   every other ground. So each list of refusals below begins with 41, and a writer's ends with it too.
+ *
+ * States and cursors
+ *   Their layout is given below, and any bytes are one: a state can be stored, copied, compared and made by hand. Numbers are
+ *   big-endian. Bytes of zero are a closed session, a capture whose settings are refused, a cursor with no messages left. They are
+ *   also a receiver that isn't ended, of a name of ten zero bytes: start every state before its first use.
+ */
+#ifndef EIDERWAGON_H
+#define EIDERWAGON_H
+
+#include <stddef.h>
+#include <stdint.h>
+
+#ifdef __cplusplus
+extern "C" {
+#endif
+
+/* ---- Refusals ------------------------------------------------------------------------------------------------------------------- */
+
+enum {
+    EIDERWAGON_OK = 0,
+    EIDERWAGON_REFUSED_DATAGRAM_SHORT = 11,     /* a MoldUDP64 datagram under 20 bytes */
+    EIDERWAGON_REFUSED_DATAGRAM_LONG = 12,      /* a MoldUDP64 datagram over 65,507 bytes, or a writer's total */
+    EIDERWAGON_REFUSED_NUMBER_ZERO = 13,        /* the sequence number is 0 */
+    EIDERWAGON_REFUSED_NUMBERS_RUN_OUT = 14,    /* for data, number + count is above 2^64 - 1 */
+    EIDERWAGON_REFUSED_BLOCK_PAST_END = 15,     /* a message block runs past the end */
+    EIDERWAGON_REFUSED_BYTES_AFTER_BLOCKS = 16, /* bytes stand after the last message block */
+    EIDERWAGON_REFUSED_SESSION_DIFFERS = 17,    /* the datagram is of another session */
+    EIDERWAGON_REFUSED_SESSION_ENDED = 18,      /* the session has already ended */
+    EIDERWAGON_REFUSED_BAD_SETTING = 19,        /* a bad starting setting, or over 1,024 account records */
+    EIDERWAGON_REFUSED_END_BELOW_EXPECTED = 20, /* an end of session below the expected number */
+    EIDERWAGON_REFUSED_LENGTH_ZERO = 21,        /* a packet's length is 0 */
+    EIDERWAGON_REFUSED_PAYLOAD_LONG = 22,       /* a payload above 4,096 bytes */
+    EIDERWAGON_REFUSED_LETTER_NOT_SENT = 23,    /* the packet's letter is unknown, or of the wrong sender */
+    EIDERWAGON_REFUSED_LENGTH_WRONG = 24,       /* the packet's length is wrong for its letter */
+    EIDERWAGON_REFUSED_FIELD_BAD = 25,          /* a bad session, number or reason field */
+    EIDERWAGON_REFUSED_PACKET_NOT_TAKEN = 31,   /* the packet isn't taken in this state */
+    EIDERWAGON_REFUSED_STATE_CLOSED = 32,       /* the session is ended or closed */
+    EIDERWAGON_REFUSED_LOGIN_NOT_ASKED = 33,    /* a login accepted doesn't match what was asked for */
+    EIDERWAGON_REFUSED_NUMBERS_USED_UP = 34,    /* a sequenced message at 2^64 - 1 */
+    EIDERWAGON_REFUSED_SHORT = 41,              /* a lent buffer is shorter than needed */
+    EIDERWAGON_REFUSED_TOO_MANY_MESSAGES = 42,  /* over 65,534 messages */
+    EIDERWAGON_REFUSED_LENGTHS_DIFFER = 44,     /* the lengths don't add up to the data */
+    EIDERWAGON_REFUSED_FIELD_NOT_WRITTEN = 46,  /* an unsound username or password, a bad session or reason, or A number 0 */
+    EIDERWAGON_REFUSED_REQUEST_SIZE = 47,       /* a request that isn't 20 bytes */
+    EIDERWAGON_REFUSED_REQUEST_COUNT = 48       /* a request's count is 0 or 65,535 */
+};
+
+/* ---- Sizes, in bytes ------------------------------------------------------------------------------------------------------------ */
+
+enum {
+    EIDERWAGON_SESSION_SIZE = 10,       /* the name of a session */
+    EIDERWAGON_USERNAME_SIZE = 6,
+    EIDERWAGON_PASSWORD_SIZE = 10,
+    EIDERWAGON_ACCOUNT_SIZE = 16,       /* an account record: username, then password, each padded with spaces on the right */
+    EIDERWAGON_HEADER_SIZE = 20,        /* the header of a datagram, and a whole request */
+    EIDERWAGON_LARGEST_DATAGRAM = 65507,
+    EIDERWAGON_LARGEST_PACKET = 4099,   /* a SoupBinTCP packet: 2 bytes of length, a letter, 4,096 of payload */
+    EIDERWAGON_CURSOR_SIZE = 10,        /* 0: place in the datagram (8), 8: messages left (2) */
+    EIDERWAGON_RECEIVER_SIZE = 21,      /* 0: session (10), 10: next number (8), 18: asking limit (2), 20: ended, if not 0 (1) */
+    EIDERWAGON_SERVER_SIZE = 19,        /* 0: session (10), 10: last number (8), 18: 1 waiting, 2 in, else closed (1) */
+    EIDERWAGON_CLIENT_SIZE = 19,        /* 0: session (10), 10: number (8), 18: 1 asked, 2 in, 3 ended, else closed (1) */
+    EIDERWAGON_CAPTURE_SIZE = 70,       /* 0: a receiver (21), 21: 1 settings come next, 2 records do, 3 done, else settings refused
+                                           (1), 22: records read (8; above 2^32 - 1 counts as that), 30: messages delivered, and
+                                           answers old, quiet, asked and refused (8 each) */
+    EIDERWAGON_LARGEST_REPORT = 256     /* a buffer that every capture's report fits */
+};
+
+/* ---- MoldUDP64 ------------------------------------------------------------------------------------------------------------------ */
+
+/* What a datagram is: words[0] of eiderwagon_mold_read. */
+enum {
+    EIDERWAGON_DATA = 1,
+    EIDERWAGON_HEARTBEAT = 2,
+    EIDERWAGON_END_OF_SESSION = 3
+};
+
+/* Reads a datagram. Its session is its first ten bytes.
+ *   words (3): what it is; its sequence number; how many messages it has, 0 unless it is data
+ *   refusals:  41, 11, 12, 13, 14, 15, 16 */
+uint32_t eiderwagon_mold_read(const uint8_t *datagram, size_t datagram_size,
+                              uint64_t *words, size_t words_size);
+
+/* Finds one message of a datagram by its place, from 0. In a datagram that would be refused there is none. To visit several, walk.
+ *   words (3): 1 if it is there, else 0; the offset of its first byte in the datagram; its length, perhaps 0
+ *   refusals:  41 */
+uint32_t eiderwagon_mold_locate(const uint8_t *datagram, size_t datagram_size, uint16_t place,
+                                uint64_t *words, size_t words_size);
+
+/* Sets a cursor to the first message of a datagram; in one that would be refused no message is left.
+ *   cursor:    EIDERWAGON_CURSOR_SIZE bytes, written
+ *   refusals:  41 */
+uint32_t eiderwagon_mold_walk(const uint8_t *datagram, size_t datagram_size,
+                              uint8_t *cursor, size_t cursor_size);
+
+/* Answers the message at a cursor, and moves the cursor to the next one. Where no message is left the cursor stays. Lend the datagram
+ * that the cursor was set for; any other is safe too, and then the answer is about that one's bytes.
+ *   cursor:    EIDERWAGON_CURSOR_SIZE bytes, read and written
+ *   words (3): 1 if a message is there, else 0; the offset of its first byte in the datagram; its length, perhaps 0
+ *   refusals:  41 */
+uint32_t eiderwagon_mold_next(uint8_t *cursor, size_t cursor_size, const uint8_t *datagram, size_t datagram_size,
+                              uint64_t *words, size_t words_size);
+
+/* Writes data: messages from their lengths and their joined bytes, the first with number `first`. No lengths make a heartbeat.
+ *   session:   EIDERWAGON_SESSION_SIZE bytes
+ *   words (1): how many bytes of `out` were written
+ *   refusals:  41, 42, 44, 13, 14, 12, 41 */
+uint32_t eiderwagon_mold_write_data(const uint8_t *session, size_t session_size, uint64_t first,
+                                    const uint16_t *lengths, size_t lengths_size,
+                                    const uint8_t *joined, size_t joined_size,
+                                    uint8_t *out, size_t out_size, uint64_t *words, size_t words_size);
+
+/* Writes a heartbeat: `next` is the number of the next message.
+ *   session:   EIDERWAGON_SESSION_SIZE bytes
+ *   words (1): how many bytes of `out` were written
+ *   refusals:  41, 13, 41 */
+uint32_t eiderwagon_mold_write_heartbeat(const uint8_t *session, size_t session_size, uint64_t next,
+                                         uint8_t *out, size_t out_size, uint64_t *words, size_t words_size);
+
+/* Writes an end of session: `next` is one past the number of the last message.
+ *   session:   EIDERWAGON_SESSION_SIZE bytes
+ *   words (1): how many bytes of `out` were written
+ *   refusals:  41, 13, 41 */
+uint32_t eiderwagon_mold_write_end(const uint8_t *session, size_t session_size, uint64_t next,
+                                   uint8_t *out, size_t out_size, uint64_t *words, size_t words_size);
+
+/* Reads a request. Its session is its first ten bytes.
+ *   words (2): the first number wanted; how many messages
+ *   refusals:  41, 47, 13, 48 */
+uint32_t eiderwagon_mold_read_request(const uint8_t *request, size_t request_size,
+                                      uint64_t *words, size_t words_size);
+
+/* Writes a request for `count` messages from number `first` on.
+ *   session:   EIDERWAGON_SESSION_SIZE bytes
+ *   words (1): how many bytes of `out` were written
+ *   refusals:  41, 13, 48, 41 */
+uint32_t eiderwagon_mold_write_request(const uint8_t *session, size_t session_size, uint64_t first, uint16_t count,
+                                       uint8_t *out, size_t out_size, uint64_t *words, size_t words_size);
+
+/* ---- The MoldUDP64 receiver ----------------------------------------------------------------------------------------------------- */
+
+/* What a receiver answers: words[0] of eiderwagon_receiver_take. */
+enum {
+    EIDERWAGON_DELIVER = 1, /* deliver messages of this datagram: eiderwagon_receiver_walk finds them */
+    EIDERWAGON_OLD = 2,     /* nothing new */
+    EIDERWAGON_QUIET = 3,   /* a heartbeat, and nothing is missing */
+    EIDERWAGON_ASK = 4,     /* messages are missing: send a request */
+    EIDERWAGON_ENDED = 5    /* the session is over, and nothing is missing */
+};
+
+/* Starts a receiver of a session at the number of the next message, 1 or more. It asks for at most `limit` messages at once, 1 to 65,534.
+ *   session:   EIDERWAGON_SESSION_SIZE bytes
+ *   state:     EIDERWAGON_RECEIVER_SIZE bytes, written
+ *   refusals:  41, 19 */
+uint32_t eiderwagon_receiver_start(const uint8_t *session, size_t session_size, uint64_t next, uint16_t limit,
+                                   uint8_t *state, size_t state_size);
+
+/* Takes one datagram as it came.
+ *   state:     EIDERWAGON_RECEIVER_SIZE bytes, read and written
+ *   words (4): what to do, and for it
+ *                EIDERWAGON_DELIVER  number of the first message delivered; how many; how many of the datagram's are skipped before it
+ *                EIDERWAGON_ASK      first number to ask for; how many; 0
+ *                the others          0; 0; 0
+ *   refusals:  41, 11, 12, 13, 14, 15, 16, 17, 18, 20 */
+uint32_t eiderwagon_receiver_take(uint8_t *state, size_t state_size, const uint8_t *datagram, size_t datagram_size,
+                                  uint64_t *words, size_t words_size);
+
+/* Sets a cursor to the first message that an EIDERWAGON_DELIVER answer delivers: `count` and `skipped` are words[2] and words[3] of the
+ * answer to this datagram. eiderwagon_mold_next then answers exactly the delivered messages, in order.
+ *   cursor:    EIDERWAGON_CURSOR_SIZE bytes, written
+ *   refusals:  41 */
+uint32_t eiderwagon_receiver_walk(const uint8_t *datagram, size_t datagram_size, uint16_t count, uint16_t skipped,
+                                  uint8_t *cursor, size_t cursor_size);
+
+/* ---- SoupBinTCP packets --------------------------------------------------------------------------------------------------------- */
+
+/* Who sends a stream: 0 is the server, every other number the client. */
+enum {
+    EIDERWAGON_FROM_SERVER = 0,
+    EIDERWAGON_FROM_CLIENT = 1
+};
+
+/* Reads the packet at the front of a stream. Its payload is what stands from byte 3 up to its size: of 'A' the session (10) and the
+ * number (20), of 'L' the username (6), the password (10), the session (10) and the number (20), of 'J' the reason (1).
+ *   words (3): its letter ('+' 'A' 'J' 'S' 'H' 'Z' 'L' 'U' 'R' 'O'), or 0 where more bytes are needed; its size in bytes; the number
+ *              of 'A' and 'L', the reason of 'J'
+ *   refusals:  41, 21, 22, 23, 24, 25 */
+uint32_t eiderwagon_soup_read(const uint8_t *stream, size_t stream_size, uint8_t sender,
+                              uint64_t *words, size_t words_size);
+
+/* Passes all good packets at the front of a stream, up to the first one that is refused or not whole.
+ *   words (3): how many packets; how many bytes they take; the number of the refusal of the packet behind them, or 0 where more bytes
+ *              are needed
+ *   refusals:  41 */
+uint32_t eiderwagon_soup_scan(const uint8_t *stream, size_t stream_size, uint8_t sender,
+                              uint64_t *words, size_t words_size);
+
+/* The writers. Each has words (1): how many bytes of `out` were written. */
+
+/* Debug, '+', of either end.
+ *   refusals:  41, 22, 41 */
+uint32_t eiderwagon_soup_write_debug(const uint8_t *payload, size_t payload_size,
+                                     uint8_t *out, size_t out_size, uint64_t *words, size_t words_size);
+
+/* Login accepted, 'A', of the server: the session (EIDERWAGON_SESSION_SIZE bytes) and the number of the next message, 1 or more.
+ *   refusals:  41, 46, 41 */
+uint32_t eiderwagon_soup_write_accepted(const uint8_t *session, size_t session_size, uint64_t number,
+                                        uint8_t *out, size_t out_size, uint64_t *words, size_t words_size);
+
+/* Login rejected, 'J', of the server: the reason is 'A' (not authorized) or 'S' (session not available).
+ *   refusals:  41, 46, 41 */
+uint32_t eiderwagon_soup_write_rejected(uint8_t reason,
+                                        uint8_t *out, size_t out_size, uint64_t *words, size_t words_size);
+
+/* Sequenced message, 'S', of the server.
+ *   refusals:  41, 22, 41 */
+uint32_t eiderwagon_soup_write_sequenced(const uint8_t *payload, size_t payload_size,
+                                         uint8_t *out, size_t out_size, uint64_t *words, size_t words_size);
+
+/* Heartbeat of the server, 'H'.
+ *   refusals:  41, 41 */
+uint32_t eiderwagon_soup_write_server_heartbeat(uint8_t *out, size_t out_size, uint64_t *words, size_t words_size);
+
+/* End of session, 'Z', of the server.
+ *   refusals:  41, 41 */
+uint32_t eiderwagon_soup_write_end(uint8_t *out, size_t out_size, uint64_t *words, size_t words_size);
+
+/* Login request, 'L', of the client: username (EIDERWAGON_USERNAME_SIZE bytes) and password (EIDERWAGON_PASSWORD_SIZE), padded with
+ * spaces on the right; session (EIDERWAGON_SESSION_SIZE), padded with spaces on the left, all spaces for any; the number of the next
+ * message wanted, 0 for the most recent one.
+ *   refusals:  41, 46, 41 */
+uint32_t eiderwagon_soup_write_login(const uint8_t *username, size_t username_size,
+                                     const uint8_t *password, size_t password_size,
+                                     const uint8_t *session, size_t session_size, uint64_t number,
+                                     uint8_t *out, size_t out_size, uint64_t *words, size_t words_size);
+
+/* Unsequenced message, 'U', of the client.
+ *   refusals:  41, 22, 41 */
+uint32_t eiderwagon_soup_write_unsequenced(const uint8_t *payload, size_t payload_size,
+                                           uint8_t *out, size_t out_size, uint64_t *words, size_t words_size);
+
+/* Heartbeat of the client, 'R'.
+ *   refusals:  41, 41 */
+uint32_t eiderwagon_soup_write_client_heartbeat(uint8_t *out, size_t out_size, uint64_t *words, size_t words_size);
+
+/* Logout, 'O', of the client.
+ *   refusals:  41, 41 */
+uint32_t eiderwagon_soup_write_logout(uint8_t *out, size_t out_size, uint64_t *words, size_t words_size);
+
+/* ---- SoupBinTCP sessions -------------------------------------------------------------------------------------------------------- */
+
+/* What a session answers to the front of a stream: words[0] of a step. */
+enum {
+    EIDERWAGON_NEED_MORE = 0,      /* no whole packet yet: read on */
+    EIDERWAGON_ACCEPTED = 1,       /* a login is accepted: the server writes 'A' with its state's session and this number */
+    EIDERWAGON_REJECTED = 2,       /* a login is rejected: the server writes 'J' with this reason; the session is closed */
+    EIDERWAGON_SEQUENCED = 3,      /* a message for the client's program */
+    EIDERWAGON_UNSEQUENCED = 4,    /* a message for the server's program */
+    EIDERWAGON_PEER_HEARTBEAT = 5, /* the other end is alive */
+    EIDERWAGON_DEBUG = 6,          /* a debug packet, to be ignored */
+    EIDERWAGON_LOGGED_OUT = 7,     /* the client logs out; the session is closed */
+    EIDERWAGON_SESSION_OVER = 8    /* the server ends the session */
+};
+
+/* Starts a server's end of one connection: a session as in 'A', and the highest message number, 0 if there is none, at most 2^64 - 2.
+ *   session:   EIDERWAGON_SESSION_SIZE bytes
+ *   state:     EIDERWAGON_SERVER_SIZE bytes, written
+ *   refusals:  41, 19 */
+uint32_t eiderwagon_server_start(const uint8_t *session, size_t session_size, uint64_t last,
+                                 uint8_t *state, size_t state_size);
+
+/* Takes the packet at the front of a client's stream. Go on with the stream from words[1] on.
+ *   state:     EIDERWAGON_SERVER_SIZE bytes, read and written
+ *   accounts:  EIDERWAGON_ACCOUNT_SIZE bytes a record, at most 1,024 records; bytes left over are no record
+ *   words (5): what it answers; how many bytes it took, 0 where more are needed; and for
+ *                EIDERWAGON_ACCEPTED     the number to write in 'A'; 0; 0
+ *                EIDERWAGON_REJECTED     the reason to write in 'J'; 0; 0
+ *                EIDERWAGON_UNSEQUENCED  the offset of the message in the stream; its length; 0
+ *                the others              0; 0; 0
+ *   refusals:  41, 19, 21, 22, 23, 24, 25, 32, 31 */
+uint32_t eiderwagon_server_step(uint8_t *state, size_t state_size, const uint8_t *accounts, size_t accounts_size,
+                                const uint8_t *stream, size_t stream_size, uint64_t *words, size_t words_size);
+
+/* Starts a client's end of one connection, with the session and the number that its login request asks for.
+ *   session:   EIDERWAGON_SESSION_SIZE bytes, all spaces for any
+ *   state:     EIDERWAGON_CLIENT_SIZE bytes, written; from an accepted login on, its session is the server's and its number the next
+ *              message's
+ *   refusals:  41, 19 */
+uint32_t eiderwagon_client_start(const uint8_t *session, size_t session_size, uint64_t number,
+                                 uint8_t *state, size_t state_size);
+
+/* Takes the packet at the front of a server's stream. Go on with the stream from words[1] on.
+ *   state:     EIDERWAGON_CLIENT_SIZE bytes, read and written
+ *   words (5): what it answers; how many bytes it took, 0 where more are needed; and for
+ *                EIDERWAGON_ACCEPTED   the number of the next message; 0; 0
+ *                EIDERWAGON_REJECTED   the reason; 0; 0
+ *                EIDERWAGON_SEQUENCED  the number of the message; its offset in the stream; its length
+ *                the others            0; 0; 0
+ *   refusals:  41, 21, 22, 23, 24, 25, 32, 31, 33, 34 */
+uint32_t eiderwagon_client_step(uint8_t *state, size_t state_size, const uint8_t *stream, size_t stream_size,
+                                uint64_t *words, size_t words_size);
+
+/* ---- Captures ------------------------------------------------------------------------------------------------------------------- */
+
+/* Starts the reading of a capture in pieces.
+ *   state:     EIDERWAGON_CAPTURE_SIZE bytes, written
+ *   refusals:  41 */
+uint32_t eiderwagon_capture_start(uint8_t *state, size_t state_size);
+
+/* Feeds some bytes, after which more may come. Keep the bytes that were not used, at most 65,536, and feed them again in front of the
+ * next piece.
+ *   state:     EIDERWAGON_CAPTURE_SIZE bytes, read and written
+ *   words (2): how many bytes were used; 1 if nothing that follows changes the report, else 0
+ *   refusals:  41 */
+uint32_t eiderwagon_capture_feed(uint8_t *state, size_t state_size, const uint8_t *bytes, size_t bytes_size,
+                                 uint64_t *words, size_t words_size);
+
+/* Feeds the last bytes: those that were kept, with what came behind them. A record that is cut short counts as one refusal.
+ *   state:     EIDERWAGON_CAPTURE_SIZE bytes, read and written
+ *   refusals:  41 */
+uint32_t eiderwagon_capture_finish(uint8_t *state, size_t state_size, const uint8_t *bytes, size_t bytes_size);
+
+/* Writes what was read so far as a report, or `settings=refused` while no settings were read.
+ *   state:     EIDERWAGON_CAPTURE_SIZE bytes, read
+ *   words (1): how many bytes of `out` were written; EIDERWAGON_LARGEST_REPORT are enough
+ *   refusals:  41, 41 */
+uint32_t eiderwagon_capture_write(const uint8_t *state, size_t state_size,
+                                  uint8_t *out, size_t out_size, uint64_t *words, size_t words_size);
+
+/* Writes the report of a whole capture.
+ *   words (1): how many bytes of `out` were written; EIDERWAGON_LARGEST_REPORT are enough
+ *   refusals:  41, 41 */
+uint32_t eiderwagon_capture_report(const uint8_t *capture, size_t capture_size,
+                                   uint8_t *out, size_t out_size, uint64_t *words, size_t words_size);
+
+#ifdef __cplusplus
+}
+#endif
+
+#endif
