@@ -1,0 +1,2 @@
+pub mod CaptureLaws
+pub mod Rules

@@ -1,0 +1,65 @@
+-- The words of answers, and sessions kept, at both ends.
+use Prim.Native.Nat.{ℕ}
+use mathlib.Core.List.{List, [], _∷_}
+use mathlib.Core.Bool.{Bool}
+use mathlib.Core.Path.{_≡_}
+use Rattle.wire.specs.Bounds.{sessionSize}
+use Rattle.parts.specs.Parts.{firstBytes}
+use Rattle.login.specs.declared.account.Account.{Account}
+use Rattle.soup_session.specs.declared.answer.Answer.{Answer}
+use Rattle.soup_session.specs.Answer.{answerWords}
+use Rattle.soup_server.specs.declared.server.Server.{Server}
+use Rattle.soup_server.specs.declared.server.Stepped as server-steps
+use Rattle.soup_server.specs.Server as server
+use Rattle.soup_client.specs.declared.client.Client.{Client}
+use Rattle.soup_client.specs.declared.client.Stepped as client-steps
+use Rattle.soup_client.specs.Client as client
+use Rattle.host_answers.specs.Answers.{codeOf, wordsOf, Reports, Answers}
+use Rattle.host_states.specs.Session.{serverIn, KeepsServer, clientIn, KeepsClient}
+use Rattle.exports_sessions.specs.Sessions.{replyNumber, sized, stepWords}
+
+-- an answer of a known case y
+pub answer-refusal : {x y : Answer} {g : ℕ} → x ≡ y → g ≡ answerWords y .refusal → g ≡ answerWords x .refusal
+answer-refusal e h = rw e h
+
+pub answer-words : {x y : Answer} {ws : List ℕ} (size : ℕ) → x ≡ y → ws ≡ wordsOf replyNumber 5 (sized size (answerWords y))
+    → ws ≡ wordsOf replyNumber 5 (sized size (answerWords x))
+answer-words size e h = rw e h
+
+-- ---- at the server
+
+pub server-start-code : (s name : List ℕ) (n g r : ℕ) (lacks : Bool) → name ≡ firstBytes sessionSize s → g ≡ server.startRefusal name n → r ≡ codeOf lacks g
+    → r ≡ codeOf lacks (server.startRefusal (firstBytes sessionSize s) n)
+server-start-code s name n g r lacks a e h = rw (← a, ← e) h
+
+pub server-start-kept : (s name : List ℕ) (n : ℕ) (x : Server) (r : ℕ) (l m : List ℕ) → name ≡ firstBytes sessionSize s → x ≡ server.startServer name n
+    → KeepsServer r l m x → KeepsServer r l m (server.startServer (firstBytes sessionSize s) n)
+server-start-kept s name n x r l m a e k = rw (← a, ← e) k
+
+module _ (recs : List Account) (d l : List ℕ) (x : Server) (r : ℕ) (k : server-steps.Stepped) (a : x ≡ serverIn l) (s : server.Steps k (server.serverStep recs x d)) where
+  pub server-answers : (ws ws′ : List ℕ) (lacks : Bool) (g : ℕ) (vs : List ℕ) → g ≡ answerWords (k .answer) .refusal
+      → vs ≡ wordsOf replyNumber 5 (sized (k .size) (answerWords (k .answer))) → Reports r ws ws′ lacks g vs
+      → Answers r ws ws′ lacks replyNumber 5 (stepWords (server.serverStep recs (serverIn l) d))
+  server-answers ws ws′ lacks g vs f h t = rw (← a, ← s .answers, ← s .size, ← f, ← h) t
+
+  pub server-kept : (m : List ℕ) → KeepsServer r l m (k .server) → KeepsServer r l m (server.serverStep recs (serverIn l) d .after)
+  server-kept m h = rw (← a, ← s .leaves) h
+
+-- ---- at the client
+
+pub client-start-code : (s name : List ℕ) (n g r : ℕ) (lacks : Bool) → name ≡ firstBytes sessionSize s → g ≡ client.startRefusal name n → r ≡ codeOf lacks g
+    → r ≡ codeOf lacks (client.startRefusal (firstBytes sessionSize s) n)
+client-start-code s name n g r lacks a e h = rw (← a, ← e) h
+
+pub client-start-kept : (s name : List ℕ) (n : ℕ) (x : Client) (r : ℕ) (l m : List ℕ) → name ≡ firstBytes sessionSize s → x ≡ client.startClient name n
+    → KeepsClient r l m x → KeepsClient r l m (client.startClient (firstBytes sessionSize s) n)
+client-start-kept s name n x r l m a e k = rw (← a, ← e) k
+
+module _ (d l : List ℕ) (x : Client) (r : ℕ) (k : client-steps.Stepped) (a : x ≡ clientIn l) (s : client.Steps k (client.clientStep x d)) where
+  pub client-answers : (ws ws′ : List ℕ) (lacks : Bool) (g : ℕ) (vs : List ℕ) → g ≡ answerWords (k .answer) .refusal
+      → vs ≡ wordsOf replyNumber 5 (sized (k .size) (answerWords (k .answer))) → Reports r ws ws′ lacks g vs
+      → Answers r ws ws′ lacks replyNumber 5 (stepWords (client.clientStep (clientIn l) d))
+  client-answers ws ws′ lacks g vs f h t = rw (← a, ← s .answers, ← s .size, ← f, ← h) t
+
+  pub client-kept : (m : List ℕ) → KeepsClient r l m (k .client) → KeepsClient r l m (client.clientStep (clientIn l) d .after)
+  client-kept m h = rw (← a, ← s .leaves) h

@@ -1,0 +1,24 @@
+-- What the exported steps of a SoupBinTCP session answer, by number.
+use Prim.Native.Nat.{ℕ}
+use mathlib.Core.List.{_∷_}
+use Rattle.wire.specs.Words.{Words}
+use Rattle.soup_session.specs.Answer.{Reply, wants-more, accepted, rejected, sequenced, unsequenced, heartbeat, debug, logged-out, end-of-session, Outcome}
+
+unfoldable pub replyNumber : Reply → ℕ
+replyNumber wants-more = 0
+replyNumber accepted = 1
+replyNumber rejected = 2
+replyNumber sequenced = 3
+replyNumber unsequenced = 4
+replyNumber heartbeat = 5
+replyNumber debug = 6
+replyNumber logged-out = 7
+replyNumber end-of-session = 8
+
+-- a reply that says first how many bytes the step took
+abbrev pub sized : ℕ → Words Reply → Words Reply
+sized size w = record { which = w .which; refusal = w .refusal; values = size ∷ w .values }
+
+-- what a step of either end answers
+abbrev pub stepWords : {S : Type 0} → Outcome S → Words Reply
+stepWords o = sized (o .size) (o .reply)

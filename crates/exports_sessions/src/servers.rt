@@ -1,0 +1,57 @@
+// The session at the server.
+use crate::answers;
+use host_states::server_state;
+use soup_server::server::Server;
+use wire::kinds::SESSION_SIZE;
+use wire::kinds::SequenceNumber;
+ghost use mathlib.Core.Path.{_≡_};
+ghost use mathlib.Core.Bool.{_||_};
+ghost use lib.ListN.{length};
+ghost use lib.Dec.{ltb};
+ghost use Rattle.wire.specs.Bounds.{sessionSize};
+ghost use Rattle.parts.specs.Parts.{firstBytes};
+ghost use Rattle.login.specs.Table.{recordsOf};
+ghost use Rattle.soup_server.specs.Server.{startRefusal, startServer, serverStep};
+ghost use Rattle.host_answers.specs.Answers.{codeOf, Answers};
+ghost use Rattle.host_states.specs.Session.{sessionStateSize, serverIn, KeepsServer};
+ghost use Rattle.exports_sessions.specs.Sessions.{replyNumber, stepWords};
+
+// Starts a server.
+#[no_mangle]
+pub extern "C" fn eiderwagon_server_start(session: &[u8], last: u64, state: &mut [u8]) -> u32
+    ensures { λ r. ⌜ r ≡ codeOf (ltb (length (now (session .entry))) sessionSize || ltb (length (now (state .entry))) sessionStateSize) (startRefusal (firstBytes sessionSize (now (session .entry))) last) ⌝ }
+    ensures keeps { λ r. ⌜ KeepsServer r (now (state .entry)) (now (state .exit)) (startServer (firstBytes sessionSize (now (session .entry))) last) ⌝ }
+{
+    let started = Server::new(parts::ten(session), SequenceNumber(last));
+    let server = started.server;
+    let short = (session.len() < SESSION_SIZE) | (state.len() < server_state::SIZE);
+    let code = host_answers::code(short, started.refusal);
+    server_state::write(state, code, server);
+    code
+}
+
+// Takes the packet at the front of a client's stream.
+#[no_mangle]
+pub extern "C" fn eiderwagon_server_step(
+    state: &mut [u8],
+    accounts: &[u8],
+    stream: &[u8],
+    words: &mut [u64],
+) -> u32
+    ensures { λ r. ⌜ Answers r (now (words .entry)) (now (words .exit)) (ltb (length (now (state .entry))) sessionStateSize) replyNumber 5 (stepWords (serverStep (recordsOf (now (accounts .entry))) (serverIn (now (state .entry))) (now (stream .entry)))) ⌝ }
+    ensures keeps { λ r. ⌜ KeepsServer r (now (state .entry)) (now (state .exit)) (serverStep (recordsOf (now (accounts .entry))) (serverIn (now (state .entry))) (now (stream .entry)) .after) ⌝ }
+{
+    let stepped = server_state::read(state).step(accounts, stream);
+    let answer = stepped.answer;
+    let server = stepped.server;
+    let said = answers::answer_words(answer, stepped.size);
+    let values = said.words;
+    let code = host_answers::report(
+        words,
+        state.len() < server_state::SIZE,
+        said.refusal,
+        &values,
+    );
+    server_state::write(state, code, server);
+    code
+}
