@@ -2,17 +2,17 @@
 use borrow.Author.Needs.{needs}
 use mathlib.Core.Path.{refl}
 use Rattle.host_answers.proofs.Rules.{writings}
-use Rattle.exports_moldudp64.proofs.WordLaws.{datagram-refusal, datagram-words, request-refusal, request-words, answer-refusal, answer-words, datagram-read, request-read}
+use Rattle.exports_moldudp64.proofs.WordLaws.{datagram-refusal, datagram-words, request-refusal, request-words, answer-refusal, answer-words, datagram-read, request-read, datagrams-apart, answers-apart}
 use Rattle.exports_moldudp64.proofs.MessageLaws.{located-answers, next-answers, cursor-kept, next-kept}
 use Rattle.exports_moldudp64.proofs.ReceiverLaws.{start-code, start-kept, take-answers, take-kept}
 use Rattle.exports_moldudp64.proofs.NameLaws.{data-reported, heartbeat-reported, end-reported, request-reported}
 
 pub ruleset words = (datagram-refusal, datagram-words, request-refusal, request-words, answer-refusal, answer-words, refl, needs)
 
-pub ruleset reads = (datagram-read, request-read, needs)
+pub ruleset reads = (datagrams-apart, datagram-read, request-read, needs)
 
 pub ruleset messages = (located-answers, next-answers, cursor-kept, next-kept, needs)
 
-pub ruleset receivers = (start-code, start-kept, take-answers, take-kept, needs)
+pub ruleset receivers = (answers-apart, start-code, start-kept, take-answers, take-kept, needs)
 
 pub ruleset names = (data-reported, heartbeat-reported, end-reported, request-reported, writings)

@@ -2,15 +2,18 @@
 use Prim.Native.Nat.{ℕ}
 use mathlib.Core.List.{List}
 use mathlib.Core.Bool.{Bool, false}
-use mathlib.Core.Path.{_≡_}
+use mathlib.Core.Path.{_≡_, refl}
+use lib.Dec.{eqb}
+use Rattle.wire.specs.Choice.{if_then_else_}
+use Rattle.wire.proofs.Words.{read-back}
 use Rattle.moldudp64.specs.declared.downstream.Downstream.{Downstream}
 use Rattle.moldudp64.specs.declared.request.Request.{Request}
-use Rattle.moldudp64.specs.Downstream.{downstreamWords, readOf}
+use Rattle.moldudp64.specs.Downstream.{Kind, data-packet, heartbeat, end-of-session, downstreamWords, readOf}
 use Rattle.moldudp64.specs.Request.{requestWords, requestOf}
 use Rattle.receiver.specs.declared.receiver.Answer.{Answer}
-use Rattle.receiver.specs.Table.{answerWords}
+use Rattle.receiver.specs.Table.{Reply, deliver, old, quiet, ask, ended, answerWords}
 use Rattle.host_answers.specs.Answers.{padded, wordsOf, Reports, Answers}
-use Rattle.exports_moldudp64.specs.Datagrams.{kindNumber, replyNumber}
+use Rattle.exports_moldudp64.specs.Datagrams.{kindNumber, replyNumber, DatagramsApart, AnswersApart}
 
 -- ---- a known case y
 
@@ -42,3 +45,35 @@ module _ (l : List ℕ) (r : ℕ) (ws ws′ : List ℕ) (g : ℕ) (vs : List ℕ
   pub request-read : (x : Request) → requestWords x ≡ requestOf l → g ≡ requestWords x .refusal → vs ≡ padded 2 (requestWords x .values)
       → Reports r ws ws′ false g vs → Reports r ws ws′ false (requestOf l .refusal) (padded 2 (requestOf l .values))
   request-read x e a b h = rw (← e, ← a, ← b) h
+
+-- ---- the numbers tell them apart: each is read back
+
+unfoldable kind-of : ℕ → Kind
+kind-of n =
+    if eqb n 1 then data-packet else if eqb n 2 then heartbeat else end-of-session
+
+kind-back : (k : Kind) → kind-of (kindNumber k) ≡ k
+unfolding kind-of kindNumber
+kind-back data-packet = refl
+kind-back heartbeat = refl
+kind-back end-of-session = refl
+
+pub datagrams-apart : DatagramsApart
+unfolding DatagramsApart
+datagrams-apart = read-back kindNumber kind-of kind-back
+
+unfoldable reply-of : ℕ → Reply
+reply-of n =
+    if eqb n 1 then deliver else if eqb n 2 then old else if eqb n 3 then quiet else if eqb n 4 then ask else ended
+
+reply-back : (k : Reply) → reply-of (replyNumber k) ≡ k
+unfolding reply-of replyNumber
+reply-back deliver = refl
+reply-back old = refl
+reply-back quiet = refl
+reply-back ask = refl
+reply-back ended = refl
+
+pub answers-apart : AnswersApart
+unfolding AnswersApart
+answers-apart = read-back replyNumber reply-of reply-back

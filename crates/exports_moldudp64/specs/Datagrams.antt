@@ -4,6 +4,7 @@ use mathlib.Core.List.{List, [], _∷_}
 use Rattle.moldudp64.specs.Downstream.{Kind, data-packet, heartbeat, end-of-session}
 use Rattle.moldudp64_messages.specs.declared.cursor.Located.{Located}
 use Rattle.receiver.specs.Table.{Reply, deliver, old, quiet, ask, ended}
+use Rattle.wire.specs.Words.{Injective}
 use Rattle.host_answers.specs.Answers.{flag}
 
 -- what a datagram is; its number, and its count if it is data, follow
@@ -23,3 +24,11 @@ replyNumber old = 2
 replyNumber quiet = 3
 replyNumber ask = 4
 replyNumber ended = 5
+
+-- ---- what is promised: the numbers tell all kinds of datagram, and all answers, apart
+
+unfoldable pub DatagramsApart : Type 0
+DatagramsApart = Injective kindNumber
+
+unfoldable pub AnswersApart : Type 0
+AnswersApart = Injective replyNumber

@@ -10,7 +10,7 @@ ghost use mathlib.Core.Bool.{false};
 ghost use Rattle.moldudp64.specs.Downstream.{downstreamWords, readOf};
 ghost use Rattle.moldudp64.specs.Request.{requestWords, requestOf};
 ghost use Rattle.host_answers.specs.Answers.{padded, wordsOf, Reports, Answers};
-ghost use Rattle.exports_moldudp64.specs.Datagrams.{kindNumber};
+ghost use Rattle.exports_moldudp64.specs.Datagrams.{kindNumber, DatagramsApart};
 
 // The words of a datagram: what it is, its number and its count.
 const DATAGRAM_WORDS: usize = 3;
@@ -51,6 +51,7 @@ fn datagram_words(read: Downstream) -> SaidDatagram
 #[no_mangle]
 pub extern "C" fn eiderwagon_mold_read(datagram: &[u8], words: &mut [u64]) -> u32
     ensures { λ r. ⌜ Answers r (now (words .entry)) (now (words .exit)) false kindNumber 3 (readOf (now (datagram .entry))) ⌝ }
+    ensures tells_apart { λ _. ⌜ DatagramsApart ⌝ }
 {
     let said = datagram_words(downstream::read(datagram));
     let values = said.words;

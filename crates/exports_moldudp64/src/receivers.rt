@@ -17,7 +17,7 @@ ghost use Rattle.receiver.specs.Table.{answerWords};
 ghost use Rattle.receiver.specs.Receiver.{startRefusal, startReceiver, answerOf, receiverAfter};
 ghost use Rattle.host_answers.specs.Answers.{codeOf, wordsOf, Answers};
 ghost use Rattle.host_states.specs.Receiver.{receiverSize, receiverIn, KeepsReceiver};
-ghost use Rattle.exports_moldudp64.specs.Datagrams.{replyNumber};
+ghost use Rattle.exports_moldudp64.specs.Datagrams.{replyNumber, AnswersApart};
 
 // The words of an answer: which it is, and its three values.
 const ANSWER_WORDS: usize = 4;
@@ -95,6 +95,7 @@ pub extern "C" fn eiderwagon_receiver_take(
 ) -> u32
     ensures { λ r. ⌜ Answers r (now (words .entry)) (now (words .exit)) (ltb (length (now (state .entry))) receiverSize) replyNumber 4 (answerOf (receiverIn (now (state .entry))) (now (datagram .entry))) ⌝ }
     ensures keeps { λ r. ⌜ KeepsReceiver r (now (state .entry)) (now (state .exit)) (receiverAfter (receiverIn (now (state .entry))) (now (datagram .entry))) ⌝ }
+    ensures tells_apart { λ _. ⌜ AnswersApart ⌝ }
 {
     let taken = receiver_state::read(state).take(datagram);
     let answer = taken.answer;

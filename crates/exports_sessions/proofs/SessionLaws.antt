@@ -2,12 +2,15 @@
 use Prim.Native.Nat.{ℕ}
 use mathlib.Core.List.{List, [], _∷_}
 use mathlib.Core.Bool.{Bool}
-use mathlib.Core.Path.{_≡_}
+use mathlib.Core.Path.{_≡_, refl}
+use lib.Dec.{eqb}
+use Rattle.wire.specs.Choice.{if_then_else_}
+use Rattle.wire.proofs.Words.{read-back}
 use Rattle.wire.specs.Bounds.{sessionSize}
 use Rattle.parts.specs.Parts.{firstBytes}
 use Rattle.login.specs.declared.account.Account.{Account}
 use Rattle.soup_session.specs.declared.answer.Answer.{Answer}
-use Rattle.soup_session.specs.Answer.{answerWords}
+use Rattle.soup_session.specs.Answer.{Reply, wants-more, accepted, rejected, sequenced, unsequenced, heartbeat, debug, logged-out, end-of-session, answerWords}
 use Rattle.soup_server.specs.declared.server.Server.{Server}
 use Rattle.soup_server.specs.declared.server.Stepped as server-steps
 use Rattle.soup_server.specs.Server as server
@@ -16,7 +19,7 @@ use Rattle.soup_client.specs.declared.client.Stepped as client-steps
 use Rattle.soup_client.specs.Client as client
 use Rattle.host_answers.specs.Answers.{codeOf, wordsOf, Reports, Answers}
 use Rattle.host_states.specs.Session.{serverIn, KeepsServer, clientIn, KeepsClient}
-use Rattle.exports_sessions.specs.Sessions.{replyNumber, sized, stepWords}
+use Rattle.exports_sessions.specs.Sessions.{replyNumber, sized, stepWords, AnswersApart}
 
 -- an answer of a known case y
 pub answer-refusal : {x y : Answer} {g : ℕ} → x ≡ y → g ≡ answerWords y .refusal → g ≡ answerWords x .refusal
@@ -25,6 +28,27 @@ answer-refusal e h = rw e h
 pub answer-words : {x y : Answer} {ws : List ℕ} (size : ℕ) → x ≡ y → ws ≡ wordsOf replyNumber 5 (sized size (answerWords y))
     → ws ≡ wordsOf replyNumber 5 (sized size (answerWords x))
 answer-words size e h = rw e h
+
+-- the numbers tell answers apart: each is read back
+unfoldable reply-of : ℕ → Reply
+reply-of n =
+    if eqb n 0 then wants-more else if eqb n 1 then accepted else if eqb n 2 then rejected else if eqb n 3 then sequenced else if eqb n 4 then unsequenced else if eqb n 5 then heartbeat else if eqb n 6 then debug else if eqb n 7 then logged-out else end-of-session
+
+reply-back : (k : Reply) → reply-of (replyNumber k) ≡ k
+unfolding reply-of replyNumber
+reply-back wants-more = refl
+reply-back accepted = refl
+reply-back rejected = refl
+reply-back sequenced = refl
+reply-back unsequenced = refl
+reply-back heartbeat = refl
+reply-back debug = refl
+reply-back logged-out = refl
+reply-back end-of-session = refl
+
+pub answers-apart : AnswersApart
+unfolding AnswersApart
+answers-apart = read-back replyNumber reply-of reply-back
 
 -- ---- at the server
 

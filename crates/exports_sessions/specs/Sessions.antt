@@ -1,7 +1,7 @@
 -- What the exported steps of a SoupBinTCP session answer, by number.
 use Prim.Native.Nat.{ℕ}
 use mathlib.Core.List.{_∷_}
-use Rattle.wire.specs.Words.{Words}
+use Rattle.wire.specs.Words.{Words, Injective}
 use Rattle.soup_session.specs.Answer.{Reply, wants-more, accepted, rejected, sequenced, unsequenced, heartbeat, debug, logged-out, end-of-session, Outcome}
 
 unfoldable pub replyNumber : Reply → ℕ
@@ -22,3 +22,8 @@ sized size w = record { which = w .which; refusal = w .refusal; values = size �
 -- what a step of either end answers
 abbrev pub stepWords : {S : Type 0} → Outcome S → Words Reply
 stepWords o = sized (o .size) (o .reply)
+
+-- ---- what is promised: the numbers tell all answers apart
+
+unfoldable pub AnswersApart : Type 0
+AnswersApart = Injective replyNumber

@@ -13,7 +13,7 @@ ghost use Rattle.parts.specs.Parts.{firstBytes};
 ghost use Rattle.soup_client.specs.Client.{startRefusal, startClient, clientStep};
 ghost use Rattle.host_answers.specs.Answers.{codeOf, Answers};
 ghost use Rattle.host_states.specs.Session.{sessionStateSize, clientIn, KeepsClient};
-ghost use Rattle.exports_sessions.specs.Sessions.{replyNumber, stepWords};
+ghost use Rattle.exports_sessions.specs.Sessions.{replyNumber, stepWords, AnswersApart};
 
 // Starts a client.
 #[no_mangle]
@@ -34,6 +34,7 @@ pub extern "C" fn eiderwagon_client_start(session: &[u8], number: u64, state: &m
 pub extern "C" fn eiderwagon_client_step(state: &mut [u8], stream: &[u8], words: &mut [u64]) -> u32
     ensures { λ r. ⌜ Answers r (now (words .entry)) (now (words .exit)) (ltb (length (now (state .entry))) sessionStateSize) replyNumber 5 (stepWords (clientStep (clientIn (now (state .entry))) (now (stream .entry)))) ⌝ }
     ensures keeps { λ r. ⌜ KeepsClient r (now (state .entry)) (now (state .exit)) (clientStep (clientIn (now (state .entry))) (now (stream .entry)) .after) ⌝ }
+    ensures tells_apart { λ _. ⌜ AnswersApart ⌝ }
 {
     let stepped = client_state::read(state).step(stream);
     let answer = stepped.answer;

@@ -14,7 +14,7 @@ ghost use Rattle.login.specs.Table.{recordsOf};
 ghost use Rattle.soup_server.specs.Server.{startRefusal, startServer, serverStep};
 ghost use Rattle.host_answers.specs.Answers.{codeOf, Answers};
 ghost use Rattle.host_states.specs.Session.{sessionStateSize, serverIn, KeepsServer};
-ghost use Rattle.exports_sessions.specs.Sessions.{replyNumber, stepWords};
+ghost use Rattle.exports_sessions.specs.Sessions.{replyNumber, stepWords, AnswersApart};
 
 // Starts a server.
 #[no_mangle]
@@ -40,6 +40,7 @@ pub extern "C" fn eiderwagon_server_step(
 ) -> u32
     ensures { λ r. ⌜ Answers r (now (words .entry)) (now (words .exit)) (ltb (length (now (state .entry))) sessionStateSize) replyNumber 5 (stepWords (serverStep (recordsOf (now (accounts .entry))) (serverIn (now (state .entry))) (now (stream .entry)))) ⌝ }
     ensures keeps { λ r. ⌜ KeepsServer r (now (state .entry)) (now (state .exit)) (serverStep (recordsOf (now (accounts .entry))) (serverIn (now (state .entry))) (now (stream .entry)) .after) ⌝ }
+    ensures tells_apart { λ _. ⌜ AnswersApart ⌝ }
 {
     let stepped = server_state::read(state).step(accounts, stream);
     let answer = stepped.answer;

@@ -3,7 +3,10 @@ use Prim.Native.Nat.{ℕ}
 use mathlib.Core.List.{List, [], _∷_}
 use mathlib.Core.Bool.{false}
 use mathlib.Core.Path.{_≡_, refl, ap, sym, _∙_}
+use lib.Dec.{eqb}
 use borrow.Author.Tests.{eq-eqb, ne-eqb}
+use Rattle.wire.specs.Choice.{if_then_else_}
+use Rattle.wire.proofs.Words.{read-back}
 use Rattle.wire.specs.Words.{Words}
 use Rattle.wire.specs.declared.refusal.Refusal.{Refusal}
 use Rattle.soupbintcp.specs.declared.packet.Sender.{Sender}
@@ -14,11 +17,11 @@ use Rattle.soupbintcp.specs.declared.front.Front.the-variants.{Whole, NeedMore,
 use Rattle.soupbintcp.specs.declared.scan.Stop.{Stop}
 use Rattle.soupbintcp.specs.declared.scan.Scanned.{Scanned}
 use Rattle.soupbintcp.specs.declared.scan.Stop.the-variants as stop
-use Rattle.soupbintcp.specs.Letters.{packetKind, packetValues, letterFor}
-use Rattle.soupbintcp.specs.Front.{frontWords, frontOf}
+use Rattle.soupbintcp.specs.Letters.{PacketKind, debug, accepted, rejected, sequenced, server-heartbeat, end-of-session, login, unsequenced, client-heartbeat, logout, packetKind, packetValues, letterFor, letterDebug, letterAccepted, letterRejected, letterSequenced, letterServerHeartbeat, letterEnd, letterLogin, letterUnsequenced, letterClientHeartbeat, letterLogout}
+use Rattle.soupbintcp.specs.Front.{Fronting, packet, wants-more, frontWords, frontOf}
 use Rattle.soupbintcp.specs.Scan.{stopWords, scanOf, Scans}
 use Rattle.host_answers.specs.Answers.{padded, wordsAt, wordsOf, Reports}
-use Rattle.exports_soupbintcp.specs.Packets.{senderOf, frontNumber, scanWords}
+use Rattle.exports_soupbintcp.specs.Packets.{senderOf, frontNumber, scanWords, FrontsApart}
 
 pub from-server : (n : ℕ) → n ≡ 0 → Server ≡ senderOf n
 unfolding senderOf
@@ -76,3 +79,27 @@ module _ (n : ℕ) (s : Sender) (l : List ℕ) (r : ℕ) (ws ws′ : List ℕ) (
   pub scan-answers : (x : Scanned) (k : ℕ) → Scans x s l → k ≡ stopWords (x .stop) .refusal → Reports r ws ws′ false 0 (x .packets ∷ x .bytes ∷ k ∷ [])
       → Reports r ws ws′ false 0 (scanWords (scanOf (senderOf n) l))
   scan-answers x k f a h = rw (← e, ← f .packets, ← f .bytes, ← f .stop, ← a) h
+
+-- ---- the numbers tell fronts apart: each is read back
+
+unfoldable front-at : ℕ → Fronting
+front-at n =
+    if eqb n letterDebug then packet debug else if eqb n letterAccepted then packet accepted else if eqb n letterRejected then packet rejected else if eqb n letterSequenced then packet sequenced else if eqb n letterServerHeartbeat then packet server-heartbeat else if eqb n letterEnd then packet end-of-session else if eqb n letterLogin then packet login else if eqb n letterUnsequenced then packet unsequenced else if eqb n letterClientHeartbeat then packet client-heartbeat else if eqb n letterLogout then packet logout else wants-more
+
+front-back : (f : Fronting) → front-at (frontNumber f) ≡ f
+unfolding front-at frontNumber letterFor
+front-back (packet debug) = refl
+front-back (packet accepted) = refl
+front-back (packet rejected) = refl
+front-back (packet sequenced) = refl
+front-back (packet server-heartbeat) = refl
+front-back (packet end-of-session) = refl
+front-back (packet login) = refl
+front-back (packet unsequenced) = refl
+front-back (packet client-heartbeat) = refl
+front-back (packet logout) = refl
+front-back wants-more = refl
+
+pub fronts-apart : FrontsApart
+unfolding FrontsApart
+fronts-apart = read-back frontNumber front-at front-back

@@ -3,6 +3,7 @@ use Prim.Native.Nat.{ℕ}
 use mathlib.Core.List.{List, [], _∷_}
 use lib.Dec.{eqb}
 use Rattle.wire.specs.Choice.{if_then_else_}
+use Rattle.wire.specs.Words.{Injective}
 use Rattle.soupbintcp.specs.declared.packet.Sender.{Sender}
 use Rattle.soupbintcp.specs.declared.packet.Sender.the-variants.{Server, Client}
 use Rattle.soupbintcp.specs.Letters.{letterFor}
@@ -21,3 +22,8 @@ frontNumber wants-more = 0
 -- how many packets, their bytes, and the refusal that stopped the scan: 0 where more bytes are needed
 abbrev pub scanWords : Scan → List ℕ
 scanWords x = x .packets ∷ x .bytes ∷ x .stop .refusal ∷ []
+
+-- ---- what is promised: the numbers tell all packets, and that more is needed, apart
+
+unfoldable pub FrontsApart : Type 0
+FrontsApart = Injective frontNumber

@@ -11,11 +11,11 @@ use wire::refusal::Refusal;
 ghost use mathlib.Core.Path.{_≡_};
 ghost use mathlib.Core.List.{[], _∷_};
 ghost use mathlib.Core.Bool.{false};
-ghost use Rattle.host_answers.specs.Answers.{padded, wordsOf, Reports};
+ghost use Rattle.host_answers.specs.Answers.{padded, wordsOf, Reports, Answers};
 ghost use Rattle.soupbintcp.specs.Letters.{packetKind, packetValues, letterFor};
 ghost use Rattle.soupbintcp.specs.Front.{frontWords, frontOf};
 ghost use Rattle.soupbintcp.specs.Scan.{stopWords, scanOf};
-ghost use Rattle.exports_soupbintcp.specs.Packets.{senderOf, frontNumber, scanWords};
+ghost use Rattle.exports_soupbintcp.specs.Packets.{senderOf, frontNumber, scanWords, FrontsApart};
 
 // The words of a packet's answer: its letter, its size and its value.
 const PACKET_WORDS: usize = 3;
@@ -78,7 +78,8 @@ fn front_words(front: Front) -> Said
 // Reads the packet at the front of a stream.
 #[no_mangle]
 pub extern "C" fn eiderwagon_soup_read(stream: &[u8], sender: u8, words: &mut [u64]) -> u32
-    ensures { λ r. ⌜ Reports r (now (words .entry)) (now (words .exit)) false (frontOf (senderOf sender) (now (stream .entry)) .refusal) (wordsOf frontNumber 3 (frontOf (senderOf sender) (now (stream .entry)))) ⌝ }
+    ensures { λ r. ⌜ Answers r (now (words .entry)) (now (words .exit)) false frontNumber 3 (frontOf (senderOf sender) (now (stream .entry))) ⌝ }
+    ensures tells_apart { λ _. ⌜ FrontsApart ⌝ }
 {
     let said = front_words(front::read(stream, sender_of(sender)));
     let values = said.words;

@@ -1,3 +1,4 @@
 pub mod AnswerLaws
 pub mod WritingLaws
+pub mod PromiseLaws
 pub mod Rules

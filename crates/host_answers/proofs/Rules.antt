@@ -4,12 +4,13 @@ use mathlib.Core.Path.{refl}
 use Rattle.wire.proofs.Copy.{copied-start, copied-kept}
 use Rattle.host_answers.proofs.AnswerLaws.{code-lacks, code-has, has-room, success, no-success, laid-step, laid-end, reports-wrote, reports-refused}
 use Rattle.host_answers.proofs.WritingLaws.{writing-short, writing-reported, words-short, words-reported}
+use Rattle.host_answers.proofs.PromiseLaws.{host-promises}
 
 pub ruleset codes = (code-lacks, code-has, needs)
 
 pub ruleset layings = (copied-start, laid-step, laid-end, copied-kept, needs)
 
-pub ruleset reports = (has-room, success, no-success, reports-wrote, reports-refused, needs)
+pub ruleset reports = (host-promises, has-room, success, no-success, reports-wrote, reports-refused, needs)
 
 -- for the exported writers
 pub ruleset writings = (writing-short, writing-reported, words-short, words-reported, needs)

@@ -1,9 +1,9 @@
 -- What an exported function answers: its code, and what it leaves in lent words, bytes and states.
 use Prim.Native.Nat.{ℕ, zero, suc}
-use mathlib.Core.List.{List, [], _∷_}
+use mathlib.Core.List.{List, [], _∷_, _++_}
 use mathlib.Core.Bool.{Bool, true, false, _||_}
 use mathlib.Core.Path.{_≡_}
-use lib.ListN.{length}
+use lib.ListN.{length, drop}
 use lib.Dec.{ltb, eqb}
 use Rattle.wire.specs.Choice.{if_then_else_}
 use Rattle.wire.specs.Refusals.{outputShort}
@@ -58,3 +58,22 @@ pub record ReportsWriting (r : ℕ) (ws ws′ l l′ : List ℕ) (lacks : Bool) 
   pub returns : r ≡ codeOf (lacks || ltb (length ws) 1) (writeRefusal g l 0 bs)
   pub words : ws′ ≡ onSuccess r (put ws 0 (length bs ∷ [])) ws
   pub output : l′ ≡ onSuccess r (put l 0 bs) l
+
+-- ---- what is promised of every answer
+
+-- a refusal changes no word and no byte of an output, whatever the function
+pub record RefusalChangesNothing : Type 0 where
+  pub words : (r : ℕ) (ws ws′ : List ℕ) (lacks : Bool) (g : ℕ) (vs : List ℕ) → Reports r ws ws′ lacks g vs → (r ≡ 0 → ⊥) → ws′ ≡ ws
+  pub writing : (r : ℕ) (ws ws′ l l′ : List ℕ) (lacks : Bool) (g : ℕ) (bs : List ℕ) → ReportsWriting r ws ws′ l l′ lacks g bs → (r ≡ 0 → ⊥)
+      → (ws′ ≡ ws) × (l′ ≡ l)
+
+-- a success lays all of its words and changes none behind them; what is written stands in front, and nothing behind it changes
+pub record SuccessLaysItsWords : Type 0 where
+  pub words : (r : ℕ) (ws ws′ : List ℕ) (lacks : Bool) (g : ℕ) (vs : List ℕ) → Reports r ws ws′ lacks g vs → r ≡ 0
+      → ws′ ≡ vs ++ drop (length vs) ws
+  pub writing : (r : ℕ) (ws ws′ l l′ : List ℕ) (lacks : Bool) (g : ℕ) (bs : List ℕ) → ReportsWriting r ws ws′ l l′ lacks g bs → r ≡ 0
+      → (ws′ ≡ length bs ∷ drop 1 ws) × (l′ ≡ bs ++ drop (length bs) l)
+
+pub record HostPromises : Type 0 where
+  pub refusal-changes-nothing : RefusalChangesNothing
+  pub success-lays-its-words : SuccessLaysItsWords

@@ -7,7 +7,7 @@ ghost use Prim.Native.Nat.{_≤_};
 ghost use mathlib.Core.Bool.{false};
 ghost use lib.ListN.{length};
 ghost use Rattle.wire.specs.Output.{put, writtenWords};
-ghost use Rattle.host_answers.specs.Answers.{codeOf, flag, padded, Reports};
+ghost use Rattle.host_answers.specs.Answers.{codeOf, flag, padded, Reports, HostPromises};
 
 // The words of a writer's answer: how many bytes it wrote.
 pub const WRITTEN_WORDS: usize = 1;
@@ -59,6 +59,7 @@ pub fn report(words: &mut [u64], lacks: bool, refused: Refusal, values: &[u64]) 
 // Answers what a writer answered: how many bytes it wrote, or its refusal.
 pub fn report_written(words: &mut [u64], written: Written) -> u32
     ensures { λ r. ⌜ Reports r (now (words .entry)) (now (words .exit)) false (writtenWords written .refusal) (padded 1 (writtenWords written .values)) ⌝ }
+    ensures promises { λ _. ⌜ HostPromises ⌝ }
 {
     match written {
         Written::Wrote { size } => report(words, false, refusal::NONE, &[size as u64]),

@@ -1,5 +1,6 @@
 -- The step's answer by its words, and the next server kept.
 use Rattle.exports_sessions.proofs.Rules.{servers}
+use Rattle.exports_sessions.proofs.SessionLaws.{answers-apart}
 use Rattle.exports_sessions.proofs.servers.eiderwagon_server_step.Statement.{statement}
 use Rattle.exports_sessions.proofs.servers.eiderwagon_server_step.Tie as tie
 
@@ -28,7 +29,7 @@ same-length-2 : tie.Need-same-length-2
 same-length-2 c = search servers
 
 returns : tie.Need-returns
-returns c = search servers
+returns c = (search servers, (search servers, answers-apart))
 
 pub eiderwagon-server-step-spec : {M : Type 1} → statement M
 eiderwagon-server-step-spec =
