@@ -13,14 +13,16 @@
  *   touched. A refusal changes no word, no byte of a lent output and no byte of a state.
  *
  * 41
- *   A buffer of a fixed size (a name, a state, a cursor, `words`) with fewer elements than that is refused with 41, before every other
- *   ground; of one with more, only the first are used. An output that is too short for what is to be written is refused with 41 after
- *   every other ground. So each list of refusals below begins with 41, and a writer's ends with it too.
+ *   A buffer of a fixed size (a session, a username, a password, a state, a cursor, `words`) with fewer elements than that is refused
+ *   with 41, before every other ground; of one with more, only the first are used. An output that is too short for what is to be written
+ *   is refused with 41 after every other ground. So each list of refusals below begins with 41, and a writer's ends with it too.
  *
  * States and cursors
  *   Their layout is given below, and any bytes are one: a state can be stored, copied, compared and made by hand. Numbers are
- *   big-endian. Bytes of zero are a closed session, a capture whose settings are refused, a cursor with no messages left. They are
- *   also a receiver that isn't ended, of a name of ten zero bytes: start every state before its first use.
+ *   big-endian. What is written has one form: ended is 1, closed is 0, settings refused is 0; a success may bring a state that was made
+ *   by hand into that form. Start every state before its first use, and use none whose start was refused: it is left as it was. Bytes of
+ *   zero are a closed session, a capture whose settings are refused, a cursor with no messages left; and a receiver that isn't ended, of
+ *   a name of ten zero bytes, that asks for no messages.
  */
 #ifndef EIDERWAGON_H
 #define EIDERWAGON_H
@@ -183,13 +185,17 @@ uint32_t eiderwagon_receiver_take(uint8_t *state, size_t state_size, const uint8
                                   uint64_t *words, size_t words_size);
 
 /* Sets a cursor to the first message that an EIDERWAGON_DELIVER answer delivers: `count` and `skipped` are words[2] and words[3] of the
- * answer to this datagram. eiderwagon_mold_next then answers exactly the delivered messages, in order.
+ * answer to this datagram. eiderwagon_mold_next then answers exactly the delivered messages, in order. Other numbers are safe too: the walk
+ * ends with the datagram, and has no message where the two add up to more than 65,535.
  *   cursor:    EIDERWAGON_CURSOR_SIZE bytes, written
  *   refusals:  41 */
 uint32_t eiderwagon_receiver_walk(const uint8_t *datagram, size_t datagram_size, uint16_t count, uint16_t skipped,
                                   uint8_t *cursor, size_t cursor_size);
 
 /* ---- SoupBinTCP packets --------------------------------------------------------------------------------------------------------- */
+
+/* A session is spaces, then letters or digits; all spaces only in 'L' and at eiderwagon_client_start. A username or a password is sound when
+ * it is one or more letters or digits, and then only spaces; never zero bytes. */
 
 /* Who sends a stream: 0 is the server, every other number the client. */
 enum {
@@ -201,7 +207,8 @@ enum {
  * number (20), of 'L' the username (6), the password (10), the session (10) and the number (20), of 'J' the reason (1).
  *   words (3): its letter ('+' 'A' 'J' 'S' 'H' 'Z' 'L' 'U' 'R' 'O'), or 0 where more bytes are needed; its size in bytes; the number
  *              of 'A' and 'L', the reason of 'J'
- *   refusals:  41, 21, 22, 23, 24, 25 */
+ *   refusals:  41, 21, 22, 23, 24, 25. More is needed before 21 with under 2 bytes, before 23 with under 3, and before 25 until the
+ *              packet is whole */
 uint32_t eiderwagon_soup_read(const uint8_t *stream, size_t stream_size, uint8_t sender,
                               uint64_t *words, size_t words_size);
 
@@ -286,15 +293,19 @@ enum {
 uint32_t eiderwagon_server_start(const uint8_t *session, size_t session_size, uint64_t last,
                                  uint8_t *state, size_t state_size);
 
-/* Takes the packet at the front of a client's stream. Go on with the stream from words[1] on.
+/* Takes the packet at the front of a client's stream. Go on with the stream from words[1] on. A packet that is refused stays in front
+ * and is refused again: close the connection, unless it is 19, which is the table's. The last number is looked at for a login alone,
+ * and no step changes it: while no login has come, lay the newer one into the state as messages are added.
  *   state:     EIDERWAGON_SERVER_SIZE bytes, read and written
- *   accounts:  EIDERWAGON_ACCOUNT_SIZE bytes a record, at most 1,024 records; bytes left over are no record
+ *   accounts:  EIDERWAGON_ACCOUNT_SIZE bytes a record, at most 1,024 records; bytes left over are no record. A record whose username or
+ *              password isn't sound is skipped, one padded with zero bytes too. The first other record with the username decides; letters
+ *              compare without case
  *   words (5): what it answers; how many bytes it took, 0 where more are needed; and for
  *                EIDERWAGON_ACCEPTED     the number to write in 'A'; 0; 0
- *                EIDERWAGON_REJECTED     the reason to write in 'J'; 0; 0
+ *                EIDERWAGON_REJECTED     the reason to write in 'J'; 0; 0: 'A' for the account, 'S' for the session or the number
  *                EIDERWAGON_UNSEQUENCED  the offset of the message in the stream; its length; 0
  *                the others              0; 0; 0
- *   refusals:  41, 19, 21, 22, 23, 24, 25, 32, 31 */
+ *   refusals:  41, 19, 21, 22, 23, 24, 25, 32, 31. 19 comes even before more is needed, and that before 32 */
 uint32_t eiderwagon_server_step(uint8_t *state, size_t state_size, const uint8_t *accounts, size_t accounts_size,
                                 const uint8_t *stream, size_t stream_size, uint64_t *words, size_t words_size);
 
@@ -306,18 +317,24 @@ uint32_t eiderwagon_server_step(uint8_t *state, size_t state_size, const uint8_t
 uint32_t eiderwagon_client_start(const uint8_t *session, size_t session_size, uint64_t number,
                                  uint8_t *state, size_t state_size);
 
-/* Takes the packet at the front of a server's stream. Go on with the stream from words[1] on.
+/* Takes the packet at the front of a server's stream. Go on with the stream from words[1] on. A packet that is refused stays in front
+ * and is refused again: close the connection.
  *   state:     EIDERWAGON_CLIENT_SIZE bytes, read and written
  *   words (5): what it answers; how many bytes it took, 0 where more are needed; and for
  *                EIDERWAGON_ACCEPTED   the number of the next message; 0; 0
  *                EIDERWAGON_REJECTED   the reason; 0; 0
  *                EIDERWAGON_SEQUENCED  the number of the message; its offset in the stream; its length
  *                the others            0; 0; 0
- *   refusals:  41, 21, 22, 23, 24, 25, 32, 31, 33, 34 */
+ *   refusals:  41, 21, 22, 23, 24, 25, 32, 31, 33, 34. More is needed before 32 */
 uint32_t eiderwagon_client_step(uint8_t *state, size_t state_size, const uint8_t *stream, size_t stream_size,
                                 uint64_t *words, size_t words_size);
 
 /* ---- Captures ------------------------------------------------------------------------------------------------------------------- */
+
+/* A capture is three lines, `session=` with ten bytes from 0x20 to 0x7E, `next=` with 1 to 2^64 - 1 and `limit=` with 1 to 65534, each ended
+ * by one line feed, numbers without leading zeros; and then records, each a length of 2 bytes, big-endian, and so many bytes: one
+ * datagram as it came. Its report is eight lines: `session=`, `next=`, `ended=` (yes or no), `delivered=` (messages), `old=`, `quiet=`,
+ * `asked=`, `refused=` (answers); or the one line `settings=refused`, which is no refusal of these functions. */
 
 /* Starts the reading of a capture in pieces.
  *   state:     EIDERWAGON_CAPTURE_SIZE bytes, written
@@ -325,9 +342,11 @@ uint32_t eiderwagon_client_step(uint8_t *state, size_t state_size, const uint8_t
 uint32_t eiderwagon_capture_start(uint8_t *state, size_t state_size);
 
 /* Feeds some bytes, after which more may come. Keep the bytes that were not used, at most 65,536, and feed them again in front of the
- * next piece.
+ * next piece. Once 2^32 - 1 records were read no byte is used any more, though words[1] stays 0: where more than 65,536 bytes are left
+ * unused, stop reading and drop them.
  *   state:     EIDERWAGON_CAPTURE_SIZE bytes, read and written
- *   words (2): how many bytes were used; 1 if nothing that follows changes the report, else 0
+ *   words (2): how many bytes were used; 1 once the reading is over, so that nothing that follows changes the report, else 0. While
+ *              the settings are due, fewer than 57 bytes are too few to tell: none are used then
  *   refusals:  41 */
 uint32_t eiderwagon_capture_feed(uint8_t *state, size_t state_size, const uint8_t *bytes, size_t bytes_size,
                                  uint64_t *words, size_t words_size);

@@ -1,16 +1,20 @@
 -- The words of datagrams, requests and answers: of a known case, and of what was read.
-use Prim.Native.Nat.{ℕ}
+use Prim.Native.Nat.{ℕ, _<_}
 use mathlib.Core.List.{List}
 use mathlib.Core.Bool.{Bool, false}
 use mathlib.Core.Path.{_≡_, refl}
+use native.Mathlib.Omega.{arith}
+use lib.ListN.{length}
 use lib.Dec.{eqb}
 use Rattle.wire.specs.Choice.{if_then_else_}
 use Rattle.wire.proofs.Words.{read-back}
 use Rattle.moldudp64.specs.declared.downstream.Downstream.{Downstream}
+use Rattle.moldudp64.specs.declared.downstream.Downstream.the-variants as down
 use Rattle.moldudp64.specs.declared.request.Request.{Request}
 use Rattle.moldudp64.specs.Downstream.{Kind, data-packet, heartbeat, end-of-session, downstreamWords, readOf}
 use Rattle.moldudp64.specs.Request.{requestWords, requestOf}
 use Rattle.receiver.specs.declared.receiver.Answer.{Answer}
+use Rattle.receiver.specs.declared.receiver.Answer.the-variants as reply
 use Rattle.receiver.specs.Table.{Reply, deliver, old, quiet, ask, ended, answerWords}
 use Rattle.host_answers.specs.Answers.{padded, wordsOf, Reports, Answers}
 use Rattle.exports_moldudp64.specs.Datagrams.{kindNumber, replyNumber, DatagramsApart, AnswersApart}
@@ -58,9 +62,15 @@ kind-back data-packet = refl
 kind-back heartbeat = refl
 kind-back end-of-session = refl
 
+values-in-three : (x : Downstream) → length (downstreamWords x .values) < 3
+unfolding downstreamWords
+values-in-three (down.Data f c) = omega arith
+values-in-three (down.Heartbeat n) = omega arith
+values-in-three (down.EndOfSession n) = omega arith
+values-in-three (down.Refused r) = omega arith
+
 pub datagrams-apart : DatagramsApart
-unfolding DatagramsApart
-datagrams-apart = read-back kindNumber kind-of kind-back
+datagrams-apart = record { numbers = read-back kindNumber kind-of kind-back; values-fit = values-in-three }
 
 unfoldable reply-of : ℕ → Reply
 reply-of n =
@@ -74,6 +84,14 @@ reply-back quiet = refl
 reply-back ask = refl
 reply-back ended = refl
 
+values-in-four : (x : Answer) → length (answerWords x .values) < 4
+unfolding answerWords
+values-in-four (reply.Deliver f c s) = omega arith
+values-in-four reply.Old = omega arith
+values-in-four reply.Quiet = omega arith
+values-in-four (reply.Ask f c) = omega arith
+values-in-four reply.Ended = omega arith
+values-in-four (reply.Refused r) = omega arith
+
 pub answers-apart : AnswersApart
-unfolding AnswersApart
-answers-apart = read-back replyNumber reply-of reply-back
+answers-apart = record { numbers = read-back replyNumber reply-of reply-back; values-fit = values-in-four }

@@ -1,9 +1,12 @@
 -- What the exported functions of MoldUDP64 answer, by number.
-use Prim.Native.Nat.{ℕ}
+use Prim.Native.Nat.{ℕ, _<_}
 use mathlib.Core.List.{List, [], _∷_}
-use Rattle.moldudp64.specs.Downstream.{Kind, data-packet, heartbeat, end-of-session}
+use lib.ListN.{length}
+use Rattle.moldudp64.specs.declared.downstream.Downstream.{Downstream}
+use Rattle.moldudp64.specs.Downstream.{Kind, data-packet, heartbeat, end-of-session, downstreamWords}
 use Rattle.moldudp64_messages.specs.declared.cursor.Located.{Located}
-use Rattle.receiver.specs.Table.{Reply, deliver, old, quiet, ask, ended}
+use Rattle.receiver.specs.declared.receiver.Answer.{Answer}
+use Rattle.receiver.specs.Table.{Reply, deliver, old, quiet, ask, ended, answerWords}
 use Rattle.wire.specs.Words.{Injective}
 use Rattle.host_answers.specs.Answers.{flag}
 
@@ -25,10 +28,12 @@ replyNumber quiet = 3
 replyNumber ask = 4
 replyNumber ended = 5
 
--- ---- what is promised: the numbers tell all kinds of datagram, and all answers, apart
+-- ---- what is promised: the numbers tell all kinds of datagram, and all answers, apart, and there is a word for each value
 
-unfoldable pub DatagramsApart : Type 0
-DatagramsApart = Injective kindNumber
+pub record DatagramsApart : Type 0 where
+  pub numbers : Injective kindNumber
+  pub values-fit : (x : Downstream) → length (downstreamWords x .values) < 3
 
-unfoldable pub AnswersApart : Type 0
-AnswersApart = Injective replyNumber
+pub record AnswersApart : Type 0 where
+  pub numbers : Injective replyNumber
+  pub values-fit : (x : Answer) → length (answerWords x .values) < 4

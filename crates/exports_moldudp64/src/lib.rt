@@ -2,4 +2,5 @@
 pub mod datagrams;
 pub mod messages;
 pub mod receivers;
+pub mod requests;
 pub mod writers;

@@ -3,7 +3,6 @@ use host_states::cursor_state;
 use moldudp64_messages::cursor::Cursor;
 use moldudp64_messages::cursor::Located;
 use moldudp64_messages::message;
-use receiver::delivery;
 use wire::kinds::MessageCount;
 use wire::refusal;
 ghost use mathlib.Core.Path.{_≡_};
@@ -11,7 +10,6 @@ ghost use mathlib.Core.Bool.{false};
 ghost use lib.ListN.{length};
 ghost use lib.Dec.{ltb};
 ghost use Rattle.moldudp64_messages.specs.Cursor.{locateOf, located, moved, startOf};
-ghost use Rattle.receiver.specs.Delivery.{deliveryOf};
 ghost use Rattle.host_answers.specs.Answers.{codeOf, Reports};
 ghost use Rattle.host_states.specs.Cursor.{cursorSize, cursorIn, KeepsCursor};
 ghost use Rattle.exports_moldudp64.specs.Datagrams.{locatedWords};
@@ -64,25 +62,5 @@ pub extern "C" fn eiderwagon_mold_next(cursor: &mut [u8], datagram: &[u8], words
         &values,
     );
     cursor_state::write(cursor, code, at.next(datagram));
-    code
-}
-
-// Sets a cursor to the first message that a deliver answer delivers.
-#[no_mangle]
-pub extern "C" fn eiderwagon_receiver_walk(
-    datagram: &[u8],
-    count: u16,
-    skipped: u16,
-    cursor: &mut [u8],
-) -> u32
-    ensures { λ r. ⌜ r ≡ codeOf (ltb (length (now (cursor .entry))) cursorSize) 0 ⌝ }
-    ensures keeps { λ r. ⌜ KeepsCursor r (now (cursor .entry)) (now (cursor .exit)) (deliveryOf (now (datagram .entry)) count skipped) ⌝ }
-{
-    let code = host_answers::code(cursor.len() < cursor_state::SIZE, refusal::NONE);
-    cursor_state::write(
-        cursor,
-        code,
-        delivery::start(datagram, MessageCount(count), MessageCount(skipped)),
-    );
     code
 }

@@ -1,5 +1,7 @@
-// The receiver: started, and given datagrams.
+// The receiver: started, given datagrams, and what it delivers of them.
+use host_states::cursor_state;
 use host_states::receiver_state;
+use receiver::delivery;
 use receiver::receiver::Answer;
 use receiver::receiver::Receiver;
 use wire::kinds::MessageCount;
@@ -14,8 +16,10 @@ ghost use lib.Dec.{ltb};
 ghost use Rattle.wire.specs.Bounds.{sessionSize};
 ghost use Rattle.parts.specs.Parts.{firstBytes};
 ghost use Rattle.receiver.specs.Table.{answerWords};
+ghost use Rattle.receiver.specs.Delivery.{deliveryOf};
 ghost use Rattle.receiver.specs.Receiver.{startRefusal, startReceiver, answerOf, receiverAfter};
 ghost use Rattle.host_answers.specs.Answers.{codeOf, wordsOf, Answers};
+ghost use Rattle.host_states.specs.Cursor.{cursorSize, KeepsCursor};
 ghost use Rattle.host_states.specs.Receiver.{receiverSize, receiverIn, KeepsReceiver};
 ghost use Rattle.exports_moldudp64.specs.Datagrams.{replyNumber, AnswersApart};
 
@@ -99,7 +103,7 @@ pub extern "C" fn eiderwagon_receiver_take(
 {
     let taken = receiver_state::read(state).take(datagram);
     let answer = taken.answer;
-    let receiver = taken.receiver;
+    let after = taken.receiver;
     let said = answer_words(answer);
     let values = said.words;
     let code = host_answers::report(
@@ -108,6 +112,26 @@ pub extern "C" fn eiderwagon_receiver_take(
         said.refusal,
         &values,
     );
-    receiver_state::write(state, code, receiver);
+    receiver_state::write(state, code, after);
+    code
+}
+
+// Sets a cursor to the first message that a deliver answer delivers.
+#[no_mangle]
+pub extern "C" fn eiderwagon_receiver_walk(
+    datagram: &[u8],
+    count: u16,
+    skipped: u16,
+    cursor: &mut [u8],
+) -> u32
+    ensures { λ r. ⌜ r ≡ codeOf (ltb (length (now (cursor .entry))) cursorSize) 0 ⌝ }
+    ensures keeps { λ r. ⌜ KeepsCursor r (now (cursor .entry)) (now (cursor .exit)) (deliveryOf (now (datagram .entry)) count skipped) ⌝ }
+{
+    let code = host_answers::code(cursor.len() < cursor_state::SIZE, refusal::NONE);
+    cursor_state::write(
+        cursor,
+        code,
+        delivery::start(datagram, MessageCount(count), MessageCount(skipped)),
+    );
     code
 }

@@ -1,8 +1,10 @@
 -- The words of answers, and sessions kept, at both ends.
-use Prim.Native.Nat.{ℕ}
+use Prim.Native.Nat.{ℕ, _<_}
 use mathlib.Core.List.{List, [], _∷_}
 use mathlib.Core.Bool.{Bool}
 use mathlib.Core.Path.{_≡_, refl}
+use native.Mathlib.Omega.{arith}
+use lib.ListN.{length}
 use lib.Dec.{eqb}
 use Rattle.wire.specs.Choice.{if_then_else_}
 use Rattle.wire.proofs.Words.{read-back}
@@ -10,6 +12,7 @@ use Rattle.wire.specs.Bounds.{sessionSize}
 use Rattle.parts.specs.Parts.{firstBytes}
 use Rattle.login.specs.declared.account.Account.{Account}
 use Rattle.soup_session.specs.declared.answer.Answer.{Answer}
+use Rattle.soup_session.specs.declared.answer.Answer.the-variants as case
 use Rattle.soup_session.specs.Answer.{Reply, wants-more, accepted, rejected, sequenced, unsequenced, heartbeat, debug, logged-out, end-of-session, answerWords}
 use Rattle.soup_server.specs.declared.server.Server.{Server}
 use Rattle.soup_server.specs.declared.server.Stepped as server-steps
@@ -46,9 +49,21 @@ reply-back debug = refl
 reply-back logged-out = refl
 reply-back end-of-session = refl
 
+values-in-four : (x : Answer) → length (answerWords x .values) < 4
+unfolding answerWords
+values-in-four case.NeedMore = omega arith
+values-in-four (case.Accepted n) = omega arith
+values-in-four (case.Rejected b) = omega arith
+values-in-four (case.Sequenced n at k) = omega arith
+values-in-four (case.Unsequenced at k) = omega arith
+values-in-four case.Heartbeat = omega arith
+values-in-four case.Debug = omega arith
+values-in-four case.LoggedOut = omega arith
+values-in-four case.EndOfSession = omega arith
+values-in-four (case.Refused r) = omega arith
+
 pub answers-apart : AnswersApart
-unfolding AnswersApart
-answers-apart = read-back replyNumber reply-of reply-back
+answers-apart = record { numbers = read-back replyNumber reply-of reply-back; values-fit = values-in-four }
 
 -- ---- at the server
 

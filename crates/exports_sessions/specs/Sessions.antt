@@ -1,8 +1,10 @@
 -- What the exported steps of a SoupBinTCP session answer, by number.
-use Prim.Native.Nat.{ℕ}
+use Prim.Native.Nat.{ℕ, _<_}
 use mathlib.Core.List.{_∷_}
+use lib.ListN.{length}
 use Rattle.wire.specs.Words.{Words, Injective}
-use Rattle.soup_session.specs.Answer.{Reply, wants-more, accepted, rejected, sequenced, unsequenced, heartbeat, debug, logged-out, end-of-session, Outcome}
+use Rattle.soup_session.specs.declared.answer.Answer.{Answer}
+use Rattle.soup_session.specs.Answer.{answerWords, Reply, wants-more, accepted, rejected, sequenced, unsequenced, heartbeat, debug, logged-out, end-of-session, Outcome}
 
 unfoldable pub replyNumber : Reply → ℕ
 replyNumber wants-more = 0
@@ -23,7 +25,8 @@ sized size w = record { which = w .which; refusal = w .refusal; values = size �
 abbrev pub stepWords : {S : Type 0} → Outcome S → Words Reply
 stepWords o = sized (o .size) (o .reply)
 
--- ---- what is promised: the numbers tell all answers apart
+-- ---- what is promised: the numbers tell all answers apart, and there is a word for each value, behind the bytes taken
 
-unfoldable pub AnswersApart : Type 0
-AnswersApart = Injective replyNumber
+pub record AnswersApart : Type 0 where
+  pub numbers : Injective replyNumber
+  pub values-fit : (x : Answer) → length (answerWords x .values) < 4

@@ -38,7 +38,7 @@ pub extern "C" fn eiderwagon_client_step(state: &mut [u8], stream: &[u8], words:
 {
     let stepped = client_state::read(state).step(stream);
     let answer = stepped.answer;
-    let client = stepped.client;
+    let after = stepped.client;
     let said = answers::answer_words(answer, stepped.size);
     let values = said.words;
     let code = host_answers::report(
@@ -47,6 +47,6 @@ pub extern "C" fn eiderwagon_client_step(state: &mut [u8], stream: &[u8], words:
         said.refusal,
         &values,
     );
-    client_state::write(state, code, client);
+    client_state::write(state, code, after);
     code
 }

@@ -44,7 +44,7 @@ pub extern "C" fn eiderwagon_server_step(
 {
     let stepped = server_state::read(state).step(accounts, stream);
     let answer = stepped.answer;
-    let server = stepped.server;
+    let after = stepped.server;
     let said = answers::answer_words(answer, stepped.size);
     let values = said.words;
     let code = host_answers::report(
@@ -53,6 +53,6 @@ pub extern "C" fn eiderwagon_server_step(
         said.refusal,
         &values,
     );
-    server_state::write(state, code, server);
+    server_state::write(state, code, after);
     code
 }

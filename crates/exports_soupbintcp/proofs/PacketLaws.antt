@@ -1,8 +1,10 @@
 -- The words of what stands at the front of a stream, and of a scan.
-use Prim.Native.Nat.{ℕ}
+use Prim.Native.Nat.{ℕ, _<_}
 use mathlib.Core.List.{List, [], _∷_}
 use mathlib.Core.Bool.{false}
 use mathlib.Core.Path.{_≡_, refl, ap, sym, _∙_}
+use native.Mathlib.Omega.{arith}
+use lib.ListN.{length}
 use lib.Dec.{eqb}
 use borrow.Author.Tests.{eq-eqb, ne-eqb}
 use Rattle.wire.specs.Choice.{if_then_else_}
@@ -12,6 +14,7 @@ use Rattle.wire.specs.declared.refusal.Refusal.{Refusal}
 use Rattle.soupbintcp.specs.declared.packet.Sender.{Sender}
 use Rattle.soupbintcp.specs.declared.packet.Sender.the-variants.{Server, Client}
 use Rattle.soupbintcp.specs.declared.packet.Packet.{Packet}
+use Rattle.soupbintcp.specs.declared.packet.Packet.the-variants as case
 use Rattle.soupbintcp.specs.declared.front.Front.{Front}
 use Rattle.soupbintcp.specs.declared.front.Front.the-variants.{Whole, NeedMore, Refused}
 use Rattle.soupbintcp.specs.declared.scan.Stop.{Stop}
@@ -100,6 +103,24 @@ front-back (packet client-heartbeat) = refl
 front-back (packet logout) = refl
 front-back wants-more = refl
 
+one-value : (p : Packet) → length (packetValues p) < 2
+unfolding packetValues
+one-value case.Debug = omega arith
+one-value (case.Accepted n) = omega arith
+one-value (case.Rejected b) = omega arith
+one-value case.Sequenced = omega arith
+one-value case.ServerHeartbeat = omega arith
+one-value case.EndOfSession = omega arith
+one-value (case.Login n) = omega arith
+one-value case.Unsequenced = omega arith
+one-value case.ClientHeartbeat = omega arith
+one-value case.Logout = omega arith
+
+values-in-three : (x : Front) → length (frontWords x .values) < 3
+unfolding frontWords
+values-in-three (Whole p size) = omega (arith, one-value p)
+values-in-three NeedMore = omega arith
+values-in-three (Refused r) = omega arith
+
 pub fronts-apart : FrontsApart
-unfolding FrontsApart
-fronts-apart = read-back frontNumber front-at front-back
+fronts-apart = record { numbers = read-back frontNumber front-at front-back; values-fit = values-in-three }

@@ -3,4 +3,5 @@ pub mod CursorLaws
 pub mod ReceiverLaws
 pub mod SessionLaws
 pub mod ReadingLaws
+pub mod PromiseLaws
 pub mod Rules

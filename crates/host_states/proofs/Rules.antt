@@ -6,6 +6,7 @@ use Rattle.host_states.proofs.CursorLaws.{cursor-refused, cursor-short,
 use Rattle.host_states.proofs.ReceiverLaws.{receiver-refused, receiver-short, receiver-laid, receiver-lays, receiver-read}
 use Rattle.host_states.proofs.SessionLaws.{session-lays, session-refused, session-short, session-laid, server-byte, server-kept, server-read, server-waiting, server-in, server-closed, client-byte, client-kept, client-read, client-asked, client-in, client-ended, client-closed}
 use Rattle.host_states.proofs.ReadingLaws.{stage-byte, stage-settings, stage-records, stage-done, stage-refused, tally-read, reading-read, tally-put, still-room, rest-laid, rest-refused, rest-short, rest-kept, code-short, code-room, reading-kept}
+use Rattle.host_states.proofs.PromiseLaws.{state-promises}
 
 pub ruleset flags = (flag-set, refl, needs)
 
@@ -23,4 +24,4 @@ pub ruleset clients = (client-byte, client-kept, client-read, client-asked, clie
 
 pub ruleset stages = (stage-byte, stage-settings, stage-records, stage-done, stage-refused, refl, needs)
 
-pub ruleset readings = (tally-read, reading-read, tally-put, still-room, rest-laid, rest-refused, rest-short, rest-kept, code-short, code-room, reading-kept, needs)
+pub ruleset readings = (tally-read, reading-read, tally-put, still-room, rest-laid, rest-refused, rest-short, rest-kept, code-short, code-room, reading-kept, state-promises, needs)

@@ -3,3 +3,4 @@ pub mod Cursor
 pub mod Receiver
 pub mod Session
 pub mod Reading
+pub mod Statements

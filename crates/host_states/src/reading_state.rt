@@ -17,6 +17,7 @@ ghost use Rattle.wire.specs.Output.{put};
 ghost use Rattle.capture_records.specs.Records.{mostRecords};
 ghost use Rattle.capture_tally.specs.Tally.{tally};
 ghost use Rattle.host_answers.specs.Answers.{codeOf};
+ghost use Rattle.host_states.specs.Statements.{StatePromises};
 ghost use Rattle.host_states.specs.Reading.{readingSize, stageOf, stageByte, tallyBytes, tallyIn, readingIn, KeepsReading, RestLaid, RestKept};
 
 // Bytes of a reading.
@@ -171,6 +172,7 @@ fn lay_rest(state: &mut [u8], code: u32, stage: u8, records: u32, tally: Tally)
 // Lays a reading, where the code is 0.
 pub fn write(state: &mut [u8], code: u32, reading: Reading)
     ensures { λ _. ⌜ KeepsReading code (now (state .entry)) (now (state .exit)) reading ⌝ }
+    ensures promises { λ _. ⌜ StatePromises ⌝ }
 {
     let stage = reading.stage;
     let report = reading.report;

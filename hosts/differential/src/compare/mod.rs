@@ -1,0 +1,243 @@
+//! What the header promises for each call, worked out by the reference; and the comparison with what the library did.
+
+mod capture;
+mod mold;
+mod receiver;
+mod session;
+mod soup;
+pub mod typed;
+
+use crate::call::{Call, Input, Lent};
+use crate::layout::CURSOR;
+use crate::reference::{Name, Refusal};
+use std::hint::black_box;
+
+/// What a call has to do.
+#[derive(Clone, Debug)]
+pub struct Expected {
+    pub code: u32,
+    /// What kind of answer it is, for the coverage: from the header's own comments, sometimes in finer kinds.
+    pub outcome: &'static str,
+    /// The words that are set, from the first on.
+    pub words: Vec<u64>,
+    /// The bytes that are written to the output, from the first on.
+    pub out: Vec<u8>,
+    /// The state or cursor afterwards; none where it stays.
+    pub state: Option<Vec<u8>>,
+    /// Whether the header leaves open what the cursor becomes: then only what stands behind it is compared.
+    pub cursor_is_open: bool,
+}
+
+impl Expected {
+    fn answer(outcome: &'static str) -> Expected {
+        Expected {
+            code: 0,
+            outcome,
+            words: vec![],
+            out: vec![],
+            state: None,
+            cursor_is_open: false,
+        }
+    }
+
+    fn refusal(code: Refusal) -> Expected {
+        let mut refusal = Expected::answer(refusal_name(code));
+        refusal.code = code;
+        refusal
+    }
+
+    fn short(outcome: &'static str) -> Expected {
+        let mut refusal = Expected::refusal(41);
+        refusal.outcome = outcome;
+        refusal
+    }
+
+    fn words(mut self, words: &[u64]) -> Expected {
+        self.words = words.to_vec();
+        self
+    }
+
+    fn state(mut self, state: Vec<u8>) -> Expected {
+        self.state = Some(state);
+        self
+    }
+
+    /// A writer's answer: the bytes, and how many they are.
+    fn written(out: Vec<u8>) -> Expected {
+        let mut answer = Expected::answer("written").words(&[out.len() as u64]);
+        answer.out = out;
+        answer
+    }
+
+    fn writer(result: Result<Vec<u8>, Refusal>) -> Expected {
+        result.map_or_else(Expected::refusal, Expected::written)
+    }
+
+    /// Does to the lent buffers what the call has to do. A refusal does nothing.
+    pub fn apply(&self, lent: &mut Lent) -> u32 {
+        lent.words[..self.words.len()].copy_from_slice(&self.words);
+        lent.out[..self.out.len()].copy_from_slice(&self.out);
+        if let Some(state) = &self.state {
+            lent.state[..state.len()].copy_from_slice(state);
+        }
+        self.code
+    }
+}
+
+/// A refusal's number as the name of an outcome.
+pub fn refusal_name(code: Refusal) -> &'static str {
+    match code {
+        11 => "11",
+        12 => "12",
+        13 => "13",
+        14 => "14",
+        15 => "15",
+        16 => "16",
+        17 => "17",
+        18 => "18",
+        19 => "19",
+        20 => "20",
+        21 => "21",
+        22 => "22",
+        23 => "23",
+        24 => "24",
+        25 => "25",
+        31 => "31",
+        32 => "32",
+        33 => "33",
+        34 => "34",
+        41 => "41",
+        42 => "42",
+        44 => "44",
+        46 => "46",
+        47 => "47",
+        48 => "48",
+        _ => unreachable!("document 01 has no refusal {code}"),
+    }
+}
+
+/// A buffer of a fixed size is too short: refused before every other ground.
+pub const SHORT_LENT: &str = "41 first";
+/// The output is too short: refused after every other ground.
+pub const SHORT_OUTPUT: &str = "41 last";
+
+/// How many words and how many bytes of a state or cursor a function has.
+pub fn fixed_sizes(call: &Call) -> (usize, usize) {
+    use crate::layout::{CAPTURE, CLIENT, CURSOR, RECEIVER, SERVER};
+    use Call::*;
+    match call {
+        MoldRead { .. } | MoldLocate { .. } | SoupRead { .. } | SoupScan { .. } => (3, 0),
+        MoldReadRequest { .. } => (2, 0),
+        MoldWalk { .. } | ReceiverWalk { .. } => (0, CURSOR),
+        MoldNext { .. } => (3, CURSOR),
+        ReceiverStart { .. } => (0, RECEIVER),
+        ReceiverTake { .. } => (4, RECEIVER),
+        ServerStart { .. } => (0, SERVER),
+        ServerStep { .. } => (5, SERVER),
+        ClientStart { .. } => (0, CLIENT),
+        ClientStep { .. } => (5, CLIENT),
+        CaptureStart | CaptureFinish { .. } => (0, CAPTURE),
+        CaptureFeed { .. } => (2, CAPTURE),
+        CaptureWrite => (1, CAPTURE),
+        _ => (1, 0),
+    }
+}
+
+fn lends_too_little(call: &Call, lent: &Lent) -> bool {
+    let (words, state) = fixed_sizes(call);
+    let name_is_short = |(name, input): (&str, Input)| {
+        let needed = match name {
+            "session" | "password" => 10,
+            "username" => 6,
+            _ => 0,
+        };
+        matches!(input, Input::Bytes(bytes) if bytes.len() < needed)
+    };
+    lent.words.len() < words
+        || lent.state.len() < state
+        || call.inputs().into_iter().any(name_is_short)
+}
+
+/// What the call has to do with these buffers.
+pub fn expect(call: &Call, lent: &Lent) -> Expected {
+    if lends_too_little(call, lent) {
+        return Expected::short(SHORT_LENT);
+    }
+    let expected = answer(call, &lent.state);
+    if expected.out.len() > lent.out.len() {
+        return Expected::short(SHORT_OUTPUT);
+    }
+    expected
+}
+
+/// How many bytes the call writes to its output, where it comes so far as to write.
+pub fn output_size(call: &Call, lent: &Lent) -> Option<usize> {
+    if !has_output(call) {
+        return Some(0);
+    }
+    if lends_too_little(call, lent) {
+        return None;
+    }
+    let expected = answer(call, &lent.state);
+    (expected.code == 0).then_some(expected.out.len())
+}
+
+fn has_output(call: &Call) -> bool {
+    let function = call.function();
+    function.contains("_write") || function == "capture_report"
+}
+
+/// What the call has to do where every buffer has room.
+pub fn answer(call: &Call, state: &[u8]) -> Expected {
+    mold::answer(call, state)
+        .or_else(|| receiver::answer(call, state))
+        .or_else(|| soup::answer(call))
+        .or_else(|| session::answer(call, state))
+        .or_else(|| capture::answer(call, state))
+        .expect("every function belongs to one of these")
+}
+
+/// The first ten bytes of a lent name: of a longer one only these are used.
+fn name(lent: &[u8]) -> Name {
+    lent[..10].try_into().expect("ten bytes")
+}
+
+/// A copy of all that the call only reads.
+pub fn copy_of_inputs(call: &Call) -> Vec<u8> {
+    let mut copy = Vec::new();
+    for (_, input) in call.inputs() {
+        match input {
+            Input::Bytes(bytes) => copy.extend_from_slice(bytes),
+            Input::Lengths(lengths) => {
+                copy.extend(lengths.iter().flat_map(|length| length.to_ne_bytes()))
+            }
+            Input::Number(_) => {}
+        }
+    }
+    copy
+}
+
+/// What differs between what was promised and what was done, if anything does. `after` is `before` as the library left it.
+pub fn difference(
+    call: &Call,
+    copy: &[u8],
+    expected: &Expected,
+    before: &Lent,
+    code: u32,
+    after: &Lent,
+) -> Option<String> {
+    let mut wanted = before.clone();
+    let wanted_code = expected.apply(&mut wanted);
+    if expected.cursor_is_open {
+        wanted.state[..CURSOR].copy_from_slice(&after.state[..CURSOR]);
+    }
+    // The compiler takes what is only lent for reading as unchanged; it is to be looked at all the same.
+    let untouched = copy == copy_of_inputs(black_box(call));
+    if code == wanted_code && *after == wanted && untouched {
+        return None;
+    }
+    Some(format!(
+        "{call}lent:\n{before}wanted {wanted_code} ({}):\n{wanted}got {code}:\n{after}inputs untouched: {untouched}",
+        expected.outcome
+    ))
+}

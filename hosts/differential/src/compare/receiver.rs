@@ -1,0 +1,92 @@
+//! The MoldUDP64 receiver's functions.
+
+use super::{name, Expected};
+use crate::call::Call;
+use crate::layout::{self, Cursor};
+use crate::reference::mold::{self, Kind};
+use crate::reference::receiver::{Answer, Receiver};
+
+pub fn answer(call: &Call, state: &[u8]) -> Option<Expected> {
+    Some(match *call {
+        Call::ReceiverStart {
+            session,
+            next,
+            limit,
+        } => start(Receiver::start(name(session), next, limit)),
+        Call::ReceiverTake { datagram } => take(state, datagram),
+        Call::ReceiverWalk {
+            datagram,
+            count,
+            skipped,
+        } => walk(datagram, count, skipped),
+        _ => return None,
+    })
+}
+
+fn start(started: Result<Receiver, u32>) -> Expected {
+    match started {
+        Ok(receiver) => Expected::answer("started").state(layout::receiver_bytes(&receiver)),
+        Err(refusal) => Expected::refusal(refusal),
+    }
+}
+
+fn take(state: &[u8], datagram: &[u8]) -> Expected {
+    let mut receiver = layout::receiver(state);
+    let answer = match receiver.take(datagram) {
+        Ok(answer) => answer,
+        Err(refusal) => return Expected::refusal(refusal),
+    };
+    let words = match answer {
+        Answer::Deliver {
+            first,
+            count,
+            skipped,
+        } => [1, first, count, skipped],
+        Answer::Old => [2, 0, 0, 0],
+        Answer::Quiet => [3, 0, 0, 0],
+        Answer::Ask { first, count } => [4, first, count, 0],
+        Answer::Ended => [5, 0, 0, 0],
+    };
+    Expected::answer(outcome(&answer, &receiver, datagram))
+        .words(&words)
+        .state(layout::receiver_bytes(&receiver))
+}
+
+/// The table's answers by the kind of datagram, so that each of its lines is drawn in each of its ways.
+fn outcome(answer: &Answer, receiver: &Receiver, datagram: &[u8]) -> &'static str {
+    let kind = mold::read(datagram).map(|datagram| datagram.kind);
+    match answer {
+        Answer::Deliver { skipped: 0, .. } => "deliver all",
+        Answer::Deliver { .. } => "deliver the rest",
+        Answer::Old if kind == Ok(Kind::Data) => "old data",
+        Answer::Old => "old heartbeat",
+        Answer::Quiet => "quiet",
+        Answer::Ask { count, .. } if *count == u64::from(receiver.limit) => match kind {
+            Ok(Kind::Data) => "ask to the limit, data",
+            Ok(Kind::Heartbeat) => "ask to the limit, heartbeat",
+            _ => "ask to the limit, end",
+        },
+        Answer::Ask { .. } => match kind {
+            Ok(Kind::Data) => "ask for all, data",
+            Ok(Kind::Heartbeat) => "ask for all, heartbeat",
+            _ => "ask for all, end",
+        },
+        Answer::Ended => "ended",
+    }
+}
+
+/// A walk over the messages that a deliver answer delivers: `count` of them, behind `skipped` others. For other numbers than such an
+/// answer's the header doesn't give the cursor; what it says of their walk is looked at where one is drawn.
+fn walk(datagram: &[u8], count: u16, skipped: u16) -> Expected {
+    let messages = mold::read(datagram).map_or(vec![], |read| read.messages);
+    let skipped = usize::from(skipped);
+    let delivers = count > 0 && skipped + usize::from(count) == messages.len();
+    if !delivers {
+        let mut open = Expected::answer("not of this datagram");
+        open.cursor_is_open = true;
+        return open;
+    }
+    let place = messages[skipped].offset as u64 - 2;
+    let cursor = Cursor { place, left: count };
+    Expected::answer("delivered messages").state(layout::cursor_bytes(cursor))
+}

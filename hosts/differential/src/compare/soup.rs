@@ -1,0 +1,107 @@
+//! The SoupBinTCP packets' functions.
+
+use super::{name, Expected};
+use crate::call::Call;
+use crate::reference::soup::{self, Front, Login, Packet, Sender};
+
+pub fn answer(call: &Call) -> Option<Expected> {
+    Some(match *call {
+        Call::SoupRead { stream, sender } => read(stream, who(sender)),
+        Call::SoupScan { stream, sender } => scan(stream, who(sender)),
+        Call::SoupWriteDebug { payload } => Expected::writer(soup::write_message(b'+', payload)),
+        Call::SoupWriteSequenced { payload } => {
+            Expected::writer(soup::write_message(b'S', payload))
+        }
+        Call::SoupWriteUnsequenced { payload } => {
+            Expected::writer(soup::write_message(b'U', payload))
+        }
+        Call::SoupWriteServerHeartbeat => Expected::written(soup::write_bare(b'H')),
+        Call::SoupWriteEnd => Expected::written(soup::write_bare(b'Z')),
+        Call::SoupWriteClientHeartbeat => Expected::written(soup::write_bare(b'R')),
+        Call::SoupWriteLogout => Expected::written(soup::write_bare(b'O')),
+        Call::SoupWriteAccepted { session, number } => {
+            Expected::writer(soup::write_accepted(&name(session), number))
+        }
+        Call::SoupWriteRejected { reason } => Expected::writer(soup::write_rejected(reason)),
+        Call::SoupWriteLogin {
+            username,
+            password,
+            session,
+            number,
+        } => Expected::writer(soup::write_login(&Login {
+            username: username[..6].try_into().expect("six bytes"),
+            password: password[..10].try_into().expect("ten bytes"),
+            session: name(session),
+            number,
+        })),
+        _ => return None,
+    })
+}
+
+/// 0 is the server, every other number the client.
+pub fn who(sender: u8) -> Sender {
+    if sender == 0 {
+        Sender::Server
+    } else {
+        Sender::Client
+    }
+}
+
+fn read(stream: &[u8], sender: Sender) -> Expected {
+    match soup::read(stream, sender) {
+        Err(25) => {
+            let mut refusal = Expected::refusal(25);
+            refusal.outcome = match stream[2] {
+                b'A' => "25 in A",
+                b'J' => "25 in J",
+                _ => "25 in L",
+            };
+            refusal
+        }
+        Err(refusal) => Expected::refusal(refusal),
+        Ok(Front::NeedMore) => Expected::answer("need more").words(&[0, 0, 0]),
+        Ok(Front::Packet { packet, size }) => {
+            let value = match &packet {
+                Packet::Accepted { number, .. } => *number,
+                Packet::Login(login) => login.number,
+                Packet::Rejected { reason } => u64::from(*reason),
+                _ => 0,
+            };
+            let letter = u64::from(packet.letter());
+            Expected::answer(packet_name(&packet, sender)).words(&[letter, size as u64, value])
+        }
+    }
+}
+
+fn packet_name(packet: &Packet, sender: Sender) -> &'static str {
+    match packet {
+        Packet::Debug { .. } if sender == Sender::Server => "+ of the server",
+        Packet::Debug { .. } => "+ of the client",
+        Packet::Accepted { .. } => "A",
+        Packet::Rejected { reason: b'A' } => "J with A",
+        Packet::Rejected { .. } => "J with S",
+        Packet::Sequenced { .. } => "S",
+        Packet::ServerHeartbeat => "H",
+        Packet::End => "Z",
+        Packet::Login(login) if login.number == 0 => "L for 0",
+        Packet::Login(_) => "L",
+        Packet::Unsequenced { .. } => "U",
+        Packet::ClientHeartbeat => "R",
+        Packet::Logout => "O",
+    }
+}
+
+fn scan(stream: &[u8], sender: Sender) -> Expected {
+    let scan = soup::scan(stream, sender);
+    let outcome = match scan.stopped_by {
+        None if scan.bytes == stream.len() => "stopped at the end",
+        None => "stopped at a short packet",
+        Some(21) => "stopped by 21",
+        Some(22) => "stopped by 22",
+        Some(23) => "stopped by 23",
+        Some(24) => "stopped by 24",
+        Some(_) => "stopped by 25",
+    };
+    let stopped_by = u64::from(scan.stopped_by.unwrap_or(0));
+    Expected::answer(outcome).words(&[scan.packets, scan.bytes as u64, stopped_by])
+}

@@ -1,0 +1,58 @@
+//! The wrapper's types above the exported functions: for each drawn input that they can be given, their answer is the reference's.
+
+mod capture;
+mod mold;
+mod session;
+mod soup;
+
+use super::{expect, Expected, SHORT_LENT};
+use crate::call::{Call, Lent};
+use eiderwagon::Refusal;
+use std::fmt::Debug;
+
+/// What differs between the typed answer and the reference's, if anything does. `lent` is as it was before the call.
+pub fn difference(call: &Call, lent: &Lent) -> Option<String> {
+    let expected = expect(call, lent);
+    if expected.outcome == SHORT_LENT {
+        // The types have no name, state or words of another size.
+        return None;
+    }
+    let mut out = lent.out.clone();
+    mold::difference(call, &lent.state, &expected, &mut out)
+        .or_else(|| soup::difference(call, &expected, &mut out))
+        .or_else(|| session::difference(call, &lent.state, &expected))
+        .or_else(|| capture::difference(call, &lent.state, &expected, &mut out))
+}
+
+fn same<T: Debug + PartialEq>(what: &str, typed: T, wanted: T) -> Option<String> {
+    (typed != wanted).then(|| format!("typed {what}: wanted {wanted:?}, got {typed:?}"))
+}
+
+/// A typed result with the refusal's number, as the reference has it.
+fn numbered<T>(result: Result<T, Refusal>) -> Result<T, u32> {
+    result.map_err(Refusal::number)
+}
+
+/// A typed writer wrote what was expected.
+fn same_bytes(expected: &Expected, typed: Result<&[u8], Refusal>) -> Option<String> {
+    let wanted = match expected.code {
+        0 => Ok(expected.out.as_slice()),
+        code => Err(code),
+    };
+    same("writer", numbered(typed), wanted)
+}
+
+/// A state's bytes afterwards, which a call without effect leaves as they were.
+fn same_state<const N: usize>(
+    expected: &Expected,
+    before: &[u8; N],
+    after: &[u8; N],
+) -> Option<String> {
+    let wanted = expected.state.as_deref().unwrap_or(before);
+    same("state", after.as_slice(), wanted)
+}
+
+/// The front of a lent buffer, as the array that the types take.
+fn front<const N: usize>(lent: &[u8]) -> [u8; N] {
+    lent[..N].try_into().expect("so many bytes")
+}

@@ -1,0 +1,108 @@
+//! Calls of the captures' functions: whole captures, states made by hand, and captures cut into pieces.
+
+use super::capture;
+use super::feed::Feed;
+use super::{bytes, lend};
+use crate::call::Call;
+use crate::layout;
+use crate::random::Random;
+use crate::reference::capture::{Capture, Stage};
+use crate::reference::receiver::Receiver;
+use crate::run::Run;
+
+pub fn single(run: &mut Run, random: &mut Random) {
+    let feed = capture::feed(random);
+    let bytes = capture::capture(random, &feed);
+    let call = Call::CaptureReport { capture: &bytes };
+    lend::single(run, random, &call, None);
+    lend::single(run, random, &Call::CaptureStart, None);
+    for _ in 0..4 {
+        let state = by_hand(random, &feed);
+        let state = (!random.one_in(24)).then_some(state.as_slice());
+        let records = capture::records(random, &feed, 6);
+        let bytes = if random.one_in(3) { &bytes } else { &records };
+        lend::single(run, random, &Call::CaptureFeed { bytes }, state);
+        lend::single(run, random, &Call::CaptureFinish { bytes }, state);
+        lend::single(run, random, &Call::CaptureWrite, state);
+    }
+}
+
+/// The state of a reading in any stage, its counts at their ends now and then.
+fn by_hand(random: &mut Random, feed: &Feed) -> Vec<u8> {
+    let receiver = Receiver {
+        session: feed.name,
+        next: feed.first,
+        limit: bytes::count(random),
+        ended: random.one_in(8),
+    };
+    let capture = Capture {
+        receiver,
+        stage: random.pick(&[
+            Stage::Settings,
+            Stage::Records,
+            Stage::Records,
+            Stage::Done,
+            Stage::SettingsRefused,
+        ]),
+        records: match random.below(3) {
+            0 => u32::MAX - random.below(4) as u32,
+            _ => random.below(10) as u32,
+        },
+        delivered: line(random),
+        old: line(random),
+        quiet: line(random),
+        asked: line(random),
+        refused: line(random),
+    };
+    let mut state = layout::capture_bytes(&capture);
+    match random.below(16) {
+        0 => state[21] = random.byte(),
+        1 => state[20] = random.byte(),
+        2 => state[22..30].copy_from_slice(&bytes::number(random).to_be_bytes()),
+        _ => {}
+    }
+    state
+}
+
+/// What one line of the report counts.
+fn line(random: &mut Random) -> u64 {
+    match random.below(4) {
+        0 => u64::MAX - random.below(3) as u64,
+        _ => bytes::number(random),
+    }
+}
+
+/// A whole capture in pieces: what isn't used is kept and fed again, and the report is the whole capture's.
+pub fn pieces(run: &mut Run, random: &mut Random) {
+    let feed = capture::feed(random);
+    let capture = capture::capture(random, &feed);
+    let mut state = vec![0; layout::CAPTURE];
+    lend::chained(run, random, &Call::CaptureStart, &mut state);
+    let mut kept = 0;
+    let mut there = 0;
+    let most = capture.len() / random.between(1, 20) + 1;
+    while there < capture.len() {
+        there = (there + random.between(0, most)).min(capture.len());
+        let bytes = &capture[kept..there];
+        let (_, lent) = lend::chained(run, random, &Call::CaptureFeed { bytes }, &mut state);
+        kept += lent.words[0] as usize;
+        if there - kept > 65_536 {
+            run.fail("a feed left more than 65,536 bytes to keep");
+        }
+        if random.one_in(4) {
+            lend::single(run, random, &Call::CaptureWrite, Some(&state));
+        }
+        if lent.words[1] == 1 {
+            break;
+        }
+    }
+    let bytes = &capture[kept..there];
+    lend::chained(run, random, &Call::CaptureFinish { bytes }, &mut state);
+    let (_, lent) = lend::chained(run, random, &Call::CaptureWrite, &mut state);
+    let in_pieces = &lent.out[..lent.words[0] as usize];
+    let call = Call::CaptureReport { capture: &capture };
+    let (_, lent) = lend::chained(run, random, &call, &mut vec![]);
+    if in_pieces != &lent.out[..lent.words[0] as usize] {
+        run.fail("a capture in pieces has another report than the whole");
+    }
+}

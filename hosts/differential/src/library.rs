@@ -1,0 +1,133 @@
+//! Who answers a call: the archive through the wrapper, or a stand-in.
+
+use crate::call::{Call, Lent};
+use crate::compare::typed;
+use eiderwagon::raw;
+
+pub trait Library {
+    /// Makes the call on the lent buffers and returns its code.
+    fn call(&mut self, call: &Call, lent: &mut Lent) -> u32;
+
+    /// Makes the same call through types, where there are any, and tells what differs from the reference.
+    fn typed_difference(&mut self, _call: &Call, _lent: &Lent) -> Option<String> {
+        None
+    }
+}
+
+/// The exported functions of the verified library.
+pub struct Archive;
+
+/// A buffer with elements before and behind the part that is lent, which no call may touch.
+struct Guarded<T> {
+    all: Vec<T>,
+}
+
+const GUARD: usize = 8;
+
+impl<T: Copy + PartialEq> Guarded<T> {
+    fn new(lent: &[T], guard: T) -> Guarded<T> {
+        let guard = [guard; GUARD];
+        let all = [&guard, lent, &guard].concat();
+        Guarded { all }
+    }
+
+    fn lent(&mut self) -> &mut [T] {
+        let end = self.all.len() - GUARD;
+        &mut self.all[GUARD..end]
+    }
+
+    /// Hands the lent part back, and looks at what stands around it.
+    fn back(&mut self, lent: &mut [T], guard: T) {
+        lent.copy_from_slice(self.lent());
+        let end = self.all.len() - GUARD;
+        let around = self.all[..GUARD].iter().chain(&self.all[end..]);
+        assert!(
+            { around }.all(|element| *element == guard),
+            "written outside a lent buffer"
+        );
+    }
+}
+
+impl Library for Archive {
+    fn call(&mut self, call: &Call, lent: &mut Lent) -> u32 {
+        let mut words = Guarded::new(&lent.words, WORD);
+        let mut out = Guarded::new(&lent.out, BYTE);
+        let mut state = Guarded::new(&lent.state, BYTE);
+        let code = exported(call, words.lent(), out.lent(), state.lent());
+        words.back(&mut lent.words, WORD);
+        out.back(&mut lent.out, BYTE);
+        state.back(&mut lent.state, BYTE);
+        code
+    }
+
+    fn typed_difference(&mut self, call: &Call, lent: &Lent) -> Option<String> {
+        typed::difference(call, lent)
+    }
+}
+
+const WORD: u64 = 0xA5A5_A5A5_A5A5_A5A5;
+const BYTE: u8 = 0xA5;
+
+fn exported(call: &Call, words: &mut [u64], out: &mut [u8], state: &mut [u8]) -> u32 {
+    match *call {
+        Call::MoldRead { datagram } => raw::mold_read(datagram, words),
+        Call::MoldLocate { datagram, place } => raw::mold_locate(datagram, place, words),
+        Call::MoldWalk { datagram } => raw::mold_walk(datagram, state),
+        Call::MoldNext { datagram } => raw::mold_next(state, datagram, words),
+        Call::MoldWriteData {
+            session,
+            first,
+            lengths,
+            data,
+        } => raw::mold_write_data(session, first, lengths, data, out, words),
+        Call::MoldWriteHeartbeat { session, next } => {
+            raw::mold_write_heartbeat(session, next, out, words)
+        }
+        Call::MoldWriteEnd { session, next } => raw::mold_write_end(session, next, out, words),
+        Call::MoldReadRequest { request } => raw::mold_read_request(request, words),
+        Call::MoldWriteRequest {
+            session,
+            first,
+            count,
+        } => raw::mold_write_request(session, first, count, out, words),
+        Call::ReceiverStart {
+            session,
+            next,
+            limit,
+        } => raw::receiver_start(session, next, limit, state),
+        Call::ReceiverTake { datagram } => raw::receiver_take(state, datagram, words),
+        Call::ReceiverWalk {
+            datagram,
+            count,
+            skipped,
+        } => raw::receiver_walk(datagram, count, skipped, state),
+        Call::SoupRead { stream, sender } => raw::soup_read(stream, sender, words),
+        Call::SoupScan { stream, sender } => raw::soup_scan(stream, sender, words),
+        Call::SoupWriteDebug { payload } => raw::soup_write_debug(payload, out, words),
+        Call::SoupWriteAccepted { session, number } => {
+            raw::soup_write_accepted(session, number, out, words)
+        }
+        Call::SoupWriteRejected { reason } => raw::soup_write_rejected(reason, out, words),
+        Call::SoupWriteSequenced { payload } => raw::soup_write_sequenced(payload, out, words),
+        Call::SoupWriteServerHeartbeat => raw::soup_write_server_heartbeat(out, words),
+        Call::SoupWriteEnd => raw::soup_write_end(out, words),
+        Call::SoupWriteLogin {
+            username,
+            password,
+            session,
+            number,
+        } => raw::soup_write_login(username, password, session, number, out, words),
+        Call::SoupWriteUnsequenced { payload } => raw::soup_write_unsequenced(payload, out, words),
+        Call::SoupWriteClientHeartbeat => raw::soup_write_client_heartbeat(out, words),
+        Call::SoupWriteLogout => raw::soup_write_logout(out, words),
+        Call::ServerStart { session, last } => raw::server_start(session, last, state),
+        Call::ServerStep { accounts, stream } => raw::server_step(state, accounts, stream, words),
+        Call::ClientStart { session, number } => raw::client_start(session, number, state),
+        Call::ClientStep { stream } => raw::client_step(state, stream, words),
+        Call::CaptureStart => raw::capture_start(state),
+        Call::CaptureFeed { bytes } => raw::capture_feed(state, bytes, words),
+        Call::CaptureFinish { bytes } => raw::capture_finish(state, bytes),
+        Call::CaptureWrite => raw::capture_write(state, out, words),
+        Call::CaptureReport { capture } => raw::capture_report(capture, out, words),
+    }
+}

@@ -1,0 +1,90 @@
+//! Document 01's own examples and table rows, with the values that stand there: of the reference, and of the library.
+
+mod captures;
+mod datagrams;
+mod login;
+mod packets;
+mod receiver;
+mod sessions;
+
+use differential::call::{Call, Lent};
+use differential::library::{Archive, Library};
+use differential::stand_in::StandIn;
+
+const NAME: &[u8; 10] = b"READROOM01";
+const TOP: u64 = u64::MAX;
+
+struct Answer {
+    code: u32,
+    words: [u64; 5],
+    out: Vec<u8>,
+    state: Vec<u8>,
+}
+
+fn lent(state: &[u8]) -> Lent {
+    Lent {
+        words: vec![0; 5],
+        out: vec![0; 70_000],
+        state: state.to_vec(),
+    }
+}
+
+/// Asks both, who have to agree.
+fn ask(call: &Call, state: &[u8]) -> Answer {
+    let mut by_reference = lent(state);
+    let mut by_library = lent(state);
+    let code = StandIn.call(call, &mut by_reference);
+    let library_code = Archive.call(call, &mut by_library);
+    let agree = library_code == code && by_library == by_reference;
+    assert!(
+        agree,
+        "{call}reference {code}:\n{by_reference}library {library_code}:\n{by_library}"
+    );
+    Answer {
+        code,
+        words: by_library.words.try_into().expect("five words"),
+        out: by_library.out,
+        state: by_library.state,
+    }
+}
+
+/// The code and the first words of an answer.
+fn words<const N: usize>(answer: &Answer) -> (u32, [u64; N]) {
+    (answer.code, answer.words[..N].try_into().expect("N words"))
+}
+
+fn header(number: u64, count: u16) -> Vec<u8> {
+    let mut bytes = NAME.to_vec();
+    bytes.extend(number.to_be_bytes());
+    bytes.extend(count.to_be_bytes());
+    bytes
+}
+
+fn data(number: u64, messages: &[&[u8]]) -> Vec<u8> {
+    let mut bytes = header(number, messages.len() as u16);
+    for message in messages {
+        bytes.extend((message.len() as u16).to_be_bytes());
+        bytes.extend(*message);
+    }
+    bytes
+}
+
+fn heartbeat(number: u64) -> Vec<u8> {
+    header(number, 0)
+}
+
+fn end(number: u64) -> Vec<u8> {
+    header(number, 65_535)
+}
+
+fn packet(letter: u8, payload: &[u8]) -> Vec<u8> {
+    let length = 1 + payload.len() as u16;
+    [&length.to_be_bytes()[..], &[letter], payload].concat()
+}
+
+fn accepted(session: &[u8; 10], number: &str) -> Vec<u8> {
+    packet(
+        b'A',
+        &[session, format!("{number:>20}").as_bytes()].concat(),
+    )
+}

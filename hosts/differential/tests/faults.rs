@@ -1,0 +1,237 @@
+//! The comparison itself: a library with one fault in it is caught, whichever of these the fault is.
+
+use differential::call::{Call, Lent};
+use differential::compare::fixed_sizes;
+use differential::library::Library;
+use differential::run_with;
+use differential::stand_in::StandIn;
+use std::panic::{catch_unwind, set_hook, take_hook, AssertUnwindSafe};
+
+/// Changes what a call did; `before` are the buffers as they were lent.
+type Fault = fn(call: &Call, before: &Lent, code: &mut u32, after: &mut Lent);
+
+struct Faulty(Fault);
+
+impl Library for Faulty {
+    fn call(&mut self, call: &Call, lent: &mut Lent) -> u32 {
+        let before = lent.clone();
+        let mut code = StandIn.call(call, lent);
+        self.0(call, &before, &mut code, lent);
+        code
+    }
+}
+
+fn touch<T: Copy + std::ops::Not<Output = T>>(place: Option<&mut T>) {
+    if let Some(place) = place {
+        *place = !*place;
+    }
+}
+
+/// Faults of handling lent memory, in any function.
+const HANDLING: &[(&str, Fault)] = &[
+    ("a refusal sets a word", |_, _, code, after| {
+        if *code != 0 {
+            touch(after.words.first_mut());
+        }
+    }),
+    ("a refusal zeroes the words", |_, _, code, after| {
+        if *code != 0 {
+            after.words.fill(0);
+        }
+    }),
+    ("a refusal begins to write", |call, _, code, after| {
+        if *code != 0 && call.function().contains("write") {
+            touch(after.out.first_mut());
+        }
+    }),
+    ("a refused step moves the state", |call, _, code, after| {
+        if *code != 0 && call.function().ends_with("step") {
+            touch(after.state.last_mut());
+        }
+    }),
+    (
+        "a refused start closes the state",
+        |call, _, code, after| {
+            if *code == 19 && call.function().ends_with("start") {
+                after.state.fill(0);
+            }
+        },
+    ),
+    ("a word behind the answer is set", |call, _, code, after| {
+        if *code == 0 {
+            touch(after.words.get_mut(fixed_sizes(call).0));
+        }
+    }),
+    ("a byte behind the state is set", |call, _, code, after| {
+        if *code == 0 {
+            touch(after.state.get_mut(fixed_sizes(call).1));
+        }
+    }),
+    ("a writer writes one byte more", |call, _, code, after| {
+        if *code == 0 && call.function().contains("write") {
+            let size = after.words[0] as usize;
+            touch(after.out.get_mut(size));
+        }
+    }),
+    ("a short output is filled", |call, _, code, after| {
+        if *code == 41 && call.function() == "capture_report" {
+            after.out.fill(b'=');
+        }
+    }),
+];
+
+/// How far a datagram lies ahead of a receiver.
+fn ahead(datagram: &[u8], state: &[u8]) -> u64 {
+    let number = |bytes: &[u8]| u64::from_be_bytes(bytes[10..18].try_into().expect("eight bytes"));
+    number(datagram) - number(state)
+}
+
+/// Takes back an answer, and gives a refusal instead.
+fn refuse(number: u32, before: &Lent, code: &mut u32, after: &mut Lent) {
+    *code = number;
+    after.clone_from(before);
+}
+
+/// Faults of a rule, document 01's own list of errors first.
+const RULES: &[(&str, Fault)] = &[
+    (
+        "a password counts up to its first zero byte",
+        |call, before, code, after| {
+            if let Call::ServerStep { accounts, stream } = *call {
+                let mut padded = stream.to_vec();
+                if let Some(password) = padded.get_mut(9..19) {
+                    let text = password.iter().position(|&byte| byte == 0).unwrap_or(10);
+                    password[text..].fill(b' ');
+                }
+                after.clone_from(before);
+                let stream = &padded;
+                *code = StandIn.call(&Call::ServerStep { accounts, stream }, after);
+            }
+        },
+    ),
+    (
+        "65,535 is read as that many blocks",
+        |call, before, code, after| {
+            if matches!(call, Call::MoldRead { .. }) && *code == 0 && after.words[0] == 3 {
+                refuse(15, before, code, after);
+            }
+        },
+    ),
+    (
+        "a datagram that begins before n is old",
+        |call, before, code, after| {
+            let taken = matches!(call, Call::ReceiverTake { .. }) && *code == 0;
+            if taken && after.words[0] == 1 && after.words[3] > 0 {
+                after.words[..4].copy_from_slice(&[2, 0, 0, 0]);
+                after.state.clone_from(&before.state);
+            }
+        },
+    ),
+    ("it asks without the limit", |call, before, code, after| {
+        if let Call::ReceiverTake { datagram } = call {
+            if *code == 0 && after.words[0] == 4 {
+                after.words[2] = ahead(datagram, &before.state);
+            }
+        }
+    }),
+    (
+        "it asks for a number cut to 16 bits",
+        |call, before, code, after| {
+            if let Call::ReceiverTake { datagram } = call {
+                if *code == 0 && after.words[0] == 4 {
+                    let cut = u64::from(ahead(datagram, &before.state) as u16);
+                    after.words[2] = after.words[2].min(cut);
+                }
+            }
+        },
+    ),
+    ("an end of session ahead ends", |call, _, code, after| {
+        if let Call::ReceiverTake { datagram } = call {
+            if *code == 0 && after.words[0] == 4 && datagram[18..20] == [0xFF; 2] {
+                after.words[..4].copy_from_slice(&[5, 0, 0, 0]);
+                after.state[20] = 1;
+            }
+        }
+    }),
+    (
+        "a number field has no leading zeros",
+        |call, before, code, after| {
+            if let Call::SoupRead { stream, .. } = call {
+                let leading = |field: Option<&[u8]>| field.is_some_and(|field| field[0] == b'0');
+                if *code == 0 && after.words[0] == u64::from(b'A') && leading(stream.get(13..33)) {
+                    refuse(25, before, code, after);
+                }
+            }
+        },
+    ),
+    (
+        "a closed server takes debug packets",
+        |call, _, code, after| {
+            if let Call::ServerStep { stream, .. } = call {
+                if *code == 32 && stream[2] == b'+' {
+                    *code = 0;
+                    let size = 2 + u64::from(u16::from_be_bytes([stream[0], stream[1]]));
+                    after.words[..5].copy_from_slice(&[6, size, 0, 0, 0]);
+                }
+            }
+        },
+    ),
+    (
+        "a scan that was stopped forgets its counts",
+        |call, _, _, after| {
+            let scanned = matches!(call, Call::SoupScan { .. }) && after.words.len() >= 3;
+            if scanned && (21..=25).contains(&after.words[2]) {
+                after.words[..2].fill(0);
+            }
+        },
+    ),
+    (
+        "a largest datagram is refused",
+        |call, before, code, after| {
+            if let Call::MoldRead { datagram } = call {
+                if *code == 0 && datagram.len() == 65_507 {
+                    refuse(12, before, code, after);
+                }
+            }
+        },
+    ),
+    (
+        "a full account table is refused",
+        |call, before, code, after| {
+            if let Call::ServerStep { accounts, .. } = call {
+                if *code != 41 && accounts.len() / 16 == 1_024 {
+                    refuse(19, before, code, after);
+                }
+            }
+        },
+    ),
+    (
+        "a message at 2^64 - 1 is delivered",
+        |call, before, code, after| {
+            if matches!(call, Call::ClientStep { .. }) && *code == 34 {
+                *code = 0;
+                after.words[..5].copy_from_slice(&[3, 3, u64::MAX, 3, 0]);
+                after.state.clone_from(&before.state);
+            }
+        },
+    ),
+];
+
+fn is_caught(fault: Fault) -> bool {
+    let run = || run_with(&mut Faulty(fault), 1, 240_000);
+    catch_unwind(AssertUnwindSafe(run)).is_err()
+}
+
+#[test]
+fn every_fault_is_caught() {
+    // A fault that is caught is no failure: its panic isn't to be printed.
+    let hook = take_hook();
+    set_hook(Box::new(|_| {}));
+    let all = HANDLING.iter().chain(RULES);
+    let missed: Vec<&str> = all
+        .filter(|(_, fault)| !is_caught(*fault))
+        .map(|(name, _)| *name)
+        .collect();
+    set_hook(hook);
+    assert_eq!(missed, Vec::<&str>::new());
+}

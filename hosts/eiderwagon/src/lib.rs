@@ -1,0 +1,65 @@
+//! MoldUDP64 and SoupBinTCP, at both ends, for hosts in Rust.
+//!
+//! The protocols' logic is in `libeiderwagon.a`, where every function is proved to meet its
+//! contract, for all bytes that it may be lent. This crate gives it types. It takes bytes and gives
+//! answers; what is left to the host is
+//!
+//! - the sockets: it receives, sends what was written, and sends the requests that are answered;
+//! - the clocks: heartbeats are due after a second without sending, and silence ends a connection;
+//! - one [`session::Server`] or [`session::Client`] for each connection, and one
+//!   [`receiver::Receiver`] for each feed. They are plain bytes: the host keeps them, hands each
+//!   datagram or stream to its own, in the order in which it came, and may store and copy them.
+//!
+//! Nothing needs to be checked beforehand. What doesn't follow the rules is answered with a
+//! [`Refusal`], which has changed nothing.
+//!
+//! A receiver over three datagrams, of which the second is lost at first:
+//!
+//! ```
+//! use eiderwagon::mold;
+//! use eiderwagon::receiver::{Answer, Receiver};
+//!
+//! // What the venue sends: messages 1 and 2, 3, and 4.
+//! let name = b"READROOM01";
+//! let (mut a, mut b, mut c) = ([0; 64], [0; 64], [0; 64]);
+//! let one_and_two = mold::write_data(name, 1, &[b"offer 1", b"offer 2"], &mut a)?;
+//! let three = mold::write_data(name, 3, &[b"offer 1 withdrawn"], &mut b)?;
+//! let four = mold::write_data(name, 4, &[b"offer 4"], &mut c)?;
+//!
+//! let mut receiver = Receiver::start(name, 1, 100)?;
+//! let mut shown = Vec::new();
+//! for datagram in [one_and_two, four, three, four] {
+//!     match receiver.take(datagram)? {
+//!         Answer::Deliver { messages, .. } => shown.extend(messages),
+//!         Answer::Ask(request) => {
+//!             // The host sends it; the venue then sends from message 3 on again.
+//!             assert_eq!((request.first, request.count), (3, 1));
+//!             let mut packet = [0; 20];
+//!             request.write(&mut packet)?;
+//!         }
+//!         Answer::Old | Answer::Quiet => {}
+//!         Answer::Ended => break,
+//!     }
+//! }
+//! let all: [&[u8]; 4] = [b"offer 1", b"offer 2", b"offer 1 withdrawn", b"offer 4"];
+//! assert_eq!(shown, all);
+//! # Ok::<(), eiderwagon::Refusal>(())
+//! ```
+
+#![warn(missing_docs)]
+#![deny(unsafe_code)]
+
+mod call;
+pub mod capture;
+pub mod mold;
+#[allow(unsafe_code)]
+pub mod raw;
+pub mod receiver;
+mod refusal;
+pub mod session;
+pub mod soup;
+
+#[cfg(test)]
+mod header_test;
+
+pub use refusal::Refusal;

@@ -1,0 +1,120 @@
+//! The MoldUDP64 receiver: it delivers each message of a session once, in order, and asks for what
+//! is missing.
+//!
+//! ```
+//! use eiderwagon::mold;
+//! use eiderwagon::receiver::{Answer, Receiver};
+//!
+//! let mut receiver = Receiver::start(b"READROOM01", 3, 100)?;
+//! let mut out = [0; 64];
+//!
+//! // Messages 2 to 4: the receiver has 2 already.
+//! let datagram = mold::write_data(b"READROOM01", 2, &[b"two", b"three", b"four"], &mut out)?;
+//! match receiver.take(datagram)? {
+//!     Answer::Deliver { first, messages } => {
+//!         assert_eq!(first, 3);
+//!         assert!(messages.eq([b"three".as_slice(), b"four"]));
+//!     }
+//!     other => panic!("{other:?}"),
+//! }
+//! assert_eq!(receiver.next(), 5);
+//!
+//! // A datagram of another session is refused, and the receiver stays as it was.
+//! let other = mold::write_heartbeat(b"READROOM02", 5, &mut out)?;
+//! let refusal = receiver.take(other).unwrap_err();
+//! assert_eq!(refusal.to_string(), "refusal 17: the session differs");
+//! assert_eq!(receiver.next(), 5);
+//! # Ok::<(), eiderwagon::Refusal>(())
+//! ```
+
+use crate::call::{check, count, field, kept_as_bytes, unknown, words};
+use crate::mold::{Messages, Request, Session};
+use crate::{raw, Refusal};
+use std::fmt;
+
+/// A receiver of one session. It is plain bytes: a copy goes its own way.
+#[derive(Clone, PartialEq, Eq)]
+pub struct Receiver {
+    state: [u8; raw::RECEIVER_SIZE],
+}
+
+/// What a receiver makes of a datagram.
+#[derive(Clone, Debug, PartialEq, Eq)]
+pub enum Answer<'a> {
+    /// These messages are new, and none before them is missing.
+    Deliver {
+        /// The number of the first one; the others follow by one.
+        first: u64,
+        /// The messages, as parts of the datagram.
+        messages: Messages<'a>,
+    },
+    /// Nothing new.
+    Old,
+    /// A heartbeat, and nothing is missing.
+    Quiet,
+    /// Messages are missing: write this request and send it. The datagram itself isn't kept.
+    Ask(Request),
+    /// The session is over, and nothing is missing.
+    Ended,
+}
+
+impl Receiver {
+    /// Starts a receiver at the number of the next message, 1 or more. It asks for at most `limit`
+    /// messages at once, 1 to 65,534.
+    pub fn start(session: &Session, next: u64, limit: u16) -> Result<Self, Refusal> {
+        let mut state = [0; raw::RECEIVER_SIZE];
+        check(raw::receiver_start(session, next, limit, &mut state))?;
+        Ok(Receiver { state })
+    }
+
+    /// Takes one datagram as it came, whatever its bytes are.
+    pub fn take<'a>(&mut self, datagram: &'a [u8]) -> Result<Answer<'a>, Refusal> {
+        let state = &mut self.state;
+        let [what, first, many, skipped] =
+            words(|words| raw::receiver_take(state, datagram, words))?;
+        Ok(match what {
+            raw::DELIVER => {
+                let messages = Messages::delivered(datagram, count(many), count(skipped));
+                Answer::Deliver { first, messages }
+            }
+            raw::OLD => Answer::Old,
+            raw::QUIET => Answer::Quiet,
+            raw::ASK => Answer::Ask(Request { session: self.session(), first, count: count(many) }),
+            raw::ENDED => Answer::Ended,
+            other => unknown(other),
+        })
+    }
+
+    /// The session.
+    pub fn session(&self) -> Session {
+        field(&self.state, 0)
+    }
+
+    /// The number of the next message.
+    pub fn next(&self) -> u64 {
+        u64::from_be_bytes(field(&self.state, 10))
+    }
+
+    /// The most messages that it asks for at once.
+    pub fn limit(&self) -> u16 {
+        u16::from_be_bytes(field(&self.state, 18))
+    }
+
+    /// Whether the session is over.
+    pub fn is_ended(&self) -> bool {
+        self.state[20] != 0
+    }
+}
+
+kept_as_bytes!(Receiver, RECEIVER_SIZE);
+
+impl fmt::Debug for Receiver {
+    fn fmt(&self, f: &mut fmt::Formatter<'_>) -> fmt::Result {
+        f.debug_struct("Receiver")
+            .field("session", &format_args!("\"{}\"", self.session().escape_ascii()))
+            .field("next", &self.next())
+            .field("limit", &self.limit())
+            .field("ended", &self.is_ended())
+            .finish()
+    }
+}

@@ -1,0 +1,70 @@
+//! SoupBinTCP sessions: the server's end of one connection, with its login, and the client's.
+//!
+//! An end is a state that takes the packets of the other one, one at a time, off the front of what
+//! came in. It sends nothing itself. A step that is refused leaves the end as it was, and the same
+//! bytes would be refused again: hang up.
+//!
+//! ```
+//! use eiderwagon::session::{Accounts, Client, ClientAnswer, Server, ServerAnswer};
+//! use eiderwagon::soup::{Login, Packet};
+//! # fn main() -> Result<(), eiderwagon::Refusal> {
+//!
+//! let accounts = Accounts::new([("reader", "opensesame"), ("clerk", "desk5")])?;
+//! let mut server = Server::start(b"READROOM01", 2)?; // messages 1 and 2 are there
+//!
+//! // The client asks for any session, from number 1 on.
+//! let login = Login::new("Reader", "openSesame", "", 1)?;
+//! let mut client = Client::start(&login.session, login.number)?;
+//! let mut up = [0; 64];
+//! let to_server = Packet::LoginRequest(login).write(&mut up)?;
+//!
+//! // The server takes the login, and has a packet to send back.
+//! let step = server.step(&accounts, to_server)?;
+//! assert_eq!(step.answer, ServerAnswer::Accepted { number: 1 });
+//! let reply = server.reply(&step.answer).expect("a login is replied to");
+//! let mut down = [0; 64];
+//! let mut size = reply.write(&mut down)?.len();
+//!
+//! // From the number accepted on, it sends its messages.
+//! for message in [b"one", b"two"] {
+//!     size += Packet::SequencedData(message).write(&mut down[size..])?.len();
+//! }
+//!
+//! // The client takes what came, packet by packet.
+//! let (mut stream, mut read) = (&down[..size], Vec::new());
+//! loop {
+//!     let step = client.step(stream)?;
+//!     stream = &stream[step.size..];
+//!     match step.answer {
+//!         ClientAnswer::Accepted { number } => assert_eq!(number, 1),
+//!         ClientAnswer::Sequenced { number, message } => read.push((number, message)),
+//!         ClientAnswer::NeedMore => break,
+//!         other => panic!("{other:?}"),
+//!     }
+//! }
+//! assert_eq!(read, [(1, &b"one"[..]), (2, b"two")]);
+//! assert_eq!(client.number(), 3);
+//!
+//! // It logs out.
+//! let step = server.step(&accounts, Packet::LogoutRequest.write(&mut up)?)?;
+//! assert_eq!(step.answer, ServerAnswer::LoggedOut);
+//! # Ok(())
+//! # }
+//! ```
+
+mod accounts;
+mod client;
+mod server;
+
+pub use accounts::Accounts;
+pub use client::{Client, ClientAnswer, ClientState};
+pub use server::{Server, ServerAnswer, ServerState};
+
+/// One step of a session: what it answers to the front of a stream.
+#[derive(Clone, Copy, Debug, PartialEq, Eq)]
+pub struct Step<A> {
+    /// The answer.
+    pub answer: A,
+    /// How many bytes of the stream it took, 0 where more are needed: go on behind them.
+    pub size: usize,
+}
