@@ -19,10 +19,10 @@
  *
  * States and cursors
  *   Their layout is given below, and any bytes are one: a state can be stored, copied, compared and made by hand. Numbers are
- *   big-endian. What is written has one form: ended is 1, closed is 0, settings refused is 0; a success may bring a state that was made
- *   by hand into that form. Start every state before its first use, and use none whose start was refused: it is left as it was. Bytes of
- *   zero are a closed session, a capture whose settings are refused, a cursor with no messages left; and a receiver that isn't ended, of
- *   a name of ten zero bytes, that asks for no messages.
+ *   big-endian. What is written has one form: ended is 1, closed is 0, settings refused is 0; a success brings a state that was made by
+ *   hand into that form, also where its meaning doesn't change. Start every state before its first use, and use none whose start was
+ *   refused: it is left as it was. Bytes of zero are a closed session, a capture whose settings are refused, a cursor with no messages
+ *   left; and a receiver that isn't ended, of a name of ten zero bytes, that asks for no messages.
  */
 #ifndef EIDERWAGON_H
 #define EIDERWAGON_H
@@ -106,7 +106,7 @@ uint32_t eiderwagon_mold_read(const uint8_t *datagram, size_t datagram_size,
 uint32_t eiderwagon_mold_locate(const uint8_t *datagram, size_t datagram_size, uint16_t place,
                                 uint64_t *words, size_t words_size);
 
-/* Sets a cursor to the first message of a datagram; in one that would be refused no message is left.
+/* Sets a cursor to the first message of a datagram: place 20, and as many left as it has, none in one that would be refused.
  *   cursor:    EIDERWAGON_CURSOR_SIZE bytes, written
  *   refusals:  41 */
 uint32_t eiderwagon_mold_walk(const uint8_t *datagram, size_t datagram_size,
@@ -186,7 +186,7 @@ uint32_t eiderwagon_receiver_take(uint8_t *state, size_t state_size, const uint8
 
 /* Sets a cursor to the first message that an EIDERWAGON_DELIVER answer delivers: `count` and `skipped` are words[2] and words[3] of the
  * answer to this datagram. eiderwagon_mold_next then answers exactly the delivered messages, in order. Other numbers are safe too: the walk
- * ends with the datagram, and has no message where the two add up to more than 65,535.
+ * ends with the datagram, and where the two add up to more than 65,535 the cursor stands at place 20 with none left.
  *   cursor:    EIDERWAGON_CURSOR_SIZE bytes, written
  *   refusals:  41 */
 uint32_t eiderwagon_receiver_walk(const uint8_t *datagram, size_t datagram_size, uint16_t count, uint16_t skipped,
@@ -341,9 +341,9 @@ uint32_t eiderwagon_client_step(uint8_t *state, size_t state_size, const uint8_t
  *   refusals:  41 */
 uint32_t eiderwagon_capture_start(uint8_t *state, size_t state_size);
 
-/* Feeds some bytes, after which more may come. Keep the bytes that were not used, at most 65,536, and feed them again in front of the
- * next piece. Once 2^32 - 1 records were read no byte is used any more, though words[1] stays 0: where more than 65,536 bytes are left
- * unused, stop reading and drop them.
+/* Feeds some bytes, after which more may come. Settings that are read start the report anew. Keep the bytes that were not used, at most
+ * 65,536, and feed them again in front of the next piece. Once 2^32 - 1 records were read no byte is used any more, though words[1]
+ * stays 0: where more than 65,536 bytes are left unused, stop reading and drop them.
  *   state:     EIDERWAGON_CAPTURE_SIZE bytes, read and written
  *   words (2): how many bytes were used; 1 once the reading is over, so that nothing that follows changes the report, else 0. While
  *              the settings are due, fewer than 57 bytes are too few to tell: none are used then

@@ -8,6 +8,8 @@ use Rattle.soupbintcp_writer.proofs.RoundTripLaws.{every-packet, payload-round-
 use Rattle.login.proofs.ExampleLaws.{login-promises}
 use Rattle.soup_server.proofs.StatementLaws.{server-promises}
 use Rattle.soup_client.proofs.StatementLaws.{client-promises}
+use Rattle.host_answers.proofs.PromiseLaws.{host-promises}
+use Rattle.host_states.proofs.PromiseLaws.{state-promises}
 use Rattle.acceptance.specs.Conditions.{Condition1, Condition2, Condition3, Condition3IsMeant}
 
 pub condition-1 : Condition1
@@ -18,6 +20,8 @@ condition-1 =
       server = server-promises .changes-nothing;
       server-with = server-promises .changes-nothing-with;
       client = client-promises .changes-nothing;
+      host-answers = host-promises .refusal-changes-nothing;
+      host-states = state-promises;
     }
 
 pub condition-2 : Condition2

@@ -22,6 +22,8 @@ use Rattle.soup_client.specs.Client.{clientStep}
 use Rattle.soup_session.specs.Answer.{unsequenced}
 use Rattle.soup_session.specs.Statements.{ChangesNothing}
 use Rattle.soup_server.specs.Statements.{LoginExactlyWhen, WasIn}
+use Rattle.host_answers.specs.Answers.{RefusalChangesNothing}
+use Rattle.host_states.specs.Statements.{StatePromises}
 
 -- Condition 1: a refusal changes neither state nor one lent byte. That every function ends and does nothing undefined, on any bytes, is
 -- no statement: each function of each crate is proved, and no public one of a library has a `requires` (docs/ACCEPTANCE.md).
@@ -34,6 +36,9 @@ pub record Condition1 : Type 0 where
   pub server : (table : List Account) → ChangesNothing Server (serverStep table)
   pub server-with : (verdict : List ℕ → Words Knowing) → ChangesNothing Server (λ s l. stepWith s (verdict l) l)
   pub client : ChangesNothing Client clientStep
+  -- a function for hosts in other languages: no word, no byte of an output and no byte of a state has changed
+  pub host-answers : RefusalChangesNothing
+  pub host-states : StatePromises
 
 -- Condition 2. That bytes are read and written exactly as the layouts say is each reader's and writer's own promise, an equation with
 -- its definition: `readOf`, `requestOf` (moldudp64) and `frontOf` (soupbintcp); `packet`, `endPacket`, `header` (moldudp64) and `packet` (soupbintcp_writer).

@@ -60,6 +60,13 @@ module _ (name : List ℕ) (n b : ℕ) (ten : length name ≡ sessionSize) where
         → Keeps code l m sessionStateSize sessionIn (sessionBytes (sessionFields name n b)) (sessionFields name n b)
     session-laid m z p = keeps-laid code l sessionStateSize sessionIn _ _ length-session m z p
 
+-- a session of either end, which its three fields make
+end-kept : {S : Type 0} (code : ℕ) (l m : List ℕ) (reads : List ℕ → S) (made : SessionFields → S) (f : SessionFields) (x : S)
+    → ((n : List ℕ) → reads n ≡ made (sessionIn n)) → made f ≡ x → Keeps code l m sessionStateSize sessionIn (sessionBytes f) f
+    → Keeps code l m sessionStateSize reads (sessionBytes f) x
+end-kept code l m reads made f x r e k =
+    record { fits = k .fits; leaves = k .leaves; reads-back = λ z h. r m ∙ ap made (k .reads-back z h) ∙ e }
+
 -- ---- at the server
 
 server-back : (s : ServerState) → serverStateOf (serverStateByte s) ≡ s
@@ -76,9 +83,7 @@ pub server-kept : (s : Server) (code b : ℕ) (l m : List ℕ) → b ≡ serverS
     → Keeps code l m sessionStateSize sessionIn (sessionBytes (sessionFields (s .session) (s .last .0) b)) (sessionFields (s .session) (s .last .0) b)
     → Keeps code l m sessionStateSize serverIn (serverBytes s) s
 unfolding serverBytes serverIn
-server-kept s code b l m e k =
-    let q = rw e at k in
-    record { fits = q .fits; leaves = q .leaves; reads-back = λ z h. rw (q .reads-back z h, server-back (s .state)) }
+server-kept s code b l m e k = end-kept code l m serverIn (λ f. server (f .name) (f .num) (serverStateOf (f .state))) _ s (λ _. refl) (rw (server-back (s .state))) (rw e at k)
 
 pub server-read : (l name : List ℕ) (n b : ℕ) (s : ServerState) → name ≡ firstBytes sessionSize l → n ≡ number l 10 8 → b ≡ getD l 18 0
     → s ≡ serverStateOf b → server name n s ≡ serverIn l
@@ -115,9 +120,7 @@ pub client-kept : (s : Client) (code b : ℕ) (l m : List ℕ) → b ≡ clientS
     → Keeps code l m sessionStateSize sessionIn (sessionBytes (sessionFields (s .session) (s .number .0) b)) (sessionFields (s .session) (s .number .0) b)
     → Keeps code l m sessionStateSize clientIn (clientBytes s) s
 unfolding clientBytes clientIn
-client-kept s code b l m e k =
-    let q = rw e at k in
-    record { fits = q .fits; leaves = q .leaves; reads-back = λ z h. rw (q .reads-back z h, client-back (s .state)) }
+client-kept s code b l m e k = end-kept code l m clientIn (λ f. client (f .name) (f .num) (clientStateOf (f .state))) _ s (λ _. refl) (rw (client-back (s .state))) (rw e at k)
 
 pub client-read : (l name : List ℕ) (n b : ℕ) (s : ClientState) → name ≡ firstBytes sessionSize l → n ≡ number l 10 8 → b ≡ getD l 18 0
     → s ≡ clientStateOf b → client name n s ≡ clientIn l

@@ -2,12 +2,11 @@
 //!
 //! Nothing here knows of words, lent outputs or byte layouts of states; those are the interface's and stand in `compare` and `layout`.
 //!
-//! Two points are neither in the documents nor in the header, and were set to what the library does after it was run. That both
-//! agree there says nothing of who is right:
-//! - settings that are read set a capture's counts to 0, whatever a state made by hand had (`capture::Capture::read_settings`);
-//! - the cursor over a datagram that would be refused stands at place 20, with no message left (`compare::mold::walk`).
-//!
-//! That a record cut short is among the records read was changed then too; there the readings decide, as refused records count.
+//! Five points of the interface were settled only after the library had been run, so that both agree there says little of who is
+//! right; the header states them since. A feed looks at settings once 57 bytes are there; with 2^32 - 1 records read it uses no byte and
+//! isn't over; settings that are read start a capture's counts anew; a success brings a state made by hand into one form, also where
+//! more is needed; the cursor over a datagram that would be refused stands at place 20. That a record cut short is among the records
+//! read was changed then too; there the readings decide, as refused records count.
 
 pub mod capture;
 pub mod login;
