@@ -4,13 +4,12 @@
 set -euo pipefail
 cd "$(dirname "$0")"
 
-# Rust and a C compiler are on the machine, or come from Debian's packages
-need=()
-command -v cargo >/dev/null || need+=(cargo)
-command -v cc >/dev/null || need+=(gcc libc6-dev)
-if [ ${#need[@]} -gt 0 ]; then
+# Rust (1.80 or newer) and a C compiler are on the machine, or come from Debian's packages
+if ! command -v cargo >/dev/null || ! command -v cc >/dev/null; then
     apt-get update -q
-    apt-get install -qy "${need[@]}"
+    command -v cc >/dev/null || apt-get install -qy gcc libc6-dev
+    # Debian 12's own cargo is older; its cargo-web is the newer one that its browsers are built with
+    command -v cargo >/dev/null || apt-get install -qy cargo-web || apt-get install -qy cargo
 fi
 
 cargo test --release --offline --workspace -- --nocapture

@@ -6,6 +6,9 @@ cd "$(dirname "$0")/.."
 crates=$(sed -n 's/^\(exports_[a-z0-9_]*\):.*/\1/p' crates.txt)
 library=target/staticlib/libeiderwagon.a
 
+# the archives are joined with binutils, which come from Debian's packages where they are missing
+command -v ar >/dev/null || { apt-get update -q && apt-get install -qy binutils; }
+
 # the crates and what they stand on, as many at a time as there are cores
 rt check $crates
 for crate in $crates; do

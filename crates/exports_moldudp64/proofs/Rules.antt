@@ -6,6 +6,7 @@ use Rattle.exports_moldudp64.proofs.WordLaws.{datagram-refusal, datagra
 use Rattle.exports_moldudp64.proofs.MessageLaws.{located-answers, next-answers, cursor-kept, next-kept}
 use Rattle.exports_moldudp64.proofs.ReceiverLaws.{start-code, start-kept, take-answers, take-kept}
 use Rattle.exports_moldudp64.proofs.NameLaws.{data-reported, heartbeat-reported, end-reported, request-reported}
+use Rattle.exports_moldudp64.proofs.RunLaws.{hands-on}
 
 pub ruleset words = (datagram-refusal, datagram-words, request-refusal, request-words, answer-refusal, answer-words, refl, needs)
 
@@ -13,6 +14,6 @@ pub ruleset reads = (datagrams-apart, datagram-read, request-read, needs)
 
 pub ruleset messages = (located-answers, next-answers, cursor-kept, next-kept, needs)
 
-pub ruleset receivers = (answers-apart, start-code, start-kept, take-answers, take-kept, needs)
+pub ruleset receivers = (hands-on, answers-apart, start-code, start-kept, take-answers, take-kept, needs)
 
 pub ruleset names = (data-reported, heartbeat-reported, end-reported, request-reported, writings)

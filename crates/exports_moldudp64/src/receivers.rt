@@ -22,6 +22,7 @@ ghost use Rattle.host_answers.specs.Answers.{codeOf, wordsOf, Answers};
 ghost use Rattle.host_states.specs.Cursor.{cursorSize, KeepsCursor};
 ghost use Rattle.host_states.specs.Receiver.{receiverSize, receiverIn, KeepsReceiver};
 ghost use Rattle.exports_moldudp64.specs.Datagrams.{replyNumber, AnswersApart};
+ghost use Rattle.exports_moldudp64.specs.Run.{HandsOn};
 
 // The words of an answer: which it is, and its three values.
 const ANSWER_WORDS: usize = 4;
@@ -77,6 +78,7 @@ pub extern "C" fn eiderwagon_receiver_start(
 ) -> u32
     ensures { λ r. ⌜ r ≡ codeOf (ltb (length (now (session .entry))) sessionSize || ltb (length (now (state .entry))) receiverSize) (startRefusal next limit) ⌝ }
     ensures keeps { λ r. ⌜ KeepsReceiver r (now (state .entry)) (now (state .exit)) (startReceiver (firstBytes sessionSize (now (session .entry))) next limit) ⌝ }
+    ensures hands_on { λ _. ⌜ HandsOn ⌝ }
 {
     let started = Receiver::new(
         parts::ten(session),
