@@ -43,8 +43,8 @@ refused-stays : (r : Receiver) (d : Datagram) → (answerOf r d .refusal ≡ 0 �
 refused-stays r d z =
     zero-or-not _ (refusalFor r d)
     (λ e.
-        let row = receiver-promises .follows-the-table .accepts r d e in
-        absurd (z (ap (λ (w : Words _). w .refusal) (row .its-answer) ∙ no-refusal _ _ _ _ _ _ (row .its-row))))
+    let row = receiver-promises .follows-the-table .accepts r d e in
+    absurd (z (ap (λ (w : Words _). w .refusal) (row .its-answer) ∙ no-refusal _ _ _ _ _ _ (row .its-row))))
     (λ e. receiver-promises .follows-the-table .refused r d e .unchanged)
 
 module _ {l : List ℕ} {d : Datagram} {m : List ℕ} (t : Takes l d m) where
