@@ -1,5 +1,4 @@
 // The front of a stream, and the scan over its packets.
-use host_answers;
 use soupbintcp::front;
 use soupbintcp::front::Front;
 use soupbintcp::packet::Packet;

@@ -1,5 +1,4 @@
 // The writers of packets.
-use host_answers;
 use host_answers::SHORT;
 use host_answers::WRITTEN_WORDS;
 use soupbintcp_writer::client;
