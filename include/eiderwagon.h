@@ -81,7 +81,7 @@ enum {
     EIDERWAGON_CLIENT_SIZE = 19,        /* 0: session (10), 10: number (8), 18: 1 asked, 2 in, 3 ended, else closed (1) */
     EIDERWAGON_CAPTURE_SIZE = 70,       /* 0: a receiver (21), 21: 1 settings come next, 2 records do, 3 done, else settings refused
                                            (1), 22: records read (8; above 2^32 - 1 counts as that), 30: messages delivered, and
-                                           answers old, quiet, asked and refused (8 each) */
+                                           answers old, quiet, asked and refused (8 each; a count stops at 2^64 - 1) */
     EIDERWAGON_LARGEST_REPORT = 256     /* a buffer that every capture's report fits */
 };
 

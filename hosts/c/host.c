@@ -298,7 +298,7 @@ static void log_in_and_out(void) {
 }
 
 /* A wrong password: the server answers J with a reason, and both ends are closed. */
-static void be_turned_away(void) {
+static void be_rejected(void) {
     uint8_t server[EIDERWAGON_SERVER_SIZE];
     uint8_t client[EIDERWAGON_CLIENT_SIZE];
     Bytes up = {{0}, 0};
@@ -310,7 +310,7 @@ static void be_turned_away(void) {
     DONE(eiderwagon_soup_write_login(TEXT("clerk "), TEXT("desk      "), LEND(name), 0, ROOM(&up), LEND(words)));
     up.size = words[0];
 
-    /* Without a session machine, the packet itself can be read too. */
+    /* Without a session, the packet itself can be read too. */
     DONE(eiderwagon_soup_read(up.bytes, up.size, EIDERWAGON_FROM_CLIENT, LEND(words)));
     CHECK(words[0] == 'L' && words[1] == up.size && words[2] == 0);
     CHECK(same(up.bytes + 3, EIDERWAGON_USERNAME_SIZE, "clerk "));
@@ -344,7 +344,7 @@ static void record(Bytes *capture, Bytes datagram) {
     capture->size += 2 + datagram.size;
 }
 
-static Bytes reading_room(void) {
+static Bytes sample_capture(void) {
     static const char settings[] = "session=READROOM01\nnext=1\nlimit=100\n";
     Bytes capture = {{0}, sizeof settings - 1};
     Bytes nineteen_bytes = heartbeat(6);
@@ -384,7 +384,7 @@ static void report_in_pieces(const Bytes *capture, size_t piece) {
 }
 
 static void report_captures(void) {
-    const Bytes capture = reading_room();
+    const Bytes capture = sample_capture();
     uint8_t out[EIDERWAGON_LARGEST_REPORT];
     uint64_t words[1];
     DONE(eiderwagon_capture_report(capture.bytes, capture.size, LEND(out), LEND(words)));
@@ -741,7 +741,7 @@ int main(void) {
     read_a_datagram();
 
     log_in_and_out();
-    be_turned_away();
+    be_rejected();
 
     report_captures();
 

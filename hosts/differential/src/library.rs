@@ -12,6 +12,11 @@ pub trait Library {
     fn typed_difference(&mut self, _call: &Call, _lent: &Lent) -> Option<String> {
         None
     }
+
+    /// Whether a case that panics is worth naming: the command draws it again from the archive alone.
+    fn is_the_archive(&self) -> bool {
+        false
+    }
 }
 
 /// The exported functions of the verified library.
@@ -58,6 +63,10 @@ impl Library for Archive {
         out.back(&mut lent.out, BYTE);
         state.back(&mut lent.state, BYTE);
         code
+    }
+
+    fn is_the_archive(&self) -> bool {
+        true
     }
 
     fn typed_difference(&mut self, call: &Call, lent: &Lent) -> Option<String> {

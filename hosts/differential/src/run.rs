@@ -55,7 +55,8 @@ impl<'l> Run<'l> {
     /// Draws one case. It depends on the seed and its number alone.
     pub fn draw(&mut self, case: u64) {
         self.case = case;
-        let _name = NameIfItPanics(self.seed, case);
+        let named = self.library.is_the_archive();
+        let _name = named.then(|| NameIfItPanics(self.seed, case));
         generate::case(self, &mut Random::new(self.seed, case));
     }
 

@@ -219,7 +219,12 @@ const RULES: &[(&str, Fault)] = &[
 
 fn is_caught(fault: Fault) -> bool {
     let run = || run_with(&mut Faulty(fault), 1, 240_000);
-    catch_unwind(AssertUnwindSafe(run)).is_err()
+    // Only the comparison's own panic counts, and none of the fault's.
+    let Err(panic) = catch_unwind(AssertUnwindSafe(run)) else {
+        return false;
+    };
+    let words = panic.downcast_ref::<String>();
+    words.is_some_and(|words| words.starts_with("seed 1, case "))
 }
 
 #[test]

@@ -3,7 +3,7 @@
 use differential::run_with;
 use differential::stand_in::StandIn;
 
-/// A tenth of the fixed run already draws every outcome there is, and no other.
+/// 240,000 inputs of another seed already draw every outcome there is, and no other.
 #[test]
 fn every_outcome_is_drawn() {
     let report = run_with(&mut StandIn, 1, 240_000);

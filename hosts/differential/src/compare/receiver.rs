@@ -75,11 +75,16 @@ fn outcome(answer: &Answer, receiver: &Receiver, datagram: &[u8]) -> &'static st
     }
 }
 
-/// A walk over the messages that a deliver answer delivers: `count` of them, behind `skipped` others. For other numbers than such an
-/// answer's the header doesn't give the cursor; what it says of their walk is looked at where one is drawn.
+/// A walk over the messages that a deliver answer delivers: `count` of them, behind `skipped` others. Two that add up
+/// to more than a count can be leave none. For other numbers than such an answer's the header doesn't give the cursor; what it says of
+/// their walk is looked at where one is drawn.
 fn walk(datagram: &[u8], count: u16, skipped: u16) -> Expected {
     let messages = mold::read(datagram).map_or(vec![], |read| read.messages);
     let skipped = usize::from(skipped);
+    if skipped + usize::from(count) > usize::from(u16::MAX) {
+        let none = Cursor { place: 20, left: 0 };
+        return Expected::answer("not of this datagram").state(layout::cursor_bytes(none));
+    }
     let delivers = count > 0 && skipped + usize::from(count) == messages.len();
     if !delivers {
         let mut open = Expected::answer("not of this datagram");

@@ -138,7 +138,7 @@ fn accepted(payload: &[u8]) -> Option<Packet> {
     good.then_some(Packet::Accepted { session, number })
 }
 
-/// Username and password are not judged here: an unsound entry is the lock's matter.
+/// Username and password are not judged here: an unsound entry is the login's matter.
 fn login(payload: &[u8]) -> Option<Packet> {
     let number = text::number(&payload[26..46])?;
     let session = &payload[16..26];

@@ -1,4 +1,4 @@
-//! The lock.
+//! Accounts and the login.
 
 use crate::{ask, packet, words, NAME, TOP};
 use differential::call::Call;
@@ -36,7 +36,7 @@ fn granted(number: u64) -> ([u64; 3], u8) {
 }
 
 #[test]
-fn the_lock() {
+fn passwords() {
     let table = b"alice secret    ";
     let with = |password| log_in(table, 5, &login(b"Alice ", password, BLANK, 1));
     assert_eq!(with(b"SECRET    "), granted(1));

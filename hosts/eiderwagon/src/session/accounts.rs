@@ -15,7 +15,7 @@ pub struct Accounts<'a> {
 impl Accounts<'static> {
     /// Makes a table of usernames and passwords, each one or more letters and digits.
     ///
-    /// A pair that no login could use is refused with 46, and more than 1,024 pairs with 19.
+    /// A pair with an unsound field is refused with 46, and more than 1,024 pairs with 19.
     pub fn new<'p>(pairs: impl IntoIterator<Item = (&'p str, &'p str)>) -> Result<Self, Refusal> {
         let mut records = Vec::new();
         for (username, password) in pairs {

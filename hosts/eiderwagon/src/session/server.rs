@@ -99,7 +99,8 @@ impl Server {
         field(&self.state, 0)
     }
 
-    /// The highest message number, as it was at the start: it is for the login, and doesn't move.
+    /// The highest message number. No step moves it, and only a login looks at it: while none has
+    /// come, start the server anew with a newer one as messages are added.
     pub fn last(&self) -> u64 {
         u64::from_be_bytes(field(&self.state, 10))
     }

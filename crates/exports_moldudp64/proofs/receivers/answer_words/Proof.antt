@@ -15,11 +15,9 @@ cast-t10 c = search words
 cast-t11 : tie.Need-cast-t11
 cast-t11 c = search words
 
--- /work/main/target/rlib/wire.rlib/interface/lang/src/refusal.rt:2:28
 enum-told : tie.Need-enum-told
 enum-told c = search words
 
--- /work/main/target/rlib/wire.rlib/interface/lang/src/refusal.rt:2:28
 enum-told-2 : tie.Need-enum-told-2
 enum-told-2 c = search words
 
@@ -29,7 +27,6 @@ enum-known-answer-2 c = search words
 cast-t18 : tie.Need-cast-t18
 cast-t18 c = search words
 
--- /work/main/target/rlib/wire.rlib/interface/lang/src/refusal.rt:2:28
 enum-told-3 : tie.Need-enum-told-3
 enum-told-3 c = search words
 

@@ -9,7 +9,6 @@ enum-known-front c = search fronts
 packet-words-requires : tie.Need-packet-words-requires
 packet-words-requires c κs = search fronts
 
--- /work/main/target/rlib/wire.rlib/interface/lang/src/refusal.rt:2:28
 enum-told : tie.Need-enum-told
 enum-told c = search fronts
 
