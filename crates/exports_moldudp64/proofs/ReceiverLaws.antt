@@ -2,8 +2,7 @@
 use Prim.Native.Nat.{ℕ}
 use mathlib.Core.List.{List}
 use mathlib.Core.Bool.{Bool}
-use mathlib.Core.Path.{_≡_, ap, sym, _∙_}
-use lib.ListN.{length}
+use mathlib.Core.Path.{_≡_}
 use Rattle.wire.specs.Bounds.{sessionSize}
 use Rattle.parts.specs.Parts.{firstBytes}
 use Rattle.receiver.specs.declared.receiver.Receiver.{Receiver}

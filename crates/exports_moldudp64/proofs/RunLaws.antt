@@ -1,11 +1,9 @@
 -- A run of calls is the run of the receiver.
 use Prim.Native.Nat.{ℕ, _≤_}
 use mathlib.Core.List.{List, [], _∷_}
-use mathlib.Core.Bool.{Bool, true, false, _||_}
 use mathlib.Core.Path.{_≡_, refl, ap, sym, _∙_}
 use native.Mathlib.Omega.{arith}
 use lib.ListN.{length}
-use lib.Dec.{ltb}
 use borrow.Author.Tests.{le-ltb}
 use Rattle.wire.specs.Words.{Words, Case, answer, refused}
 use Rattle.wire.proofs.Cases.{zero-or-not}
@@ -17,7 +15,7 @@ use Rattle.receiver.specs.Feed.{Datagram, after}
 use Rattle.receiver.specs.Condition3.{plain}
 use Rattle.receiver.proofs.Promises.{receiver-promises}
 use Rattle.moldudp64.specs.Downstream.{Kind}
-use Rattle.host_answers.specs.Answers.{codeOf, onSuccess, padded, wordsAt, wordsOf}
+use Rattle.host_answers.specs.Answers.{codeOf, wordsAt, wordsOf}
 use Rattle.host_answers.proofs.AnswerLaws.{length-padded, success, no-success}
 use Rattle.host_states.specs.Receiver.{receiverSize, receiverIn}
 use Rattle.exports_moldudp64.specs.Datagrams.{replyNumber}

@@ -7,7 +7,6 @@ use wire::kinds::MessageCount;
 use wire::kinds::SESSION_SIZE;
 use wire::kinds::SequenceNumber;
 ghost use mathlib.Core.List.{[]};
-ghost use mathlib.Core.Bool.{_||_};
 ghost use lib.ListN.{length};
 ghost use lib.Dec.{ltb};
 ghost use Rattle.wire.specs.Bounds.{sessionSize};

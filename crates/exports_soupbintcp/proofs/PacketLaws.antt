@@ -2,14 +2,13 @@
 use Prim.Native.Nat.{ℕ, _<_}
 use mathlib.Core.List.{List, [], _∷_}
 use mathlib.Core.Bool.{false}
-use mathlib.Core.Path.{_≡_, refl, ap, sym, _∙_}
+use mathlib.Core.Path.{_≡_, refl}
 use native.Mathlib.Omega.{arith}
 use lib.ListN.{length}
 use lib.Dec.{eqb}
 use borrow.Author.Tests.{eq-eqb, ne-eqb}
 use Rattle.wire.specs.Choice.{if_then_else_}
 use Rattle.wire.proofs.Words.{read-back}
-use Rattle.wire.specs.Words.{Words}
 use Rattle.wire.specs.declared.refusal.Refusal.{Refusal}
 use Rattle.soupbintcp.specs.declared.packet.Sender.{Sender}
 use Rattle.soupbintcp.specs.declared.packet.Sender.the-variants.{Server, Client}
@@ -20,7 +19,7 @@ use Rattle.soupbintcp.specs.declared.front.Front.the-variants.{Whole, NeedMore,
 use Rattle.soupbintcp.specs.declared.scan.Stop.{Stop}
 use Rattle.soupbintcp.specs.declared.scan.Scanned.{Scanned}
 use Rattle.soupbintcp.specs.declared.scan.Stop.the-variants as stop
-use Rattle.soupbintcp.specs.Letters.{PacketKind, debug, accepted, rejected, sequenced, server-heartbeat, end-of-session, login, unsequenced, client-heartbeat, logout, packetKind, packetValues, letterFor, letterDebug, letterAccepted, letterRejected, letterSequenced, letterServerHeartbeat, letterEnd, letterLogin, letterUnsequenced, letterClientHeartbeat, letterLogout}
+use Rattle.soupbintcp.specs.Letters.{debug, accepted, rejected, sequenced, server-heartbeat, end-of-session, login, unsequenced, client-heartbeat, logout, packetKind, packetValues, letterFor, letterDebug, letterAccepted, letterRejected, letterSequenced, letterServerHeartbeat, letterEnd, letterLogin, letterUnsequenced, letterClientHeartbeat, letterLogout}
 use Rattle.soupbintcp.specs.Front.{Fronting, packet, wants-more, frontWords, frontOf}
 use Rattle.soupbintcp.specs.Scan.{stopWords, scanOf, Scans}
 use Rattle.host_answers.specs.Answers.{padded, wordsAt, wordsOf, Reports}

@@ -8,7 +8,7 @@ use soupbintcp::scan::Stop;
 use wire::refusal;
 use wire::refusal::Refusal;
 ghost use mathlib.Core.Path.{_≡_};
-ghost use mathlib.Core.List.{[], _∷_};
+ghost use mathlib.Core.List.{_∷_};
 ghost use mathlib.Core.Bool.{false};
 ghost use Rattle.host_answers.specs.Answers.{padded, wordsOf, Reports, Answers};
 ghost use Rattle.soupbintcp.specs.Letters.{packetKind, packetValues, letterFor};

@@ -1,17 +1,17 @@
 -- What is promised of every answer.
-use Prim.Native.Nat.{ℕ, _+_, _<_, _≤_}
+use Prim.Native.Nat.{ℕ, _+_, _≤_}
 use mathlib.Core.List.{List, [], _∷_, _++_}
-use mathlib.Core.Bool.{Bool, true, false, _||_}
-use mathlib.Core.Path.{_≡_, refl, ap, sym, _∙_}
+use mathlib.Core.Bool.{Bool, true, false}
+use mathlib.Core.Path.{_≡_, refl, sym, _∙_}
 use native.Mathlib.Omega.{arith}
 use lib.ListN.{length, drop}
-use lib.Dec.{ltb, leb, eqb}
+use lib.Dec.{leb, eqb}
 use borrow.Author.Tests.{leb-true, eqb-false}
 use Rattle.wire.specs.Choice.{if_then_else_}
 use Rattle.wire.specs.Refusals.{outputShort}
 use Rattle.wire.specs.Output.{put, writeRefusal}
 use Rattle.wire.proofs.Outputs.{put-room}
-use Rattle.host_answers.specs.Answers.{codeOf, onSuccess, Reports, ReportsWriting, RefusalChangesNothing, SuccessLaysItsWords, HostPromises}
+use Rattle.host_answers.specs.Answers.{codeOf, RefusalChangesNothing, SuccessLaysItsWords, HostPromises}
 use Rattle.host_answers.proofs.AnswerLaws.{success, no-success, has-room}
 
 -- ---- a refusal

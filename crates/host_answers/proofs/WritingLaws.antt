@@ -16,7 +16,7 @@ use Rattle.wire.proofs.Cases.{zero-or-not}
 use Rattle.wire.proofs.Words.{refusal-of, values-of}
 use Rattle.wire.proofs.Outputs.{put-none}
 use Rattle.host_answers.specs.Answers.{codeOf, onSuccess, padded, Reports, ReportsWriting}
-use Rattle.host_answers.proofs.AnswerLaws.{success, no-success, length-padded}
+use Rattle.host_answers.proofs.AnswerLaws.{no-success, length-padded}
 
 -- neither of two tests
 right-false : (a b : Bool) → a || b ≡ false → b ≡ false

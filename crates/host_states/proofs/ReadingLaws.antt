@@ -1,14 +1,13 @@
 -- A reading laid, and read back.
 use Prim.Native.Nat.{ℕ, _+_, _^_, _≤_, _<_, min}
 use mathlib.Core.List.{List, [], _∷_, _++_, append-assoc}
-use mathlib.Core.Bool.{Bool, true, false}
 use mathlib.Core.Path.{_≡_, refl, ap, sym, _∙_}
 use native.Mathlib.Omega.{arith}
-use native.Mathlib.Nat.{min-eq-left, min-eq-right}
+use native.Mathlib.Nat.{min-eq-left}
 use lib.ListN.{length, getD, take, drop, length-append, List·getD-append}
 use lib.Seq.{take-append-le}
-use lib.Dec.{ltb, eqb}
-use borrow.Author.Tests.{ne-eqb, le-ltb, lt-ltb, ltb-true, ltb-false}
+use lib.Dec.{ltb}
+use borrow.Author.Tests.{ne-eqb, le-ltb, lt-ltb}
 use Rattle.wire.specs.Choice.{if_then_else_}
 use Rattle.wire.specs.Bounds.{sessionSize}
 use Rattle.wire.specs.Bytes.{number, bytes}
@@ -26,7 +25,7 @@ use Rattle.capture.specs.declared.reading.Stage.{Stage}
 use Rattle.capture.specs.declared.reading.Stage.the-variants.{Settings, Records, Done, Refused}
 use Rattle.capture.specs.declared.reading.Reading.{Reading}
 use Rattle.capture.specs.Reading.{reading}
-use Rattle.host_answers.specs.Answers.{codeOf, onSuccess}
+use Rattle.host_answers.specs.Answers.{codeOf}
 use Rattle.host_answers.proofs.AnswerLaws.{success, no-success}
 use Rattle.host_states.specs.Fields.{Keeps, Lays}
 use Rattle.host_states.specs.Receiver.{receiverSize, receiverBytes, receiverIn}

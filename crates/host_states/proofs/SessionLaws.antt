@@ -1,10 +1,10 @@
 -- A SoupBinTCP session laid, and read back.
 use Prim.Native.Nat.{ℕ, _+_, _^_, _≤_, _<_}
 use mathlib.Core.List.{List, [], _∷_, _++_, append-assoc}
-use mathlib.Core.Path.{_≡_, refl, ap, sym, _∙_}
+use mathlib.Core.Path.{_≡_, refl, ap, _∙_}
 use native.Mathlib.Omega.{arith}
-use lib.ListN.{length, getD, drop, length-append}
-use borrow.Author.Tests.{eq-eqb, ne-eqb}
+use lib.ListN.{length, getD, length-append}
+use borrow.Author.Tests.{ne-eqb}
 use Rattle.wire.specs.Bounds.{sessionSize}
 use Rattle.wire.specs.Bytes.{number, bytes}
 use Rattle.wire.specs.Output.{put}

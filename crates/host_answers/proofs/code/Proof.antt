@@ -1,3 +1,4 @@
+-- Two cases.
 use Rattle.host_answers.proofs.Rules.{codes}
 use Rattle.host_answers.proofs.code.Statement.{statement}
 use Rattle.host_answers.proofs.code.Tie as tie

@@ -1,8 +1,7 @@
+-- Nothing is laid but on a code of 0, which says that there is room.
 use Rattle.host_answers.proofs.Rules.{reports}
 use Rattle.host_answers.proofs.report.Statement.{statement}
 use Rattle.host_answers.proofs.report.Tie as tie
-use Rattle.host_answers.proofs.report.Reads as reads
-use Rattle.host_answers.proofs.report.Lts as lts
 
 code-requires : tie.Need-code-requires
 code-requires c κs = search reports

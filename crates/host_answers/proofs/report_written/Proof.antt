@@ -1,3 +1,4 @@
+-- Two cases, each reported.
 use Rattle.host_answers.proofs.Rules.{reports}
 use Rattle.host_answers.proofs.report_written.Statement.{statement}
 use Rattle.host_answers.proofs.report_written.Tie as tie

@@ -1,3 +1,4 @@
+-- Two cases.
 use Rattle.host_states.proofs.Rules.{readings}
 use Rattle.host_states.proofs.reading_state.code_for.Statement.{statement}
 use Rattle.host_states.proofs.reading_state.code_for.Tie as tie

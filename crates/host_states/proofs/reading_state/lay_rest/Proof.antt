@@ -1,3 +1,4 @@
+-- Nothing is laid on a refusal or without room.
 use Rattle.host_states.proofs.Rules.{readings}
 use Rattle.host_states.proofs.reading_state.lay_rest.Statement.{statement}
 use Rattle.host_states.proofs.reading_state.lay_rest.Tie as tie

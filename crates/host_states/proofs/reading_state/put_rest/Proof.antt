@@ -1,3 +1,4 @@
+-- Three adjacent writes are one, and each number is within its bounds.
 use Rattle.host_states.proofs.Rules.{readings}
 use Rattle.host_states.proofs.reading_state.put_rest.Statement.{statement}
 use Rattle.host_states.proofs.reading_state.put_rest.Tie as tie

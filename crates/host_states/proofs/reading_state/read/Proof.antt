@@ -1,3 +1,4 @@
+-- The receiver in front, and each field behind it.
 use Rattle.host_states.proofs.Rules.{readings}
 use Rattle.host_states.proofs.reading_state.read.Statement.{statement}
 use Rattle.host_states.proofs.reading_state.read.Tie as tie

@@ -1,3 +1,4 @@
+-- Five numbers.
 use Rattle.host_states.proofs.Rules.{readings}
 use Rattle.host_states.proofs.reading_state.read_tally.Statement.{statement}
 use Rattle.host_states.proofs.reading_state.read_tally.Tie as tie

@@ -1,3 +1,4 @@
+-- The receiver is kept, and what follows it laid, under one code.
 use Rattle.host_states.proofs.Rules.{readings}
 use Rattle.host_states.proofs.reading_state.write.Statement.{statement}
 use Rattle.host_states.proofs.reading_state.write.Tie as tie
