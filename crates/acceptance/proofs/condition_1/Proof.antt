@@ -3,8 +3,6 @@ use Rattle.acceptance.proofs.ConditionLaws.{condition-1}
 use Rattle.acceptance.proofs.condition_1.Statement.{statement}
 use Rattle.acceptance.proofs.condition_1.Tie as tie
 
-returns : tie.Need-returns
-returns c = condition-1
-
 pub condition-1-spec : {M : Type 1} → statement M
-condition-1-spec = tie.close (tie.spec returns)
+condition-1-spec =
+    tie.close (tie.spec (λ c. condition-1))

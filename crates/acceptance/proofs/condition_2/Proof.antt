@@ -3,8 +3,6 @@ use Rattle.acceptance.proofs.ConditionLaws.{condition-2}
 use Rattle.acceptance.proofs.condition_2.Statement.{statement}
 use Rattle.acceptance.proofs.condition_2.Tie as tie
 
-returns : tie.Need-returns
-returns c = condition-2
-
 pub condition-2-spec : {M : Type 1} → statement M
-condition-2-spec = tie.close (tie.spec returns)
+condition-2-spec =
+    tie.close (tie.spec (λ c. condition-2))

@@ -3,8 +3,6 @@ use Rattle.acceptance.proofs.ConditionLaws.{condition-3, condition-3-is
 use Rattle.acceptance.proofs.condition_3.Statement.{statement}
 use Rattle.acceptance.proofs.condition_3.Tie as tie
 
-returns : tie.Need-returns
-returns c = (condition-3, condition-3-is-meant)
-
 pub condition-3-spec : {M : Type 1} → statement M
-condition-3-spec = tie.close (tie.spec returns)
+condition-3-spec =
+    tie.close (tie.spec (λ c. (condition-3, condition-3-is-meant)))

@@ -3,8 +3,6 @@ use Rattle.acceptance.proofs.ExampleLaws.{every-example}
 use Rattle.acceptance.proofs.examples.Statement.{statement}
 use Rattle.acceptance.proofs.examples.Tie as tie
 
-returns : tie.Need-returns
-returns c = every-example
-
 pub examples-spec : {M : Type 1} → statement M
-examples-spec = tie.close (tie.spec returns)
+examples-spec =
+    tie.close (tie.spec (λ c. every-example))

@@ -3,25 +3,14 @@ use Rattle.exports_capture.proofs.Rules.{readings}
 use Rattle.exports_capture.proofs.eiderwagon_capture_finish.Statement.{statement}
 use Rattle.exports_capture.proofs.eiderwagon_capture_finish.Tie as tie
 
-code-requires : tie.Need-code-requires
-code-requires c κs = search readings
-
-read-requires : tie.Need-read-requires
-read-requires c κs = search readings
-
-finish-requires : tie.Need-finish-requires
-finish-requires c κs = search readings
-
-write-requires : tie.Need-write-requires
-write-requires c κs = search readings
-
-same-length : tie.Need-same-length
-same-length c = search readings
-
-returns : tie.Need-returns
-returns c = search readings
-
 pub eiderwagon-capture-finish-spec : {M : Type 1} → statement M
 eiderwagon-capture-finish-spec =
     tie.close
-    (tie.spec code-requires read-requires finish-requires write-requires same-length returns)
+    (tie.spec
+    (λ c κs. search readings)  -- code-requires
+    (λ c κs. search readings)  -- read-requires
+    (λ c κs. search readings)  -- finish-requires
+    (λ c κs. search readings)  -- write-requires
+    (λ c. search readings)  -- same-length
+    (λ c. search readings)  -- returns
+    )

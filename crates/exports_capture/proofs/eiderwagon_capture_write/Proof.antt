@@ -3,35 +3,15 @@ use Rattle.exports_capture.proofs.Rules.{texts}
 use Rattle.exports_capture.proofs.eiderwagon_capture_write.Statement.{statement}
 use Rattle.exports_capture.proofs.eiderwagon_capture_write.Tie as tie
 
-returns : tie.Need-returns
-returns c = search texts
-
-read-requires : tie.Need-read-requires
-read-requires c κs = search texts
-
-write-requires : tie.Need-write-requires
-write-requires c κs = search texts
-
-report-written-requires : tie.Need-report-written-requires
-report-written-requires c κs = search texts
-
-same-length : tie.Need-same-length
-same-length c = search texts
-
-same-length-2 : tie.Need-same-length-2
-same-length-2 c = search texts
-
-returns-2 : tie.Need-returns-2
-returns-2 c = search texts
-
 pub eiderwagon-capture-write-spec : {M : Type 1} → statement M
 eiderwagon-capture-write-spec =
     tie.close
     (tie.spec
-    returns
-    read-requires
-    write-requires
-    report-written-requires
-    same-length
-    same-length-2
-    returns-2)
+    (λ c. search texts)  -- returns
+    (λ c κs. search texts)  -- read-requires
+    (λ c κs. search texts)  -- write-requires
+    (λ c κs. search texts)  -- report-written-requires
+    (λ c. search texts)  -- same-length
+    (λ c. search texts)  -- same-length-2
+    (λ c. search texts)  -- returns-2
+    )

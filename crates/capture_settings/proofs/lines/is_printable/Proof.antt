@@ -13,45 +13,19 @@ Inv-loop s i₀ i = isPrintable (drop i s) ≡ isPrintable s
 abbrev μ-loop : tie.MeasureT-loop
 μ-loop s i₀ i = length s - i
 
-loop-holds : tie.Need-loop-holds Inv-loop μ-loop
-loop-holds c = search parts
-
-shared-slice-read-if1 : tie.Need-shared-slice-read-if1 Inv-loop μ-loop
-shared-slice-read-if1 c = search parts
-
-returns : tie.Need-returns Inv-loop μ-loop
-returns c = search parts
-
-shared-slice-read-if2 : tie.Need-shared-slice-read-if2 Inv-loop μ-loop
-shared-slice-read-if2 c = search parts
-
-returns-2 : tie.Need-returns-2 Inv-loop μ-loop
-returns-2 c = search parts
-
-add-i : tie.Need-add-i Inv-loop μ-loop
-add-i c = search parts
-
-loop-less : tie.Need-loop-less Inv-loop μ-loop
-loop-less c = search parts
-
-loop-again : tie.Need-loop-again Inv-loop μ-loop
-loop-again c = search parts
-
-returns-3 : tie.Need-returns-3 Inv-loop μ-loop
-returns-3 c = search parts
-
 pub is-printable-spec : {M : Type 1} → statement M
 is-printable-spec =
     tie.close
     (tie.spec
     Inv-loop
     μ-loop
-    loop-holds
-    shared-slice-read-if1
-    returns
-    shared-slice-read-if2
-    returns-2
-    add-i
-    loop-less
-    loop-again
-    returns-3)
+    (λ c. search parts)  -- loop-holds
+    (λ c. search parts)  -- shared-slice-read-if1
+    (λ c. search parts)  -- returns
+    (λ c. search parts)  -- shared-slice-read-if2
+    (λ c. search parts)  -- returns-2
+    (λ c. search parts)  -- add-i
+    (λ c. search parts)  -- loop-less
+    (λ c. search parts)  -- loop-again
+    (λ c. search parts)  -- returns-3
+    )

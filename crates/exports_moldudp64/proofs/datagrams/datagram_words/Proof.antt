@@ -6,21 +6,6 @@ use Rattle.exports_moldudp64.proofs.Rules.{words}
 use Rattle.exports_moldudp64.proofs.datagrams.datagram_words.Statement.{statement}
 use Rattle.exports_moldudp64.proofs.datagrams.datagram_words.Tie as tie
 
-enum-known-read : tie.Need-enum-known-read
-enum-known-read c = search words
-
-cast-t9 : tie.Need-cast-t9
-cast-t9 c = search words
-
-enum-known-read-2 : tie.Need-enum-known-read-2
-enum-known-read-2 c = search words
-
-enum-known-read-3 : tie.Need-enum-known-read-3
-enum-known-read-3 c = search words
-
-enum-known-read-4 : tie.Need-enum-known-read-4
-enum-known-read-4 c = search words
-
 returns : tie.Need-returns
 unfolding downstreamWords wordsAt kindNumber padded
 returns c = search words
@@ -41,12 +26,13 @@ pub datagram-words-spec : {M : Type 1} → statement M
 datagram-words-spec =
     tie.close
     (tie.spec
-    enum-known-read
-    cast-t9
-    enum-known-read-2
-    enum-known-read-3
-    enum-known-read-4
+    (λ c. search words)  -- enum-known-read
+    (λ c. search words)  -- cast-t9
+    (λ c. search words)  -- enum-known-read-2
+    (λ c. search words)  -- enum-known-read-3
+    (λ c. search words)  -- enum-known-read-4
     returns
     returns-2
     returns-3
-    returns-4)
+    returns-4
+    )

@@ -3,21 +3,13 @@ use Rattle.exports_moldudp64.proofs.Rules.{messages}
 use Rattle.exports_moldudp64.proofs.messages.eiderwagon_mold_walk.Statement.{statement}
 use Rattle.exports_moldudp64.proofs.messages.eiderwagon_mold_walk.Tie as tie
 
-code-requires : tie.Need-code-requires
-code-requires c κs = search messages
-
-start-requires : tie.Need-start-requires
-start-requires c κs = search messages
-
-write-requires : tie.Need-write-requires
-write-requires c κs = search messages
-
-same-length : tie.Need-same-length
-same-length c = search messages
-
-returns : tie.Need-returns
-returns c = search messages
-
 pub eiderwagon-mold-walk-spec : {M : Type 1} → statement M
 eiderwagon-mold-walk-spec =
-    tie.close (tie.spec code-requires start-requires write-requires same-length returns)
+    tie.close
+    (tie.spec
+    (λ c κs. search messages)  -- code-requires
+    (λ c κs. search messages)  -- start-requires
+    (λ c κs. search messages)  -- write-requires
+    (λ c. search messages)  -- same-length
+    (λ c. search messages)  -- returns
+    )

@@ -6,33 +6,6 @@ use Rattle.exports_moldudp64.proofs.Rules.{words}
 use Rattle.exports_moldudp64.proofs.receivers.answer_words.Statement.{statement}
 use Rattle.exports_moldudp64.proofs.receivers.answer_words.Tie as tie
 
-enum-known-answer : tie.Need-enum-known-answer
-enum-known-answer c = search words
-
-cast-t10 : tie.Need-cast-t10
-cast-t10 c = search words
-
-cast-t11 : tie.Need-cast-t11
-cast-t11 c = search words
-
-enum-told : tie.Need-enum-told
-enum-told c = search words
-
-enum-told-2 : tie.Need-enum-told-2
-enum-told-2 c = search words
-
-enum-known-answer-2 : tie.Need-enum-known-answer-2
-enum-known-answer-2 c = search words
-
-cast-t18 : tie.Need-cast-t18
-cast-t18 c = search words
-
-enum-told-3 : tie.Need-enum-told-3
-enum-told-3 c = search words
-
-enum-known-answer-3 : tie.Need-enum-known-answer-3
-enum-known-answer-3 c = search words
-
 returns : tie.Need-returns
 unfolding answerWords wordsAt replyNumber padded
 returns c = search words
@@ -61,18 +34,19 @@ pub answer-words-spec : {M : Type 1} → statement M
 answer-words-spec =
     tie.close
     (tie.spec
-    enum-known-answer
-    cast-t10
-    cast-t11
-    enum-told
-    enum-told-2
-    enum-known-answer-2
-    cast-t18
-    enum-told-3
-    enum-known-answer-3
+    (λ c. search words)  -- enum-known-answer
+    (λ c. search words)  -- cast-t10
+    (λ c. search words)  -- cast-t11
+    (λ c. search words)  -- enum-told
+    (λ c. search words)  -- enum-told-2
+    (λ c. search words)  -- enum-known-answer-2
+    (λ c. search words)  -- cast-t18
+    (λ c. search words)  -- enum-told-3
+    (λ c. search words)  -- enum-known-answer-3
     returns
     returns-2
     returns-3
     returns-4
     returns-5
-    returns-6)
+    returns-6
+    )

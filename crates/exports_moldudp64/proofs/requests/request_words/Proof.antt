@@ -5,15 +5,6 @@ use Rattle.exports_moldudp64.proofs.Rules.{words}
 use Rattle.exports_moldudp64.proofs.requests.request_words.Statement.{statement}
 use Rattle.exports_moldudp64.proofs.requests.request_words.Tie as tie
 
-enum-known-read : tie.Need-enum-known-read
-enum-known-read c = search words
-
-cast-t7 : tie.Need-cast-t7
-cast-t7 c = search words
-
-enum-known-read-2 : tie.Need-enum-known-read-2
-enum-known-read-2 c = search words
-
 returns : tie.Need-returns
 unfolding requestWords padded
 returns c = search words
@@ -24,4 +15,11 @@ returns-2 c = search words
 
 pub request-words-spec : {M : Type 1} → statement M
 request-words-spec =
-    tie.close (tie.spec enum-known-read cast-t7 enum-known-read-2 returns returns-2)
+    tie.close
+    (tie.spec
+    (λ c. search words)  -- enum-known-read
+    (λ c. search words)  -- cast-t7
+    (λ c. search words)  -- enum-known-read-2
+    returns
+    returns-2
+    )

@@ -5,35 +5,15 @@ use Rattle.exports_moldudp64.proofs.writers.eiderwagon_mold_write_data.
 }
 use Rattle.exports_moldudp64.proofs.writers.eiderwagon_mold_write_data.Tie as tie
 
-returns : tie.Need-returns
-returns c = search names
-
-ten-requires : tie.Need-ten-requires
-ten-requires c κs = search names
-
-write-messages-requires : tie.Need-write-messages-requires
-write-messages-requires c κs = search names
-
-report-written-requires : tie.Need-report-written-requires
-report-written-requires c κs = search names
-
-same-length : tie.Need-same-length
-same-length c = search names
-
-same-length-2 : tie.Need-same-length-2
-same-length-2 c = search names
-
-returns-2 : tie.Need-returns-2
-returns-2 c = search names
-
 pub eiderwagon-mold-write-data-spec : {M : Type 1} → statement M
 eiderwagon-mold-write-data-spec =
     tie.close
     (tie.spec
-    returns
-    ten-requires
-    write-messages-requires
-    report-written-requires
-    same-length
-    same-length-2
-    returns-2)
+    (λ c. search names)  -- returns
+    (λ c κs. search names)  -- ten-requires
+    (λ c κs. search names)  -- write-messages-requires
+    (λ c κs. search names)  -- report-written-requires
+    (λ c. search names)  -- same-length
+    (λ c. search names)  -- same-length-2
+    (λ c. search names)  -- returns-2
+    )

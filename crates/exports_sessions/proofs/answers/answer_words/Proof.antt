@@ -6,66 +6,6 @@ use Rattle.exports_sessions.proofs.Rules.{words}
 use Rattle.exports_sessions.proofs.answers.answer_words.Statement.{statement}
 use Rattle.exports_sessions.proofs.answers.answer_words.Tie as tie
 
-enum-told : tie.Need-enum-told
-enum-told c = search words
-
-says-requires : tie.Need-says-requires
-says-requires c κs = search words
-
-enum-known-answer : tie.Need-enum-known-answer
-enum-known-answer c = search words
-
-says-requires-2 : tie.Need-says-requires-2
-says-requires-2 c κs = search words
-
-enum-known-answer-2 : tie.Need-enum-known-answer-2
-enum-known-answer-2 c = search words
-
-cast-says : tie.Need-cast-says
-cast-says c = search words
-
-says-requires-3 : tie.Need-says-requires-3
-says-requires-3 c κs = search words
-
-enum-known-answer-3 : tie.Need-enum-known-answer-3
-enum-known-answer-3 c = search words
-
-says-requires-4 : tie.Need-says-requires-4
-says-requires-4 c κs = search words
-
-enum-known-answer-4 : tie.Need-enum-known-answer-4
-enum-known-answer-4 c = search words
-
-says-requires-5 : tie.Need-says-requires-5
-says-requires-5 c κs = search words
-
-enum-told-2 : tie.Need-enum-told-2
-enum-told-2 c = search words
-
-says-requires-6 : tie.Need-says-requires-6
-says-requires-6 c κs = search words
-
-enum-told-3 : tie.Need-enum-told-3
-enum-told-3 c = search words
-
-says-requires-7 : tie.Need-says-requires-7
-says-requires-7 c κs = search words
-
-enum-told-4 : tie.Need-enum-told-4
-enum-told-4 c = search words
-
-says-requires-8 : tie.Need-says-requires-8
-says-requires-8 c κs = search words
-
-enum-told-5 : tie.Need-enum-told-5
-enum-told-5 c = search words
-
-says-requires-9 : tie.Need-says-requires-9
-says-requires-9 c κs = search words
-
-enum-known-answer-5 : tie.Need-enum-known-answer-5
-enum-known-answer-5 c = search words
-
 returns : tie.Need-returns
 unfolding answerWords wordsAt replyNumber padded
 returns c = search words
@@ -110,26 +50,26 @@ pub answer-words-spec : {M : Type 1} → statement M
 answer-words-spec =
     tie.close
     (tie.spec
-    enum-told
-    says-requires
-    enum-known-answer
-    says-requires-2
-    enum-known-answer-2
-    cast-says
-    says-requires-3
-    enum-known-answer-3
-    says-requires-4
-    enum-known-answer-4
-    says-requires-5
-    enum-told-2
-    says-requires-6
-    enum-told-3
-    says-requires-7
-    enum-told-4
-    says-requires-8
-    enum-told-5
-    says-requires-9
-    enum-known-answer-5
+    (λ c. search words)  -- enum-told
+    (λ c κs. search words)  -- says-requires
+    (λ c. search words)  -- enum-known-answer
+    (λ c κs. search words)  -- says-requires-2
+    (λ c. search words)  -- enum-known-answer-2
+    (λ c. search words)  -- cast-says
+    (λ c κs. search words)  -- says-requires-3
+    (λ c. search words)  -- enum-known-answer-3
+    (λ c κs. search words)  -- says-requires-4
+    (λ c. search words)  -- enum-known-answer-4
+    (λ c κs. search words)  -- says-requires-5
+    (λ c. search words)  -- enum-told-2
+    (λ c κs. search words)  -- says-requires-6
+    (λ c. search words)  -- enum-told-3
+    (λ c κs. search words)  -- says-requires-7
+    (λ c. search words)  -- enum-told-4
+    (λ c κs. search words)  -- says-requires-8
+    (λ c. search words)  -- enum-told-5
+    (λ c κs. search words)  -- says-requires-9
+    (λ c. search words)  -- enum-known-answer-5
     returns
     returns-2
     returns-3
@@ -139,4 +79,5 @@ answer-words-spec =
     returns-7
     returns-8
     returns-9
-    returns-10)
+    returns-10
+    )

@@ -3,20 +3,13 @@ use Rattle.host_states.proofs.Rules.{clients}
 use Rattle.host_states.proofs.client_state.read.Statement.{statement}
 use Rattle.host_states.proofs.client_state.read.Tie as tie
 
-ten-requires : tie.Need-ten-requires
-ten-requires c κs = search clients
-
-be64-requires : tie.Need-be64-requires
-be64-requires c κs = search clients
-
-byte-requires : tie.Need-byte-requires
-byte-requires c κs = search clients
-
-state-of-requires : tie.Need-state-of-requires
-state-of-requires c κs = search clients
-
-returns : tie.Need-returns
-returns c = search clients
-
 pub read-spec : {M : Type 1} → statement M
-read-spec = tie.close (tie.spec ten-requires be64-requires byte-requires state-of-requires returns)
+read-spec =
+    tie.close
+    (tie.spec
+    (λ c κs. search clients)  -- ten-requires
+    (λ c κs. search clients)  -- be64-requires
+    (λ c κs. search clients)  -- byte-requires
+    (λ c κs. search clients)  -- state-of-requires
+    (λ c. search clients)  -- returns
+    )

@@ -4,18 +4,6 @@ use Rattle.host_states.proofs.Rules.{clients}
 use Rattle.host_states.proofs.client_state.state_byte.Statement.{statement}
 use Rattle.host_states.proofs.client_state.state_byte.Tie as tie
 
-enum-told : tie.Need-enum-told
-enum-told c = search clients
-
-enum-told-2 : tie.Need-enum-told-2
-enum-told-2 c = search clients
-
-enum-told-3 : tie.Need-enum-told-3
-enum-told-3 c = search clients
-
-enum-told-4 : tie.Need-enum-told-4
-enum-told-4 c = search clients
-
 returns : tie.Need-returns
 unfolding clientStateByte
 returns c = search clients
@@ -35,4 +23,13 @@ returns-4 c = search clients
 pub state-byte-spec : {M : Type 1} → statement M
 state-byte-spec =
     tie.close
-    (tie.spec enum-told enum-told-2 enum-told-3 enum-told-4 returns returns-2 returns-3 returns-4)
+    (tie.spec
+    (λ c. search clients)  -- enum-told
+    (λ c. search clients)  -- enum-told-2
+    (λ c. search clients)  -- enum-told-3
+    (λ c. search clients)  -- enum-told-4
+    returns
+    returns-2
+    returns-3
+    returns-4
+    )

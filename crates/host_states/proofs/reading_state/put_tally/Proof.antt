@@ -4,24 +4,6 @@ use Rattle.host_states.proofs.Rules.{readings}
 use Rattle.host_states.proofs.reading_state.put_tally.Statement.{statement}
 use Rattle.host_states.proofs.reading_state.put_tally.Tie as tie
 
-put-count-requires : tie.Need-put-count-requires
-put-count-requires c κs = search readings
-
-put-count-requires-2 : tie.Need-put-count-requires-2
-put-count-requires-2 c κs = search readings
-
-put-count-requires-3 : tie.Need-put-count-requires-3
-put-count-requires-3 c κs = search readings
-
-put-count-requires-4 : tie.Need-put-count-requires-4
-put-count-requires-4 c κs = search readings
-
-put-count-requires-5 : tie.Need-put-count-requires-5
-put-count-requires-5 c κs = search readings
-
-same-length : tie.Need-same-length
-same-length c = search readings
-
 returns : tie.Need-returns
 returns c =
     let fifth = c .before .before in
@@ -36,10 +18,11 @@ pub put-tally-spec : {M : Type 1} → statement M
 put-tally-spec =
     tie.close
     (tie.spec
-    put-count-requires
-    put-count-requires-2
-    put-count-requires-3
-    put-count-requires-4
-    put-count-requires-5
-    same-length
-    returns)
+    (λ c κs. search readings)  -- put-count-requires
+    (λ c κs. search readings)  -- put-count-requires-2
+    (λ c κs. search readings)  -- put-count-requires-3
+    (λ c κs. search readings)  -- put-count-requires-4
+    (λ c κs. search readings)  -- put-count-requires-5
+    (λ c. search readings)  -- same-length
+    returns
+    )

@@ -4,18 +4,6 @@ use Rattle.host_states.proofs.Rules.{stages}
 use Rattle.host_states.proofs.reading_state.stage_byte.Statement.{statement}
 use Rattle.host_states.proofs.reading_state.stage_byte.Tie as tie
 
-enum-told : tie.Need-enum-told
-enum-told c = search stages
-
-enum-told-2 : tie.Need-enum-told-2
-enum-told-2 c = search stages
-
-enum-told-3 : tie.Need-enum-told-3
-enum-told-3 c = search stages
-
-enum-told-4 : tie.Need-enum-told-4
-enum-told-4 c = search stages
-
 returns : tie.Need-returns
 unfolding stageByte
 returns c = search stages
@@ -35,4 +23,13 @@ returns-4 c = search stages
 pub stage-byte-spec : {M : Type 1} → statement M
 stage-byte-spec =
     tie.close
-    (tie.spec enum-told enum-told-2 enum-told-3 enum-told-4 returns returns-2 returns-3 returns-4)
+    (tie.spec
+    (λ c. search stages)  -- enum-told
+    (λ c. search stages)  -- enum-told-2
+    (λ c. search stages)  -- enum-told-3
+    (λ c. search stages)  -- enum-told-4
+    returns
+    returns-2
+    returns-3
+    returns-4
+    )

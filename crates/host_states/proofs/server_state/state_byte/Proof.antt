@@ -4,15 +4,6 @@ use Rattle.host_states.proofs.Rules.{servers}
 use Rattle.host_states.proofs.server_state.state_byte.Statement.{statement}
 use Rattle.host_states.proofs.server_state.state_byte.Tie as tie
 
-enum-told : tie.Need-enum-told
-enum-told c = search servers
-
-enum-told-2 : tie.Need-enum-told-2
-enum-told-2 c = search servers
-
-enum-told-3 : tie.Need-enum-told-3
-enum-told-3 c = search servers
-
 returns : tie.Need-returns
 unfolding serverStateByte
 returns c = search servers
@@ -27,4 +18,12 @@ returns-3 c = search servers
 
 pub state-byte-spec : {M : Type 1} → statement M
 state-byte-spec =
-    tie.close (tie.spec enum-told enum-told-2 enum-told-3 returns returns-2 returns-3)
+    tie.close
+    (tie.spec
+    (λ c. search servers)  -- enum-told
+    (λ c. search servers)  -- enum-told-2
+    (λ c. search servers)  -- enum-told-3
+    returns
+    returns-2
+    returns-3
+    )

@@ -3,14 +3,6 @@ use Rattle.login.proofs.Rules.{decisions}
 use Rattle.login.proofs.decision.grant.Statement.{statement}
 use Rattle.login.proofs.decision.grant.Tie as tie
 
-returns : tie.Need-returns
-returns c = search decisions
-
-returns-2 : tie.Need-returns-2
-returns-2 c = search decisions
-
-returns-3 : tie.Need-returns-3
-returns-3 c = search decisions
-
 pub grant-spec : {M : Type 1} → statement M
-grant-spec = tie.close (tie.spec returns returns-2 returns-3)
+grant-spec =
+    tie.close (tie.spec (λ c. search decisions) (λ c. search decisions) (λ c. search decisions))

@@ -3,8 +3,6 @@ use Rattle.soupbintcp.proofs.Rules.{parts}
 use Rattle.soupbintcp.proofs.fields.is_blank_allowed.Statement.{statement}
 use Rattle.soupbintcp.proofs.fields.is_blank_allowed.Tie as tie
 
-returns : tie.Need-returns
-returns c = search parts
-
 pub is-blank-allowed-spec : {M : Type 1} → statement M
-is-blank-allowed-spec = tie.close (tie.spec returns)
+is-blank-allowed-spec =
+    tie.close (tie.spec (λ c. search parts))

@@ -3,11 +3,6 @@ use Rattle.soupbintcp.proofs.Rules.{parts}
 use Rattle.soupbintcp.proofs.fields.least.Statement.{statement}
 use Rattle.soupbintcp.proofs.fields.least.Tie as tie
 
-returns : tie.Need-returns
-returns c = search parts
-
-returns-2 : tie.Need-returns-2
-returns-2 c = search parts
-
 pub least-spec : {M : Type 1} → statement M
-least-spec = tie.close (tie.spec returns returns-2)
+least-spec =
+    tie.close (tie.spec (λ c. search parts) (λ c. search parts))

@@ -4,18 +4,12 @@ use Rattle.soupbintcp.proofs.Rules.{within}
 use Rattle.soupbintcp.proofs.front.session.Statement.{statement}
 use Rattle.soupbintcp.proofs.front.session.Tie as tie
 
-packet-bytes-requires : tie.Need-packet-bytes-requires
-packet-bytes-requires c κs = search needs
-
-letter-requires : tie.Need-letter-requires
-letter-requires c κs = search needs
-
-session-field-requires : tie.Need-session-field-requires
-session-field-requires c κs = search needs
-
-returns : tie.Need-returns
-returns c = search within
-
 pub session-spec : {M : Type 1} → statement M
 session-spec =
-    tie.close (tie.spec packet-bytes-requires letter-requires session-field-requires returns)
+    tie.close
+    (tie.spec
+    (λ c κs. search needs)  -- packet-bytes-requires
+    (λ c κs. search needs)  -- letter-requires
+    (λ c κs. search needs)  -- session-field-requires
+    (λ c. search within)  -- returns
+    )

@@ -4,14 +4,6 @@ use Rattle.soupbintcp.proofs.Rules.{within}
 use Rattle.soupbintcp.proofs.front.username.Statement.{statement}
 use Rattle.soupbintcp.proofs.front.username.Tie as tie
 
-packet-bytes-requires : tie.Need-packet-bytes-requires
-packet-bytes-requires c κs = search needs
-
-login-part-requires : tie.Need-login-part-requires
-login-part-requires c κs = search needs
-
-returns : tie.Need-returns
-returns c = search within
-
 pub username-spec : {M : Type 1} → statement M
-username-spec = tie.close (tie.spec packet-bytes-requires login-part-requires returns)
+username-spec =
+    tie.close (tie.spec (λ c κs. search needs) (λ c κs. search needs) (λ c. search within))

@@ -4,31 +4,14 @@ use Rattle.text_fields.proofs.Rules.{laying}
 use Rattle.text_fields.proofs.number.put.Statement.{statement}
 use Rattle.text_fields.proofs.number.put.Tie as tie
 
-slice-aggregate-right-justify : tie.Need-slice-aggregate-right-justify
-slice-aggregate-right-justify c = search needs
-
-right-justify-requires : tie.Need-right-justify-requires
-right-justify-requires c κs = search needs
-
-slice-aggregate-put-bytes : tie.Need-slice-aggregate-put-bytes
-slice-aggregate-put-bytes c = search needs
-
-put-bytes-requires : tie.Need-put-bytes-requires
-put-bytes-requires c κs = search needs
-
-same-length : tie.Need-same-length
-same-length c = search needs
-
-returns : tie.Need-returns
-returns c = search laying
-
 pub put-spec : {M : Type 1} → statement M
 put-spec =
     tie.close
     (tie.spec
-    slice-aggregate-right-justify
-    right-justify-requires
-    slice-aggregate-put-bytes
-    put-bytes-requires
-    same-length
-    returns)
+    (λ c. search needs)  -- slice-aggregate-right-justify
+    (λ c κs. search needs)  -- right-justify-requires
+    (λ c. search needs)  -- slice-aggregate-put-bytes
+    (λ c κs. search needs)  -- put-bytes-requires
+    (λ c. search needs)  -- same-length
+    (λ c. search laying)  -- returns
+    )

@@ -15,41 +15,18 @@ Inv-loop field least state₀ i₀ state i = numberFrom state (drop i field) ≡
 abbrev μ-loop : tie.MeasureT-loop
 μ-loop field least state₀ i₀ state i = length field - i
 
-loop-holds : tie.Need-loop-holds Inv-loop μ-loop
-loop-holds c = search numbers
-
-shared-slice-read-step : tie.Need-shared-slice-read-step Inv-loop μ-loop
-shared-slice-read-step c = search needs
-
-step-requires : tie.Need-step-requires Inv-loop μ-loop
-step-requires c κs = search needs
-
-add-i : tie.Need-add-i Inv-loop μ-loop
-add-i c = search needs
-
-loop-less : tie.Need-loop-less Inv-loop μ-loop
-loop-less c = search needs
-
-loop-again : tie.Need-loop-again Inv-loop μ-loop
-loop-again c = search numbers
-
-value-requires : tie.Need-value-requires Inv-loop μ-loop
-value-requires c κs = search needs
-
-returns : tie.Need-returns Inv-loop μ-loop
-returns c = search numbers
-
 pub read-spec : {M : Type 1} → statement M
 read-spec =
     tie.close
     (tie.spec
     Inv-loop
     μ-loop
-    loop-holds
-    shared-slice-read-step
-    step-requires
-    add-i
-    loop-less
-    loop-again
-    value-requires
-    returns)
+    (λ c. search numbers)  -- loop-holds
+    (λ c. search needs)  -- shared-slice-read-step
+    (λ c κs. search needs)  -- step-requires
+    (λ c. search needs)  -- add-i
+    (λ c. search needs)  -- loop-less
+    (λ c. search numbers)  -- loop-again
+    (λ c κs. search needs)  -- value-requires
+    (λ c. search numbers)  -- returns
+    )

@@ -4,28 +4,15 @@ use Rattle.text_fields.proofs.Rules.{numbers}
 use Rattle.text_fields.proofs.number.value.Statement.{statement}
 use Rattle.text_fields.proofs.number.value.Tie as tie
 
-enum-told : tie.Need-enum-told
-enum-told c = search needs
-
-enum-known-state : tie.Need-enum-known-state
-enum-known-state c = search needs
-
-returns : tie.Need-returns
-returns c = search numbers
-
-enum-told-2 : tie.Need-enum-told-2
-enum-told-2 c = search needs
-
-returns-2 : tie.Need-returns-2
-returns-2 c = search numbers
-
-returns-3 : tie.Need-returns-3
-returns-3 c = search numbers
-
-returns-4 : tie.Need-returns-4
-returns-4 c = search numbers
-
 pub value-spec : {M : Type 1} → statement M
 value-spec =
     tie.close
-    (tie.spec enum-told enum-known-state returns enum-told-2 returns-2 returns-3 returns-4)
+    (tie.spec
+    (λ c. search needs)  -- enum-told
+    (λ c. search needs)  -- enum-known-state
+    (λ c. search numbers)  -- returns
+    (λ c. search needs)  -- enum-told-2
+    (λ c. search numbers)  -- returns-2
+    (λ c. search numbers)  -- returns-3
+    (λ c. search numbers)  -- returns-4
+    )

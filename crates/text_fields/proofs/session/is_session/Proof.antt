@@ -15,41 +15,18 @@ Inv-loop field blank state₀ i₀ state i = sessionFrom state (drop i field) �
 abbrev μ-loop : tie.MeasureT-loop
 μ-loop field blank state₀ i₀ state i = length field - i
 
-loop-holds : tie.Need-loop-holds Inv-loop μ-loop
-loop-holds c = search sessions
-
-shared-slice-read-step : tie.Need-shared-slice-read-step Inv-loop μ-loop
-shared-slice-read-step c = search needs
-
-step-requires : tie.Need-step-requires Inv-loop μ-loop
-step-requires c κs = search needs
-
-add-i : tie.Need-add-i Inv-loop μ-loop
-add-i c = search needs
-
-loop-less : tie.Need-loop-less Inv-loop μ-loop
-loop-less c = search needs
-
-loop-again : tie.Need-loop-again Inv-loop μ-loop
-loop-again c = search sessions
-
-is-good-requires : tie.Need-is-good-requires Inv-loop μ-loop
-is-good-requires c κs = search needs
-
-returns : tie.Need-returns Inv-loop μ-loop
-returns c = search sessions
-
 pub is-session-spec : {M : Type 1} → statement M
 is-session-spec =
     tie.close
     (tie.spec
     Inv-loop
     μ-loop
-    loop-holds
-    shared-slice-read-step
-    step-requires
-    add-i
-    loop-less
-    loop-again
-    is-good-requires
-    returns)
+    (λ c. search sessions)  -- loop-holds
+    (λ c. search needs)  -- shared-slice-read-step
+    (λ c κs. search needs)  -- step-requires
+    (λ c. search needs)  -- add-i
+    (λ c. search needs)  -- loop-less
+    (λ c. search sessions)  -- loop-again
+    (λ c κs. search needs)  -- is-good-requires
+    (λ c. search sessions)  -- returns
+    )

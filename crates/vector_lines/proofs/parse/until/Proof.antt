@@ -11,37 +11,17 @@ Inv-loop s stop i₀ i = i ≤ length s
 abbrev μ-loop : tie.MeasureT-loop
 μ-loop s stop i₀ i = length s - i
 
-loop-holds : tie.Need-loop-holds Inv-loop μ-loop
-loop-holds c = search laws
-
-shared-slice-read-if1 : tie.Need-shared-slice-read-if1 Inv-loop μ-loop
-shared-slice-read-if1 c = search laws
-
-returns : tie.Need-returns Inv-loop μ-loop
-returns c = search laws
-
-add-i : tie.Need-add-i Inv-loop μ-loop
-add-i c = search laws
-
-loop-less : tie.Need-loop-less Inv-loop μ-loop
-loop-less c = search laws
-
-loop-again : tie.Need-loop-again Inv-loop μ-loop
-loop-again c = search laws
-
-returns-2 : tie.Need-returns-2 Inv-loop μ-loop
-returns-2 c = search laws
-
 pub until-spec : {M : Type 1} → statement M
 until-spec =
     tie.close
     (tie.spec
     Inv-loop
     μ-loop
-    loop-holds
-    shared-slice-read-if1
-    returns
-    add-i
-    loop-less
-    loop-again
-    returns-2)
+    (λ c. search laws)  -- loop-holds
+    (λ c. search laws)  -- shared-slice-read-if1
+    (λ c. search laws)  -- returns
+    (λ c. search laws)  -- add-i
+    (λ c. search laws)  -- loop-less
+    (λ c. search laws)  -- loop-again
+    (λ c. search laws)  -- returns-2
+    )

@@ -10,41 +10,18 @@ Inv-loop fields capture whole rest₀ rest = Unit
 abbrev μ-loop : tie.MeasureT-loop
 μ-loop fields capture whole rest₀ rest = length rest
 
-field-requires : tie.Need-field-requires Inv-loop μ-loop
-field-requires c κs = search needs
-
-loop-holds : tie.Need-loop-holds Inv-loop μ-loop
-loop-holds c = search needs
-
-decimal-requires : tie.Need-decimal-requires Inv-loop μ-loop
-decimal-requires c κs = search needs
-
-compare-requires : tie.Need-compare-requires Inv-loop μ-loop
-compare-requires c κs = search needs
-
-after-requires : tie.Need-after-requires Inv-loop μ-loop
-after-requires c κs = search needs
-
-loop-less : tie.Need-loop-less Inv-loop μ-loop
-loop-less c = search needs
-
-loop-again : tie.Need-loop-again Inv-loop μ-loop
-loop-again c = search needs
-
-returns : tie.Need-returns Inv-loop μ-loop
-returns c = search needs
-
 pub compare-all-spec : {M : Type 1} → statement M
 compare-all-spec =
     tie.close
     (tie.spec
     Inv-loop
     μ-loop
-    field-requires
-    loop-holds
-    decimal-requires
-    compare-requires
-    after-requires
-    loop-less
-    loop-again
-    returns)
+    (λ c κs. search needs)  -- field-requires
+    (λ c. search needs)  -- loop-holds
+    (λ c κs. search needs)  -- decimal-requires
+    (λ c κs. search needs)  -- compare-requires
+    (λ c κs. search needs)  -- after-requires
+    (λ c. search needs)  -- loop-less
+    (λ c. search needs)  -- loop-again
+    (λ c. search needs)  -- returns
+    )

@@ -3,8 +3,6 @@ use Rattle.moldudp64_messages.proofs.Rules.{starting}
 use Rattle.moldudp64_messages.proofs.cursor.Cursor.first.Statement.{statement}
 use Rattle.moldudp64_messages.proofs.cursor.Cursor.first.Tie as tie
 
-returns : tie.Need-returns
-returns c = search starting
-
 pub first-spec : {M : Type 1} → statement M
-first-spec = tie.close (tie.spec returns)
+first-spec =
+    tie.close (tie.spec (λ c. search starting))

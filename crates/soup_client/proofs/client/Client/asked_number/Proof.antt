@@ -3,11 +3,6 @@ use Rattle.soup_client.proofs.Rules.{asks}
 use Rattle.soup_client.proofs.client.Client.asked_number.Statement.{statement}
 use Rattle.soup_client.proofs.client.Client.asked_number.Tie as tie
 
-returns : tie.Need-returns
-returns c = search asks
-
-returns-2 : tie.Need-returns-2
-returns-2 c = search asks
-
 pub asked-number-spec : {M : Type 1} → statement M
-asked-number-spec = tie.close (tie.spec returns returns-2)
+asked-number-spec =
+    tie.close (tie.spec (λ c. search asks) (λ c. search asks))

@@ -4,28 +4,10 @@ use Rattle.soup_client.proofs.ClientLaws.{other-session, other-number, 
 use Rattle.soup_client.proofs.client.Client.log_in.Statement.{statement}
 use Rattle.soup_client.proofs.client.Client.log_in.Tie as tie
 
-asked-session-requires : tie.Need-asked-session-requires
-asked-session-requires c κs = search needs
-
-stay-requires : tie.Need-stay-requires
-stay-requires c κs = search needs
-
-returns : tie.Need-returns
-returns c = other-session _ _ _ _ _ _ (c .before .before .asked-session .ensures) (c .before .if1 .taken) (c .stay .ensures)
-
-asked-number-requires : tie.Need-asked-number-requires
-asked-number-requires c κs = search needs
-
-stay-requires-2 : tie.Need-stay-requires-2
-stay-requires-2 c κs = search needs
-
 returns-2 : tie.Need-returns-2
 returns-2 c =
     other-number _ _ _ _ _ _ _ (c .before .before .before .before .asked-session .ensures) (c .before .before .before .if1 .left)
     (c .before .before .asked-number .ensures) (c .before .if2 .taken) (c .stay2 .ensures)
-
-ten-requires : tie.Need-ten-requires
-ten-requires c κs = search needs
 
 returns-3 : tie.Need-returns-3
 returns-3 c =
@@ -36,11 +18,12 @@ pub log-in-spec : {M : Type 1} → statement M
 log-in-spec =
     tie.close
     (tie.spec
-    asked-session-requires
-    stay-requires
-    returns
-    asked-number-requires
-    stay-requires-2
+    (λ c κs. search needs)  -- asked-session-requires
+    (λ c κs. search needs)  -- stay-requires
+    (λ c. other-session _ _ _ _ _ _ (c .before .before .asked-session .ensures) (c .before .if1 .taken) (c .stay .ensures))  -- returns
+    (λ c κs. search needs)  -- asked-number-requires
+    (λ c κs. search needs)  -- stay-requires-2
     returns-2
-    ten-requires
-    returns-3)
+    (λ c κs. search needs)  -- ten-requires
+    returns-3
+    )
