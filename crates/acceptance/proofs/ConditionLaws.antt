@@ -6,8 +6,8 @@ use Rattle.receiver.proofs.ConditionLaws as receiver
 use Rattle.receiver.proofs.WitnessLaws.{not-vacuous, not-weak}
 use Rattle.soupbintcp_writer.proofs.RoundTripLaws.{every-packet, payload-round-trip, letter-round-trip, accepted-round-trip, rejected-round-trip, login-round-trip}
 use Rattle.login.proofs.ExampleLaws.{login-promises}
-use Rattle.soup_server.proofs.StatementLaws.{server-promises}
-use Rattle.soup_client.proofs.StatementLaws.{client-promises}
+use Rattle.soupbintcp_server.proofs.StatementLaws.{server-promises}
+use Rattle.soupbintcp_client.proofs.StatementLaws.{client-promises}
 use Rattle.host_answers.proofs.PromiseLaws.{host-promises}
 use Rattle.host_states.proofs.PromiseLaws.{state-promises}
 use Rattle.acceptance.specs.Conditions.{Condition1, Condition2, Condition3, Condition3IsMeant}

@@ -5,7 +5,7 @@ use mathlib.Core.Bool.{Bool, true, false}
 use mathlib.Core.Path.{_≡_, refl}
 use Rattle.wire.specs.Choice.{if_then_else_}
 use Rattle.wire.specs.Bytes.{number, bytes, sameBytes}
-use Rattle.parts.specs.Parts.{firstBytes}
+use Rattle.wire.specs.Parts.{firstBytes}
 use Rattle.moldudp64.specs.Header.{numberOf, countOf, header}
 use Rattle.moldudp64.specs.Blocks.{lengthOf, fits, allFit, afterBlocks, messages, blocksRefusal, blocksOf}
 use Rattle.moldudp64.specs.Downstream.{kindOfCount, blockCount, refusalOf, readOf, messagesOf}
@@ -25,7 +25,7 @@ use Rattle.soupbintcp.specs.Front.{packetOf, frontAt, frontOf, packetAt, packet
 use Rattle.soupbintcp_writer.specs.Packets as soup
 use Rattle.login.specs.Account.{lower, lowered, sameText, soundAccount, isOf, hasPassword, isKnown, verdictOf, lookupOf}
 use Rattle.login.specs.Decision.{sessionHolds, numberHolds, granted, decisionAt}
-use Rattle.soup_server.specs.Server.{startRefusal, startServer, loginAt, waitingRow, rowAt, frontRow, stepAt, entryOf, serverStep}
+use Rattle.soupbintcp_server.specs.Server.{startRefusal, startServer, loginAt, waitingRow, rowAt, frontRow, stepAt, entryOf, serverStep}
 use Rattle.acceptance.specs.Examples.{resultOf, Row, rows, EveryExample}
 use Rattle.acceptance.proofs.Same.{first-of, second-of, same, equal}
 

@@ -16,7 +16,7 @@ use Rattle.moldudp64.specs.Downstream.{Kind, data-packet, heartbeat, end-of-ses
 use Rattle.receiver.specs.Table.{Reply, deliver, old, quiet, ask, ended}
 use Rattle.soupbintcp.specs.Letters as soup
 use Rattle.soupbintcp.specs.Front.{Fronting, packet, wants-more}
-use Rattle.soup_session.specs.Answer as session
+use Rattle.soupbintcp_session.specs.Answer as session
 use Rattle.acceptance.specs.Examples.{Example, takes, reads, fronts, logs-in, Answered, Result}
 
 -- both of two tests

@@ -14,14 +14,14 @@ use Rattle.soupbintcp_writer.specs.RoundTrips.{EveryPacketWritesBack, PayloadRo
 use Rattle.login.specs.declared.account.Account.{Account}
 use Rattle.login.specs.Account.{Knowing}
 use Rattle.login.specs.Statements.{AcceptedExactlyWhen, NeverAccepted}
-use Rattle.soup_server.specs.declared.server.Server.{Server}
-use Rattle.soup_client.specs.declared.client.Client.{Client}
-use Rattle.soup_server.specs.declared.server.ServerState.the-variants.{In}
-use Rattle.soup_server.specs.Server.{stepWith, serverStep}
-use Rattle.soup_client.specs.Client.{clientStep}
-use Rattle.soup_session.specs.Answer.{unsequenced}
-use Rattle.soup_session.specs.Statements.{ChangesNothing}
-use Rattle.soup_server.specs.Statements.{LoginExactlyWhen, WasIn}
+use Rattle.soupbintcp_server.specs.declared.server.Server.{Server}
+use Rattle.soupbintcp_client.specs.declared.client.Client.{Client}
+use Rattle.soupbintcp_server.specs.declared.server.ServerState.the-variants.{In}
+use Rattle.soupbintcp_server.specs.Server.{stepWith, serverStep}
+use Rattle.soupbintcp_client.specs.Client.{clientStep}
+use Rattle.soupbintcp_session.specs.Answer.{unsequenced}
+use Rattle.soupbintcp_session.specs.Statements.{ChangesNothing}
+use Rattle.soupbintcp_server.specs.Statements.{LoginExactlyWhen, WasIn}
 use Rattle.host_answers.specs.Answers.{RefusalChangesNothing}
 use Rattle.host_states.specs.Statements.{StatePromises}
 

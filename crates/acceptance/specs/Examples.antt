@@ -23,8 +23,8 @@ use Rattle.soupbintcp.specs.Front.{Fronting, packet, frontOf}
 use Rattle.soupbintcp_writer.specs.Packets as soup
 use Rattle.login.specs.declared.account.Account.{Account}
 use Rattle.login.specs.Examples.{ann, ours}
-use Rattle.soup_session.specs.Answer as session
-use Rattle.soup_server.specs.Server.{startServer, serverStep}
+use Rattle.soupbintcp_session.specs.Answer as session
+use Rattle.soupbintcp_server.specs.Server.{startServer, serverStep}
 
 -- ---- what is asked, and what it comes to
 

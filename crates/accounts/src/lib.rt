@@ -3,13 +3,13 @@ use login::account;
 use login::account::Account;
 use login::account::MOST_ACCOUNTS;
 use login::account::Verdict;
-use soup_server::server;
-use soup_server::server::Server;
-use soup_server::server::Stepped;
+use soupbintcp_server::server;
+use soupbintcp_server::server::Server;
+use soupbintcp_server::server::Stepped;
 ghost use mathlib.Core.Path.{_≡_};
 ghost use lib.ListN.{take};
 ghost use Rattle.login.specs.Account.{verdictWords, lookupOf};
-ghost use Rattle.soup_server.specs.Server.{Steps, serverStep};
+ghost use Rattle.soupbintcp_server.specs.Server.{Steps, serverStep};
 ghost use Rattle.accounts.specs.Accounts.{usedOf, FlatIsTheSame};
 
 // How many records a table by value has.

@@ -16,8 +16,8 @@ use Rattle.wire.proofs.Numbers.{part-to-end}
 use Rattle.decimal.specs.Decimal.{withDigit}
 use Rattle.capture_settings.specs.declared.lines.Line.{Line}
 use Rattle.capture_settings.specs.declared.settings.Opened.{Opened}
-use Rattle.parts.specs.Parts.{firstBytes}
-use Rattle.parts.proofs.PartLaws.{first-there}
+use Rattle.wire.specs.Parts.{firstBytes}
+use Rattle.wire.proofs.PartLaws.{first-there}
 use Rattle.capture_settings.specs.Settings.{sessionKey, nextKey, limitKey, lineFeed, pastOf, isPrintable, noLine, further, goesOn, lineFrom, lineOf, settings, refusedOpened, fixedSize, nextLine, limitLine, numbersOf, nameLine, readOf}
 
 -- ---- how far they reach

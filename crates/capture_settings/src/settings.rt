@@ -4,6 +4,7 @@ use wire::kinds;
 use wire::kinds::MessageCount;
 use wire::kinds::SESSION_SIZE;
 use wire::kinds::SequenceNumber;
+use wire::parts;
 use wire::refusal;
 use wire::refusal::Refusal;
 ghost use mathlib.Core.Path.{_≡_};

@@ -8,7 +8,7 @@ use lib.Dec.{ltb}
 use Rattle.wire.specs.Bounds.{sessionSize}
 use Rattle.wire.specs.Output.{writtenWords, Writes}
 use Rattle.wire.specs.declared.output.Written.{Written}
-use Rattle.parts.specs.Parts.{firstBytes}
+use Rattle.wire.specs.Parts.{firstBytes}
 use Rattle.moldudp64.specs.Header.{header}
 use Rattle.moldudp64.specs.Request.{requestGround}
 use Rattle.moldudp64.specs.Written.{packet, endPacket}

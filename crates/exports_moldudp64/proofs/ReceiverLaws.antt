@@ -4,7 +4,7 @@ use mathlib.Core.List.{List}
 use mathlib.Core.Bool.{Bool}
 use mathlib.Core.Path.{_≡_}
 use Rattle.wire.specs.Bounds.{sessionSize}
-use Rattle.parts.specs.Parts.{firstBytes}
+use Rattle.wire.specs.Parts.{firstBytes}
 use Rattle.receiver.specs.declared.receiver.Receiver.{Receiver}
 use Rattle.receiver.specs.declared.receiver.Taken.{Taken}
 use Rattle.receiver.specs.Table.{answerWords}

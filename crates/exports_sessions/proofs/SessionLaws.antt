@@ -9,17 +9,17 @@ use lib.Dec.{eqb}
 use Rattle.wire.specs.Choice.{if_then_else_}
 use Rattle.wire.proofs.Words.{read-back}
 use Rattle.wire.specs.Bounds.{sessionSize}
-use Rattle.parts.specs.Parts.{firstBytes}
+use Rattle.wire.specs.Parts.{firstBytes}
 use Rattle.login.specs.declared.account.Account.{Account}
-use Rattle.soup_session.specs.declared.answer.Answer.{Answer}
-use Rattle.soup_session.specs.declared.answer.Answer.the-variants as case
-use Rattle.soup_session.specs.Answer.{Reply, wants-more, accepted, rejected, sequenced, unsequenced, heartbeat, debug, logged-out, end-of-session, answerWords}
-use Rattle.soup_server.specs.declared.server.Server.{Server}
-use Rattle.soup_server.specs.declared.server.Stepped as server-steps
-use Rattle.soup_server.specs.Server as server
-use Rattle.soup_client.specs.declared.client.Client.{Client}
-use Rattle.soup_client.specs.declared.client.Stepped as client-steps
-use Rattle.soup_client.specs.Client as client
+use Rattle.soupbintcp_session.specs.declared.answer.Answer.{Answer}
+use Rattle.soupbintcp_session.specs.declared.answer.Answer.the-variants as case
+use Rattle.soupbintcp_session.specs.Answer.{Reply, wants-more, accepted, rejected, sequenced, unsequenced, heartbeat, debug, logged-out, end-of-session, answerWords}
+use Rattle.soupbintcp_server.specs.declared.server.Server.{Server}
+use Rattle.soupbintcp_server.specs.declared.server.Stepped as server-steps
+use Rattle.soupbintcp_server.specs.Server as server
+use Rattle.soupbintcp_client.specs.declared.client.Client.{Client}
+use Rattle.soupbintcp_client.specs.declared.client.Stepped as client-steps
+use Rattle.soupbintcp_client.specs.Client as client
 use Rattle.host_answers.specs.Answers.{codeOf, wordsOf, Reports, Answers}
 use Rattle.host_states.specs.Session.{serverIn, KeepsServer, clientIn, KeepsClient}
 use Rattle.exports_sessions.specs.Sessions.{replyNumber, sized, stepWords, AnswersApart}

@@ -3,8 +3,8 @@ use Prim.Native.Nat.{ℕ, _<_}
 use mathlib.Core.List.{_∷_}
 use lib.ListN.{length}
 use Rattle.wire.specs.Words.{Words, Injective}
-use Rattle.soup_session.specs.declared.answer.Answer.{Answer}
-use Rattle.soup_session.specs.Answer.{answerWords, Reply, wants-more, accepted, rejected, sequenced, unsequenced, heartbeat, debug, logged-out, end-of-session, Outcome}
+use Rattle.soupbintcp_session.specs.declared.answer.Answer.{Answer}
+use Rattle.soupbintcp_session.specs.Answer.{answerWords, Reply, wants-more, accepted, rejected, sequenced, unsequenced, heartbeat, debug, logged-out, end-of-session, Outcome}
 
 unfoldable pub replyNumber : Reply → ℕ
 replyNumber wants-more = 0

@@ -1,10 +1,10 @@
 // What a step of either end answers.
-use soup_session::answer::Answer;
+use soupbintcp_session::answer::Answer;
 use wire::refusal;
 use wire::refusal::Refusal;
 ghost use mathlib.Core.Path.{_≡_};
 ghost use mathlib.Core.List.{[], _∷_};
-ghost use Rattle.soup_session.specs.Answer.{answerWords};
+ghost use Rattle.soupbintcp_session.specs.Answer.{answerWords};
 ghost use Rattle.host_answers.specs.Answers.{wordsOf};
 ghost use Rattle.exports_sessions.specs.Sessions.{replyNumber, sized};
 

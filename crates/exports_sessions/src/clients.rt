@@ -1,16 +1,17 @@
 // The session at the client.
 use crate::answers;
 use host_states::client_state;
-use soup_client::client::Client;
+use soupbintcp_client::client::Client;
 use wire::kinds::SESSION_SIZE;
 use wire::kinds::SequenceNumber;
+use wire::parts;
 ghost use mathlib.Core.Path.{_≡_};
 ghost use mathlib.Core.Bool.{_||_};
 ghost use lib.ListN.{length};
 ghost use lib.Dec.{ltb};
 ghost use Rattle.wire.specs.Bounds.{sessionSize};
-ghost use Rattle.parts.specs.Parts.{firstBytes};
-ghost use Rattle.soup_client.specs.Client.{startRefusal, startClient, clientStep};
+ghost use Rattle.wire.specs.Parts.{firstBytes};
+ghost use Rattle.soupbintcp_client.specs.Client.{startRefusal, startClient, clientStep};
 ghost use Rattle.host_answers.specs.Answers.{codeOf, Answers};
 ghost use Rattle.host_states.specs.Session.{sessionStateSize, clientIn, KeepsClient};
 ghost use Rattle.exports_sessions.specs.Sessions.{replyNumber, stepWords, AnswersApart};

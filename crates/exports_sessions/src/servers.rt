@@ -1,17 +1,18 @@
 // The session at the server.
 use crate::answers;
 use host_states::server_state;
-use soup_server::server::Server;
+use soupbintcp_server::server::Server;
 use wire::kinds::SESSION_SIZE;
 use wire::kinds::SequenceNumber;
+use wire::parts;
 ghost use mathlib.Core.Path.{_≡_};
 ghost use mathlib.Core.Bool.{_||_};
 ghost use lib.ListN.{length};
 ghost use lib.Dec.{ltb};
 ghost use Rattle.wire.specs.Bounds.{sessionSize};
-ghost use Rattle.parts.specs.Parts.{firstBytes};
+ghost use Rattle.wire.specs.Parts.{firstBytes};
 ghost use Rattle.login.specs.Table.{recordsOf};
-ghost use Rattle.soup_server.specs.Server.{startRefusal, startServer, serverStep};
+ghost use Rattle.soupbintcp_server.specs.Server.{startRefusal, startServer, serverStep};
 ghost use Rattle.host_answers.specs.Answers.{codeOf, Answers};
 ghost use Rattle.host_states.specs.Session.{sessionStateSize, serverIn, KeepsServer};
 ghost use Rattle.exports_sessions.specs.Sessions.{replyNumber, stepWords, AnswersApart};

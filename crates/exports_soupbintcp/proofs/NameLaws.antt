@@ -8,7 +8,7 @@ use lib.Dec.{ltb}
 use Rattle.wire.specs.Bounds.{sessionSize}
 use Rattle.wire.specs.Output.{writtenWords, Writes}
 use Rattle.wire.specs.declared.output.Written.{Written}
-use Rattle.parts.specs.Parts.{firstBytes}
+use Rattle.wire.specs.Parts.{firstBytes}
 use Rattle.text_fields.specs.Sound.{usernameSize, passwordSize}
 use Rattle.soupbintcp.specs.Letters.{letterAccepted, letterLogin}
 use Rattle.soupbintcp_writer.specs.Packets.{packet, acceptedGround, acceptedPayload, loginGround, loginPayload}

@@ -14,7 +14,7 @@ use Rattle.wire.specs.Bytes.{number, bytes}
 use Rattle.wire.specs.Output.{put}
 use Rattle.wire.proofs.Numbers.{number-drop, number-bytes, length-bytes}
 use Rattle.wire.proofs.Outputs.{put-put, put-room, put-none}
-use Rattle.parts.specs.Parts.{firstBytes}
+use Rattle.wire.specs.Parts.{firstBytes}
 use Rattle.host_answers.specs.Answers.{onSuccess, flag}
 use Rattle.host_answers.proofs.AnswerLaws.{success, no-success}
 use Rattle.host_states.specs.Fields.{Keeps, Lays, frontBytes, flagOf}

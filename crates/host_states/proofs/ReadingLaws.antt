@@ -15,7 +15,7 @@ use Rattle.wire.specs.Output.{put}
 use Rattle.wire.proofs.Cases.{below-or-not, zero-or-not}
 use Rattle.wire.proofs.Numbers.{length-bytes, number-append}
 use Rattle.wire.proofs.Outputs.{length-put}
-use Rattle.parts.specs.Parts.{firstBytes}
+use Rattle.wire.specs.Parts.{firstBytes}
 use Rattle.capture_records.specs.Records.{mostRecords}
 use Rattle.receiver.specs.declared.receiver.Receiver.{Receiver}
 use Rattle.capture_tally.specs.declared.tally.Tally.{Tally}

@@ -9,7 +9,7 @@ use Rattle.wire.specs.Bounds.{sessionSize}
 use Rattle.wire.specs.Bytes.{number, bytes}
 use Rattle.wire.specs.Output.{put}
 use Rattle.wire.proofs.Numbers.{length-bytes}
-use Rattle.parts.specs.Parts.{firstBytes}
+use Rattle.wire.specs.Parts.{firstBytes}
 use Rattle.receiver.specs.Receiver.{receiver}
 use Rattle.host_answers.specs.Answers.{flag}
 use Rattle.host_states.specs.Fields.{Keeps, Lays, frontBytes, flagOf}

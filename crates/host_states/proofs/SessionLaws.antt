@@ -9,15 +9,15 @@ use Rattle.wire.specs.Bounds.{sessionSize}
 use Rattle.wire.specs.Bytes.{number, bytes}
 use Rattle.wire.specs.Output.{put}
 use Rattle.wire.proofs.Numbers.{length-bytes}
-use Rattle.parts.specs.Parts.{firstBytes}
-use Rattle.soup_server.specs.declared.server.ServerState.{ServerState}
-use Rattle.soup_server.specs.declared.server.ServerState.the-variants.{Waiting, In, Closed}
-use Rattle.soup_server.specs.declared.server.Server.{Server}
-use Rattle.soup_server.specs.Server.{server}
-use Rattle.soup_client.specs.declared.client.ClientState.{ClientState}
-use Rattle.soup_client.specs.declared.client.ClientState.the-variants as state
-use Rattle.soup_client.specs.declared.client.Client.{Client}
-use Rattle.soup_client.specs.Client.{client}
+use Rattle.wire.specs.Parts.{firstBytes}
+use Rattle.soupbintcp_server.specs.declared.server.ServerState.{ServerState}
+use Rattle.soupbintcp_server.specs.declared.server.ServerState.the-variants.{Waiting, In, Closed}
+use Rattle.soupbintcp_server.specs.declared.server.Server.{Server}
+use Rattle.soupbintcp_server.specs.Server.{server}
+use Rattle.soupbintcp_client.specs.declared.client.ClientState.{ClientState}
+use Rattle.soupbintcp_client.specs.declared.client.ClientState.the-variants as state
+use Rattle.soupbintcp_client.specs.declared.client.Client.{Client}
+use Rattle.soupbintcp_client.specs.Client.{client}
 use Rattle.host_states.specs.Fields.{Keeps, Lays, frontBytes}
 use Rattle.host_states.specs.Session.{sessionStateSize, SessionFields, sessionFields, sessionBytes, sessionIn, serverStateOf, serverStateByte, serverBytes, serverIn, clientStateOf, clientStateByte, clientBytes, clientIn}
 use Rattle.host_states.proofs.FieldLaws.{put-next, length-front, keeps-refused, keeps-short, keeps-laid, laid-front, number-past-field, byte-past-field, number-in-front, name-in-front}

@@ -4,7 +4,7 @@ use mathlib.Core.List.{List, [], _∷_, _++_}
 use lib.ListN.{getD}
 use Rattle.wire.specs.Bounds.{sessionSize}
 use Rattle.wire.specs.Bytes.{number, bytes}
-use Rattle.parts.specs.Parts.{firstBytes}
+use Rattle.wire.specs.Parts.{firstBytes}
 use Rattle.receiver.specs.declared.receiver.Receiver as declared
 use Rattle.receiver.specs.Receiver.{receiver}
 use Rattle.host_answers.specs.Answers.{flag}

@@ -6,15 +6,15 @@ use lib.Dec.{eqb}
 use Rattle.wire.specs.Choice.{if_then_else_}
 use Rattle.wire.specs.Bounds.{sessionSize}
 use Rattle.wire.specs.Bytes.{number}
-use Rattle.parts.specs.Parts.{firstBytes}
-use Rattle.soup_server.specs.declared.server.ServerState.{ServerState}
-use Rattle.soup_server.specs.declared.server.ServerState.the-variants.{Waiting, In, Closed}
-use Rattle.soup_server.specs.declared.server.Server.{Server}
-use Rattle.soup_server.specs.Server.{server}
-use Rattle.soup_client.specs.declared.client.ClientState.{ClientState}
-use Rattle.soup_client.specs.declared.client.ClientState.the-variants as state
-use Rattle.soup_client.specs.declared.client.Client.{Client}
-use Rattle.soup_client.specs.Client.{client}
+use Rattle.wire.specs.Parts.{firstBytes}
+use Rattle.soupbintcp_server.specs.declared.server.ServerState.{ServerState}
+use Rattle.soupbintcp_server.specs.declared.server.ServerState.the-variants.{Waiting, In, Closed}
+use Rattle.soupbintcp_server.specs.declared.server.Server.{Server}
+use Rattle.soupbintcp_server.specs.Server.{server}
+use Rattle.soupbintcp_client.specs.declared.client.ClientState.{ClientState}
+use Rattle.soupbintcp_client.specs.declared.client.ClientState.the-variants as state
+use Rattle.soupbintcp_client.specs.declared.client.Client.{Client}
+use Rattle.soupbintcp_client.specs.Client.{client}
 use Rattle.host_states.specs.Fields.{Keeps, frontBytes}
 
 abbrev pub sessionStateSize : ℕ

@@ -1,9 +1,10 @@
 // The SoupBinTCP session at the client.
 use crate::fields;
-use soup_client::client::Client;
-use soup_client::client::ClientState;
+use soupbintcp_client::client::Client;
+use soupbintcp_client::client::ClientState;
 use wire::kinds::SequenceNumber;
 use wire::number;
+use wire::parts;
 ghost use mathlib.Core.Path.{_≡_};
 ghost use Rattle.host_states.specs.Session.{clientStateOf, clientStateByte, clientIn, KeepsClient};
 
@@ -40,7 +41,7 @@ pub fn read(state: &[u8]) -> Client
     Client {
         session: parts::ten(state),
         number: SequenceNumber(number::be64(state, fields::NUMBER_AT)),
-        state: state_of(number::byte(state, fields::STATE_AT)),
+        state: state_of(parts::byte(state, fields::STATE_AT)),
     }
 }
 

@@ -8,6 +8,7 @@ use capture_tally::tally::Tally;
 use wire::kinds::ByteOffset;
 use wire::number;
 use wire::output;
+use wire::parts;
 ghost use mathlib.Core.Path.{_≡_};
 ghost use Prim.Native.Nat.{_≤_, min};
 ghost use lib.ListN.{length};
@@ -90,7 +91,7 @@ pub fn read(state: &[u8]) -> Reading
     ensures { λ r. ⌜ r ≡ readingIn (now (state .entry)) ⌝ }
 {
     Reading {
-        stage: stage_of(number::byte(state, STAGE_AT)),
+        stage: stage_of(parts::byte(state, STAGE_AT)),
         report: Report {
             receiver: receiver_state::read(state),
             records: records_of(number::be64(state, RECORDS_AT)),

@@ -7,6 +7,7 @@ use wire::kinds::SESSION_SIZE;
 use wire::kinds::SequenceNumber;
 use wire::number;
 use wire::output;
+use wire::parts;
 ghost use mathlib.Core.Path.{_≡_};
 ghost use Prim.Native.Nat.{_≤_};
 ghost use lib.ListN.{length};
@@ -30,7 +31,7 @@ pub fn read(state: &[u8]) -> Receiver
         session: parts::ten(state),
         next: SequenceNumber(number::be64(state, fields::NUMBER_AT)),
         limit: MessageCount(number::be16(state, LIMIT_AT)),
-        ended: fields::is_set(number::byte(state, ENDED_AT)),
+        ended: fields::is_set(parts::byte(state, ENDED_AT)),
     }
 }
 

@@ -1,9 +1,10 @@
 // The SoupBinTCP session at the server.
 use crate::fields;
-use soup_server::server::Server;
-use soup_server::server::ServerState;
+use soupbintcp_server::server::Server;
+use soupbintcp_server::server::ServerState;
 use wire::kinds::SequenceNumber;
 use wire::number;
+use wire::parts;
 ghost use mathlib.Core.Path.{_≡_};
 ghost use Rattle.host_states.specs.Session.{serverStateOf, serverStateByte, serverIn, KeepsServer};
 
@@ -38,7 +39,7 @@ pub fn read(state: &[u8]) -> Server
     Server {
         session: parts::ten(state),
         last: SequenceNumber(number::be64(state, fields::NUMBER_AT)),
-        state: state_of(number::byte(state, fields::STATE_AT)),
+        state: state_of(parts::byte(state, fields::STATE_AT)),
     }
 }
 

@@ -7,8 +7,8 @@ use native.Mathlib.Omega.{arith}
 use lib.ListN.{length, take, drop, length-drop}
 use borrow.Author.Tests.{le-ltb, lt-ltb, not-true}
 use Rattle.wire.proofs.Numbers.{part-to-end}
-use Rattle.parts.specs.Parts.{firstBytes}
-use Rattle.parts.proofs.PartLaws.{first-there}
+use Rattle.wire.specs.Parts.{firstBytes}
+use Rattle.wire.proofs.PartLaws.{first-there}
 use Rattle.login.specs.declared.account.Account.{Account}
 use Rattle.login.specs.declared.account.Verdict.{Verdict}
 use Rattle.login.specs.declared.account.Verdict.the-variants.{Unknown, TooMany}

@@ -10,7 +10,7 @@ use wire::kinds::ByteOffset;
 use wire::kinds::LEAST_NUMBER;
 use wire::kinds::SESSION_SIZE;
 use wire::kinds::SequenceNumber;
-use wire::number;
+use wire::parts;
 ghost use mathlib.Core.Path.{_≡_};
 ghost use mathlib.Core.List.{[], _∷_};
 ghost use Prim.Native.Nat.{_+_};
@@ -30,7 +30,7 @@ pub enum Fields {
 pub(crate) fn letter(stream: &[u8]) -> u8
     ensures { λ r. ⌜ r ≡ letterOf (now (stream .entry)) ⌝ }
 {
-    number::byte(stream, ByteOffset(LENGTH_SIZE))
+    parts::byte(stream, ByteOffset(LENGTH_SIZE))
 }
 
 // Where the session stands in a packet of a letter; the number follows it.
@@ -149,7 +149,7 @@ pub(crate) fn packet(stream: &[u8], letter: u8, good: bool, number: Number) -> F
         return with_number(letter, good, number);
     }
     if letter == b'J' {
-        return with_reason(number::byte(stream, ByteOffset(HEAD_SIZE)));
+        return with_reason(parts::byte(stream, ByteOffset(HEAD_SIZE)));
     }
     Fields::Good {
         packet: plain(letter),

@@ -5,4 +5,5 @@ pub mod Outputs
 pub mod Copy
 pub mod Lowering
 pub mod Same
+pub mod PartLaws
 pub mod Rules

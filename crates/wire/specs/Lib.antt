@@ -3,4 +3,5 @@ pub mod Refusals
 pub mod Bounds
 pub mod Words
 pub mod Bytes
+pub mod Parts
 pub mod Output

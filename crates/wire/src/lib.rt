@@ -4,4 +4,5 @@ pub mod compare;
 pub mod kinds;
 pub mod number;
 pub mod output;
+pub mod parts;
 pub mod refusal;

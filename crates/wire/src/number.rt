@@ -1,9 +1,9 @@
 // Big-endian numbers read from a slice, the most significant byte first. A byte past the end counts as 0, so that every
 // place of every slice has a number and no caller has to test before it reads.
 use crate::kinds::ByteOffset;
+use crate::parts::byte;
 ghost use mathlib.Core.Path.{_≡_};
 ghost use Prim.Native.Nat.{_+_, _*_};
-ghost use lib.ListN.{getD};
 ghost use Rattle.wire.specs.Bytes.{number};
 
 fn join16(a: u8, b: u8) -> u16
@@ -25,14 +25,6 @@ fn join64(a: u8, b: u8, c: u8, d: u8, e: u8, f: u8, g: u8, h: u8) -> u64
     let high = join32(join16(a, b), join16(c, d));
     let low = join32(join16(e, f), join16(g, h));
     high * 4294967296 + low
-}
-
-// The byte at a place; a byte past the end counts as 0.
-pub fn byte(s: &[u8], at: ByteOffset) -> u8
-    ensures { λ r. ⌜ r ≡ getD (now (s .entry)) (at .0) 0 ⌝ }
-{
-    let i = at.0;
-    if i < s.len() { s[i] } else { 0 }
 }
 
 // The 16-bit number at a place.

@@ -32,20 +32,20 @@ use Rattle.login.specs.Account.{verdictWords, lookupOf}
 use Rattle.login.proofs.account.Account as R
 use Rattle.login.proofs.account.Account.Laws as R′
 use Rattle.login.proofs.account.Verdict.Laws as Said′
-use Rattle.soup_server.specs.declared.server.Server.{Server}
-use Rattle.soup_server.specs.Server.{entryOf, Steps, stepWith}
-use Rattle.soup_server.specs.Statements.{EntryIsItsFields}
-use Rattle.soup_server.proofs.ServerLaws.{server-step}
-use Rattle.soup_server.proofs.server.Server as Peer
-use Rattle.soup_server.proofs.server.Server.Laws as Peer′
-use Rattle.soup_server.proofs.server.Stepped as Next
-use Rattle.soup_server.proofs.server.Stepped.Laws as Next′
-use Rattle.soup_server.proofs.server.entry as entry
-use Rattle.soup_server.proofs.server.entry.Symbol as entry-def
-use Rattle.soup_server.proofs.server.entry.Met as entry-thm
-use Rattle.soup_server.proofs.server.Server.step_with as step-with
-use Rattle.soup_server.proofs.server.Server.step_with.Symbol as step-with-def
-use Rattle.soup_server.proofs.server.Server.step_with.Met as step-with-thm
+use Rattle.soupbintcp_server.specs.declared.server.Server.{Server}
+use Rattle.soupbintcp_server.specs.Server.{entryOf, Steps, stepWith}
+use Rattle.soupbintcp_server.specs.Statements.{EntryIsItsFields}
+use Rattle.soupbintcp_server.proofs.ServerLaws.{server-step}
+use Rattle.soupbintcp_server.proofs.server.Server as Peer
+use Rattle.soupbintcp_server.proofs.server.Server.Laws as Peer′
+use Rattle.soupbintcp_server.proofs.server.Stepped as Next
+use Rattle.soupbintcp_server.proofs.server.Stepped.Laws as Next′
+use Rattle.soupbintcp_server.proofs.server.entry as entry
+use Rattle.soupbintcp_server.proofs.server.entry.Symbol as entry-def
+use Rattle.soupbintcp_server.proofs.server.entry.Met as entry-thm
+use Rattle.soupbintcp_server.proofs.server.Server.step_with as step-with
+use Rattle.soupbintcp_server.proofs.server.Server.step_with.Symbol as step-with-def
+use Rattle.soupbintcp_server.proofs.server.Server.step_with.Met as step-with-thm
 use Rattle.accounts.specs.Accounts.{FlatIsTheSame}
 use Rattle.accounts.proofs.Rows.{records, account-makes, verdict-makes, account-typed, verdict-typed}
 use Rattle.accounts.proofs.Walk.{span, pairs, room, cell, reads, lays, freed, beside, ahead, lent, Outside, asks, Ends, ends, stands}

@@ -1,5 +1,5 @@
 -- Each case by its number and values.
-use Rattle.soup_session.specs.Answer.{answerWords}
+use Rattle.soupbintcp_session.specs.Answer.{answerWords}
 use Rattle.host_answers.specs.Answers.{padded, wordsAt}
 use Rattle.exports_sessions.specs.Sessions.{replyNumber}
 use Rattle.exports_sessions.proofs.Rules.{words}

@@ -1,0 +1,40 @@
+-- A whole stream at the client, from its start.
+use Prim.Native.Nat.{ℕ}
+use mathlib.Core.List.{List, [], _∷_, _++_}
+use mathlib.Core.Path.{_≡_}
+use lib.ListN.{replicate}
+use Rattle.wire.specs.Bounds.{blank}
+use Rattle.text_fields.specs.Letters.{space}
+use Rattle.soupbintcp.specs.Letters.{letterAccepted, letterSequenced, letterServerHeartbeat, letterEnd}
+use Rattle.soupbintcp_session.specs.Stream.{Run, run}
+use Rattle.soupbintcp_session.specs.Examples.{shortPacket}
+use Rattle.soupbintcp_client.specs.declared.client.ClientState.the-variants.{Ended}
+use Rattle.soupbintcp_client.specs.declared.client.Client.{Client}
+use Rattle.soupbintcp_client.specs.Client.{client, startClient, clientStep}
+use Rattle.soupbintcp_client.specs.HandedUp.{numberedFrom, handedUp}
+
+-- READROOM01
+abbrev pub ours : List ℕ
+ours = 82 ∷ 69 ∷ 65 ∷ 68 ∷ 82 ∷ 79 ∷ 79 ∷ 77 ∷ 48 ∷ 49 ∷ []
+
+-- S after Z is left where it is
+abbrev pub late : List ℕ
+late = shortPacket letterSequenced (99 ∷ [])
+
+abbrev pub stream : List ℕ
+stream =
+    shortPacket letterAccepted (ours ++ replicate 19 space ++ (55 ∷ []))
+    ++ shortPacket letterSequenced (97 ∷ [])
+    ++ shortPacket letterServerHeartbeat []
+    ++ shortPacket letterSequenced []
+    ++ shortPacket letterEnd []
+    ++ late
+
+-- it asks for any session and any number, and is granted READROOM01 from 7 on
+abbrev pub ran : Run Client
+ran = run clientStep (startClient blank 0) stream
+
+pub record ClientExample : Type 0 where
+  pub hands-up : handedUp (ran .taken) ≡ numberedFrom 7 ((97 ∷ []) ∷ [] ∷ [])
+  pub ends : ran .after ≡ client ours 9 Ended
+  pub leaves : ran .rest ≡ late

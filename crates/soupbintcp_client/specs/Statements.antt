@@ -1,0 +1,81 @@
+-- What is promised of the session at the client.
+use Prim.Native.Nat.{ℕ, _+_, _-_}
+use mathlib.Core.List.{List, [], _∷_}
+use mathlib.Core.Path.{_≡_}
+use lib.ListN.{length}
+use Rattle.wire.specs.Bounds.{blank, largestNumber}
+use Rattle.wire.specs.Refusals.{loginNotAsked, numbersUsedUp}
+use Rattle.wire.specs.Words.{answer, says, refuses}
+use Rattle.soupbintcp.specs.declared.packet.Sender.the-variants.{Server}
+use Rattle.soupbintcp.specs.Letters as Letters
+use Rattle.soupbintcp.specs.Head.{headSize}
+use Rattle.soupbintcp.specs.Front.{packet, frontOf, sessionOf}
+use Rattle.soupbintcp_session.specs.Answer.{accepted, sequenced, stays, takes}
+use Rattle.soupbintcp_session.specs.Stream.{Run, run, packetsOf}
+use Rattle.soupbintcp_session.specs.Statements.{ChangesNothing, TakesPackets, HandsUpPayload, AnyCutting, RunsOn}
+use Rattle.soupbintcp_client.specs.declared.client.ClientState.the-variants.{Asked, In}
+use Rattle.soupbintcp_client.specs.declared.client.Client.{Client}
+use Rattle.soupbintcp_client.specs.Client.{client, clientStep}
+use Rattle.soupbintcp_client.specs.HandedUp.{numberedFrom, handedUp, sequencedIn, grantedIn}
+use Rattle.soupbintcp_client.specs.Examples.{ClientExample}
+
+-- A in front
+abbrev pub AcceptedInFront : List ℕ → ℕ → ℕ → Type 0
+AcceptedInFront l size n = frontOf Server l ≡ says (packet Letters.accepted) (size ∷ n ∷ [])
+
+-- it carries the asked session unless that was blank, and the asked number unless that was 0
+pub data SessionFits (c : Client) (l : List ℕ) : Type 0 where
+  any-session : c .session ≡ blank → SessionFits c l
+  this-session : sessionOf Server l ≡ c .session → SessionFits c l
+
+pub data NumberFits (c : Client) (n : ℕ) : Type 0 where
+  any-number : c .number .0 ≡ 0 → NumberFits c n
+  this-number : n ≡ c .number .0 → NumberFits c n
+
+pub record Fits (c : Client) (l : List ℕ) (n : ℕ) : Type 0 where
+  pub session : SessionFits c l
+  pub number : NumberFits c n
+
+-- an A that an asked client accepts
+pub record AcceptsA (c : Client) (l : List ℕ) : Type 0 where
+  pub asked : c .state ≡ Asked
+  pub size : ℕ
+  pub number : ℕ
+  pub front : AcceptedInFront l size number
+  pub fits : Fits c l number
+
+-- then session and number come from it, and only then; else 33, and the client is asked as before
+pub record TakesFromA : Type 0 where
+  pub when : (c : Client) (l : List ℕ) (size n : ℕ) → c .state ≡ Asked → AcceptedInFront l size n → Fits c l n
+      → clientStep c l ≡ takes size (says accepted (n ∷ [])) (client (sessionOf Server l) n In)
+  pub else-33 : (c : Client) (l : List ℕ) (size n : ℕ) → c .state ≡ Asked → AcceptedInFront l size n → (Fits c l n → ⊥)
+      → clientStep c l ≡ stays c (refuses loginNotAsked)
+  pub only-when : (c : Client) (l : List ℕ) → clientStep c l .reply .which ≡ answer accepted → AcceptsA c l
+
+-- S in front
+abbrev pub SequencedInFront : List ℕ → ℕ → Type 0
+SequencedInFront l size = frontOf Server l ≡ says (packet Letters.sequenced) (size ∷ [])
+
+-- in takes every S: message n, then n + 1; 34 where n is 2^64 - 1
+pub record TakesS : Type 0 where
+  pub when : (c : Client) (l : List ℕ) (size : ℕ) → c .state ≡ In → SequencedInFront l size → (c .number .0 ≡ largestNumber → ⊥)
+      → clientStep c l ≡ takes size (says sequenced (c .number .0 ∷ headSize ∷ (size - headSize) ∷ [])) (client (c .session) (c .number .0 + 1) In)
+  pub else-34 : (c : Client) (l : List ℕ) (size : ℕ) → c .state ≡ In → SequencedInFront l size → c .number .0 ≡ largestNumber
+      → clientStep c l ≡ stays c (refuses numbersUsedUp)
+
+-- over a stream: the payloads of S are handed up, each once and in order, under the numbers from the granted one on, and the client's
+-- number is one past the last of them
+pub record HandsUpInOrder (c : Client) (r : Run Client) : Type 0 where
+  pub in-order : handedUp (r .taken) ≡ numberedFrom (grantedIn (c .number .0) (packetsOf (r .taken))) (sequencedIn (packetsOf (r .taken)))
+  pub counted : r .after .number .0 ≡ grantedIn (c .number .0) (packetsOf (r .taken)) + length (sequencedIn (packetsOf (r .taken)))
+
+pub record ClientPromises : Type 0 where
+  pub takes-from-A : TakesFromA
+  pub takes-S : TakesS
+  pub changes-nothing : ChangesNothing Client clientStep
+  pub takes-packets : TakesPackets Client clientStep Server
+  pub hands-up-payload : HandsUpPayload Client clientStep Server sequenced
+  pub runs-on : (c : Client) (l : List ℕ) → RunsOn Client clientStep c l
+  pub any-cutting : AnyCutting Client clientStep
+  pub example : ClientExample
+  pub hands-up-in-order : (c : Client) (l : List ℕ) → HandsUpInOrder c (run clientStep c l)

@@ -1,0 +1,184 @@
+-- What a server's step does, by its cases: s is the server, l the stream, x what the table says of the entry in front, k and vs the
+-- size and the values of the packet there.
+use mathlib.Core.Path.{_≡_, refl, _∙_}
+use mathlib.Core.List.{List, [], _∷_, _++_}
+use Prim.Native.Nat.{ℕ, suc, _-_}
+use native.Mathlib.Omega.{arith}
+use lib.ListN.{getD}
+use lib.Dec.{eqb}
+use borrow.Author.Tests.{eqb-true}
+use Rattle.wire.specs.Words.{Words, Case, answer, refused, says, refuses}
+use Rattle.soupbintcp.specs.declared.packet.Sender.the-variants.{Client}
+use Rattle.soupbintcp.specs.Letters.{PacketKind, letterFor}
+use Rattle.soupbintcp.specs.Head.{letterOf}
+use Rattle.soupbintcp.specs.Front.{packet, frontOf, sessionOf}
+use Rattle.soupbintcp.specs.Front as front
+use Rattle.soupbintcp.proofs.LetterLaws.{choice}
+use Rattle.soupbintcp.proofs.KindLaws.{its-letter}
+use Rattle.soupbintcp.proofs.ScanLaws.{FrontIs, stops-short, stops-at, passes, front-is}
+use Rattle.login.specs.declared.account.Account.{Account}
+use Rattle.login.specs.Account.{Knowing, lookupOf}
+use Rattle.login.specs.Decision.{Deciding, accepted, rejected, decisionOf}
+use Rattle.soupbintcp_session.specs.Answer.{Reply, wants-more, unsequenced, heartbeat, debug, logged-out, messageAt, Outcome, stays, takes}
+use Rattle.soupbintcp_session.specs.Answer as reply
+use Rattle.soupbintcp_session.proofs.FrontCases.{InFront, front-stays, session-stays, username-stays, password-stays, Plain, a-rejection, a-heartbeat, a-debug, a-logout, plain-takes, accepted-takes, unsequenced-takes, plain-not-unsequenced}
+use Rattle.soupbintcp_session.proofs.StepLaws.{Rests, waits, refusing, Does}
+use Rattle.soupbintcp_session.proofs.StepLaws as does
+use Rattle.soupbintcp_session.proofs.RunLaws.{Steady}
+use Rattle.soupbintcp_server.specs.declared.server.ServerState.{ServerState}
+use Rattle.soupbintcp_server.specs.declared.server.ServerState.the-variants.{Waiting, In, Closed}
+use Rattle.soupbintcp_server.specs.declared.server.Server.{Server}
+use Rattle.soupbintcp_server.specs.Server.{becomes, loginAt, waitingRow, inRow, rowAt, serverRow, frontRow, stepAt, stepWith, entryOf, serverStep}
+use Rattle.soupbintcp_server.specs.Statements.{Keeps}
+
+pub data ServerDoes (s : Server) (l : List ℕ) (x : Words Knowing) (o : Outcome Server) : Type 0 where
+  rests : (w : Words Reply) → Rests w → o ≡ stays s w → ServerDoes s l x o
+  logs-in : (k : ℕ) (vs ws : List ℕ) → InFront Client l k vs → letterOf l ≡ 76 → s .state ≡ Waiting
+      → decisionOf x (sessionOf Client l) (getD vs 0 0) (s .session) (s .last .0) .which ≡ answer accepted
+      → o ≡ takes k (says reply.accepted ws) (becomes s In) → ServerDoes s l x o
+  hands-up : (k : ℕ) (vs : List ℕ) → InFront Client l k vs → s .state ≡ In → o ≡ takes k (says unsequenced (3 ∷ (k - 3) ∷ [])) (becomes s In)
+      → ServerDoes s l x o
+  goes-by : (k : ℕ) (vs : List ℕ) (w : Words Reply) (t : ServerState) → InFront Client l k vs → Plain (w .which) → (t ≡ In → s .state ≡ In)
+      → o ≡ takes k w (becomes s t) → ServerDoes s l x o
+
+never-in : Closed ≡ In → ⊥
+never-in e = let z : _≡_ {A = ℕ} 0 1 = cc in omega arith
+
+-- ---- the rows
+
+module _ (s : Server) (l : List ℕ) (x : Words Knowing) (k : ℕ) (vs : List ℕ) (i : InFront Client l k vs) where
+  abbrev D : Outcome Server → Type 0
+  D = ServerDoes s l x
+
+  refuses-it : (r : ℕ) → D (stays s (refuses r))
+  refuses-it r = rests (refuses r) (refusing r) refl
+
+  login-does : letterOf l ≡ 76 → s .state ≡ Waiting → (d : Case Deciding) (r : ℕ) (ws : List ℕ)
+      → decisionOf x (sessionOf Client l) (getD vs 0 0) (s .session) (s .last .0) .which ≡ d → D (loginAt s k d r ws)
+  unfolding loginAt
+  login-does a q (answer accepted) r ws e = logs-in k vs ws i a q e refl
+  login-does a q (answer rejected) r ws e = goes-by k vs (says reply.rejected ws) Closed i a-rejection (λ z. absurd (never-in z)) refl
+  login-does a q refused r ws e = refuses-it r
+
+  waiting-does : s .state ≡ Waiting → D (waitingRow s k (letterOf l) vs x (sessionOf Client l))
+  unfolding waitingRow
+  waiting-does q =
+      choice D (eqb (letterOf l) 76) (λ e. login-does (eqb-true _ _ e) q _ _ _ refl) (λ e.
+      choice D (eqb (letterOf l) 43) (λ f. goes-by k vs (says debug []) Waiting i a-debug (λ z. q ∙ z) refl) (λ f. refuses-it _))
+
+  in-does : s .state ≡ In → D (inRow s k (letterOf l))
+  unfolding inRow
+  in-does q =
+      choice D (eqb (letterOf l) 85) (λ e. hands-up k vs i q refl) (λ e.
+      choice D (eqb (letterOf l) 82) (λ f. goes-by k vs (says heartbeat []) In i a-heartbeat (λ z. q) refl) (λ f.
+      choice D (eqb (letterOf l) 43) (λ g. goes-by k vs (says debug []) In i a-debug (λ z. q) refl) (λ g.
+      choice D (eqb (letterOf l) 79) (λ h. goes-by k vs (says logged-out []) Closed i a-logout (λ z. q) refl) (λ h. refuses-it _))))
+
+  row-does : (t : ServerState) → s .state ≡ t → D (rowAt t s k (letterOf l) vs x (sessionOf Client l))
+  unfolding rowAt
+  row-does Waiting q = waiting-does q
+  row-does In q = in-does q
+  row-does Closed q = refuses-it _
+
+-- ---- the step by what the table says, and then by the front
+
+module _ (s : Server) (x : Words Knowing) (l : List ℕ) where
+  -- the front, where the table says something
+  abbrev front-step : Outcome Server
+  front-step = frontRow s x (sessionOf Client l) (frontOf Client l .which) (frontOf Client l .refusal) (frontOf Client l .values)
+
+  short-rests : frontOf Client l ≡ says front.wants-more [] → front-step ≡ stays s (says wants-more [])
+  unfolding frontRow
+  short-rests e = rw e refl
+
+  fault-rests : (r : ℕ) → frontOf Client l ≡ refuses r → front-step ≡ stays s (refuses r)
+  unfolding frontRow
+  fault-rests r e = rw e refl
+
+  pub packet-row : (p : PacketKind) (k : ℕ) (vs : List ℕ) → frontOf Client l ≡ says (packet p) (k ∷ vs)
+      → front-step ≡ serverRow s k (letterFor p) vs x (sessionOf Client l)
+  unfolding frontRow
+  packet-row p k vs e = rw e refl
+
+  front-does : ServerDoes s l x front-step
+  front-does = go (front-is Client l)
+    where
+      go : FrontIs Client l → ServerDoes s l x front-step
+      go (stops-short e) = rests (says wants-more []) waits (short-rests e)
+      go (stops-at r e) = rests (refuses r) (refusing r) (fault-rests r e)
+      go (passes p k vs e a b) =
+          rw (packet-row p k vs e, ← its-letter Client l p k vs e)
+          (row-does s l x k vs (record { kind = p; front = e; some = a; within = b }) (s .state) refl)
+
+  told-does : (w : Case Knowing) → ServerDoes s l x (stepAt w s x l)
+  unfolding stepAt
+  told-does (answer y) = front-does
+  told-does refused = rests (refuses (x .refusal)) (refusing (x .refusal)) refl
+
+  pub server-does : ServerDoes s l x (stepWith s x l)
+  server-does = told-does (x .which)
+
+-- ---- the session's name and the last number stay
+
+does-keep : (s : Server) (l : List ℕ) (x : Words Knowing) (o : Outcome Server) → ServerDoes s l x o → Keeps s (o .after)
+does-keep s l x o (rests w n e) = rw e (record { session = refl; last = refl })
+does-keep s l x o (logs-in k vs ws i a q d e) = rw e (record { session = refl; last = refl })
+does-keep s l x o (hands-up k vs i q e) = rw e (record { session = refl; last = refl })
+does-keep s l x o (goes-by k vs w t i p f e) = rw e (record { session = refl; last = refl })
+
+pub keeps : (t : List Account) (s : Server) (l : List ℕ) → Keeps s (serverStep t s l .after)
+unfolding serverStep
+keeps t s l = does-keep s l (lookupOf t (entryOf l)) (stepWith s (lookupOf t (entryOf l)) l) (server-does s (lookupOf t (entryOf l)) l)
+
+-- ---- so it rests or moves, and a run of its steps is steady
+
+server-moves : (s : Server) (l : List ℕ) (x : Words Knowing) (o : Outcome Server) → ServerDoes s l x o → Does s l Client unsequenced o
+unfolding messageAt
+server-moves s l x o (rests w n e) = does.rests w n e
+server-moves s l x o (logs-in k vs ws i a q d e) =
+    does.moves k vs (says reply.accepted ws) (becomes s In) i accepted-takes (λ z. absurd (not-so z)) e
+  where
+    not-so : answer reply.accepted ≡ answer unsequenced → ⊥
+    not-so z = let y : _≡_ {A = ℕ} 0 1 = cc in omega arith
+server-moves s l x o (hands-up k vs i q e) =
+    does.moves k vs (says unsequenced (3 ∷ (k - 3) ∷ [])) (becomes s In) i unsequenced-takes (λ z. refl) e
+server-moves s l x o (goes-by k vs w t i p f e) =
+    does.moves k vs w (becomes s t) i (plain-takes (w .which) p) (λ z. absurd (plain-not-unsequenced (w .which) p z)) e
+
+-- with any verdict on the entry in front
+pub with-rests-or-moves : (verdict : List ℕ → Words Knowing) (s : Server) (l : List ℕ) → Does s l Client unsequenced (stepWith s (verdict l) l)
+with-rests-or-moves verdict s l = server-moves s l (verdict l) (stepWith s (verdict l) l) (server-does s (verdict l) l)
+
+module _ (t : List Account) where
+  pub server-rests-or-moves : (s : Server) (l : List ℕ) → Does s l Client unsequenced (serverStep t s l)
+  unfolding serverStep
+  server-rests-or-moves s l = with-rests-or-moves (λ m. lookupOf t (entryOf m)) s l
+
+  module _ (s : Server) (l m : List ℕ) where
+    entry-stays : (k : ℕ) (vs : List ℕ) → InFront Client l k vs → entryOf (l ++ m) ≡ entryOf l
+    unfolding entryOf
+    entry-stays k vs i = rw (username-stays Client l m k vs i, password-stays Client l m k vs i) refl
+
+    told-stays : (k : ℕ) (vs : List ℕ) (x : Words Knowing) (w : Case Knowing) → InFront Client l k vs → stepAt w s x (l ++ m) ≡ stepAt w s x l
+    unfolding stepAt
+    told-stays k vs x (answer y) i = rw (front-stays Client l m k vs i, session-stays Client l m k vs i) refl
+    told-stays k vs x refused i = refl
+
+    step-stays : (k : ℕ) (vs : List ℕ) → InFront Client l k vs → serverStep t s (l ++ m) ≡ serverStep t s l
+    unfolding serverStep
+    step-stays k vs i = rw (entry-stays k vs i) (told-stays k vs (lookupOf t (entryOf l)) (lookupOf t (entryOf l) .which) i)
+
+    server-keeps : (k : ℕ) → serverStep t s l .size ≡ suc k → serverStep t s (l ++ m) ≡ serverStep t s l
+    server-keeps k e = go (server-rests-or-moves s l)
+      where
+        go : Does s l Client unsequenced (serverStep t s l) → serverStep t s (l ++ m) ≡ serverStep t s l
+        go (does.rests w n f) = let z : 0 ≡ suc k = rw f at e in absurd (omega arith)
+        go (does.moves n vs w u i y x f) = step-stays n vs i
+
+  pub server-steady : Steady Server (serverStep t)
+  server-steady =
+      record {
+        fits = λ s l. does.takes-what-is-there (server-rests-or-moves s l);
+        keeps = server-keeps;
+        silent = λ s l. does.rests-by (server-rests-or-moves s l);
+      }

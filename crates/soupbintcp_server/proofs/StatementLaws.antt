@@ -1,0 +1,134 @@
+-- What the session at the server promises beside its answers: t is the table of accounts, s the server, l the stream.
+use mathlib.Core.Path.{_≡_, refl, ap, sym, _∙_}
+use mathlib.Core.List.{List, [], _∷_}
+use mathlib.Core.Bool.{Bool, true, false}
+use Prim.Native.Nat.{ℕ, _<_}
+use native.Mathlib.Omega.{arith}
+use lib.ListN.{length, getD}
+use borrow.Author.Tests.{le-ltb, lt-ltb}
+use Rattle.wire.specs.Refusals.{badSetting}
+use Rattle.wire.specs.Words.{Words, answer, says, refuses}
+use Rattle.soupbintcp.specs.declared.packet.Sender.the-variants.{Client}
+use Rattle.soupbintcp.specs.Letters.{login, letterFor}
+use Rattle.soupbintcp.specs.Fields.{hasFields}
+use Rattle.soupbintcp.specs.Front.{sessionOf}
+use Rattle.login.specs.declared.account.Account.{Account}
+use Rattle.login.specs.Account.{Knowing, known, unknown, mostAccounts, verdictOf, isKnown, lookupOf}
+use Rattle.login.specs.Decision.{loginOf}
+use Rattle.login.specs.Decision as decided
+use Rattle.login.specs.Statements.{NotRefused}
+use Rattle.login.proofs.StatementLaws.{accepted-exactly-when, never-accepted}
+use Rattle.soupbintcp_session.specs.Answer.{Outcome, stays, takes}
+use Rattle.soupbintcp_session.specs.Answer as reply
+use Rattle.soupbintcp_session.proofs.FrontCases.{numbered-in-front, accepted-takes, unsequenced-takes, plain-not-accepted, plain-not-unsequenced}
+use Rattle.soupbintcp_session.proofs.StepLaws.{never-rests, changes-nothing, takes-packets, hands-up}
+use Rattle.soupbintcp_session.proofs.RunLaws.{any-cutting, runs-on}
+use Rattle.soupbintcp_server.specs.declared.server.ServerState.the-variants.{Waiting, In, Closed}
+use Rattle.soupbintcp_server.specs.declared.server.Server.{Server}
+use Rattle.soupbintcp_server.specs.Server.{becomes, loginAt, loginRow, waitingRow, rowAt, stepAt, stepWith, entryOf, serverStep}
+use Rattle.soupbintcp_server.specs.Statements.{LoginInFront, EntryIsItsFields, attemptOf, Accepts, LoginExactlyWhen, WasIn, before, by-login, ServerPromises}
+use Rattle.soupbintcp_server.proofs.LoginLaws.{username-first, password-first}
+use Rattle.soupbintcp_server.proofs.ServerCases.{ServerDoes, server-does, keeps, server-rests-or-moves, server-steady, with-rests-or-moves}
+use Rattle.soupbintcp_server.proofs.ServerCases as cases
+use Rattle.soupbintcp_server.proofs.ExampleLaws.{server-example}
+
+pub entry-is-its-fields : EntryIsItsFields
+unfolding EntryIsItsFields entryOf
+entry-is-its-fields l size n e = rw (username-first l size (n ∷ []) e, password-first l size (n ∷ []) e) refl
+
+-- a login request that isn't refused goes by what is decided on it
+told-row : (s : Server) (x : Words Knowing) (l : List ℕ) (size n : ℕ) (b : Bool) → s .state ≡ Waiting → LoginInFront l size n → x ≡ verdictOf b
+    → stepWith s x l ≡ loginRow s size (decided.decisionOf x (sessionOf Client l) n (s .session) (s .last .0))
+unfolding stepAt verdictOf rowAt waitingRow letterFor
+told-row s x l size n true q e f = rw f (cases.packet-row s (says known []) l login size (n ∷ []) e ∙ rw q refl)
+told-row s x l size n false q e f = rw f (cases.packet-row s (says unknown []) l login size (n ∷ []) e ∙ rw q refl)
+
+module _ (t : List Account) (s : Server) (l : List ℕ) (size n : ℕ) (q : s .state ≡ Waiting) (e : LoginInFront l size n) (z : NotRefused (attemptOf t s l n)) where
+  decided-row : serverStep t s l ≡ loginRow s size (loginOf (attemptOf t s l n))
+  unfolding serverStep lookupOf EntryIsItsFields
+  decided-row =
+      told-row s (lookupOf t (entryOf l)) l size n (isKnown t (entryOf l)) q e (rw (le-ltb _ _ z) refl)
+      ∙ ap (λ (a : Account). loginRow s size (decided.decisionOf (lookupOf t a) (sessionOf Client l) n (s .session) (s .last .0))) (entry-is-its-fields l size n e)
+
+  accepts-it : (vs : List ℕ) → loginOf (attemptOf t s l n) ≡ says decided.accepted vs → serverStep t s l ≡ takes size (says reply.accepted vs) (becomes s In)
+  unfolding loginAt
+  accepts-it vs f = decided-row ∙ rw f refl
+
+  rejects-it : (vs : List ℕ) → loginOf (attemptOf t s l n) ≡ says decided.rejected vs → serverStep t s l ≡ takes size (says reply.rejected vs) (becomes s Closed)
+  unfolding loginAt
+  rejects-it vs f = decided-row ∙ rw f refl
+
+unsequenced-apart : answer reply.unsequenced ≡ answer reply.accepted → ⊥
+unsequenced-apart e = let z : _≡_ {A = ℕ} 0 1 = cc in omega arith
+
+too-many : (t : List Account) (s : Server) (l : List ℕ) → mostAccounts < length t → serverStep t s l ≡ stays s (refuses badSetting)
+unfolding serverStep lookupOf stepAt
+too-many t s l h = rw (lt-ltb _ _ h) refl
+
+accepts : (t : List Account) (s : Server) (l : List ℕ) (o : Outcome Server) → ServerDoes s l (lookupOf t (entryOf l)) o
+    → o .reply .which ≡ answer reply.accepted → Accepts t s l
+unfolding EntryIsItsFields letterFor hasFields
+accepts t s l o (cases.rests w n e) z =
+    absurd (never-rests w n reply.accepted accepted-takes (rw e at z))
+accepts t s l o (cases.logs-in k vs ws i a q d e) z =
+    let g : LoginInFront l k (getD vs 0 0) = numbered-in-front Client l k vs login i a refl in
+    record {
+      waiting = q;
+      size = k;
+      number = getD vs 0 0;
+      front = g;
+      rules = accepted-exactly-when .only-when (attemptOf t s l (getD vs 0 0)) (rw (entry-is-its-fields l k (getD vs 0 0) g) at d);
+    }
+accepts t s l o (cases.hands-up k vs i q e) z = absurd (unsequenced-apart (rw e at z))
+accepts t s l o (cases.goes-by k vs w u i p f e) z = absurd (plain-not-accepted (w .which) p (rw e at z))
+
+-- who is in was so before the step, or logs in by it
+is-in : (t : List Account) (s : Server) (l : List ℕ) (o : Outcome Server) → ServerDoes s l (lookupOf t (entryOf l)) o → o .after .state ≡ In → WasIn t s l
+is-in t s l o (cases.rests w n e) z = before (rw e at z)
+is-in t s l o (cases.logs-in k vs ws i a q d e) z = by-login (accepts t s l o (cases.logs-in k vs ws i a q d e) (rw e refl))
+is-in t s l o (cases.hands-up k vs i q e) z = before q
+is-in t s l o (cases.goes-by k vs w u i p f e) z = before (f (rw e at z))
+
+hands-up-in : (s : Server) (l : List ℕ) (x : Words Knowing) (o : Outcome Server) → ServerDoes s l x o → o .reply .which ≡ answer reply.unsequenced → s .state ≡ In
+hands-up-in s l x o (cases.rests w n e) z = absurd (never-rests w n reply.unsequenced unsequenced-takes (rw e at z))
+hands-up-in s l x o (cases.logs-in k vs ws i a q d e) z = absurd (unsequenced-apart (sym (rw e at z)))
+hands-up-in s l x o (cases.hands-up k vs i q e) z = q
+hands-up-in s l x o (cases.goes-by k vs w u i p f e) z = absurd (plain-not-unsequenced (w .which) p (rw e at z))
+
+module _ (t : List Account) (s : Server) (l : List ℕ) where
+  only-in : serverStep t s l .after .state ≡ In → WasIn t s l
+  unfolding serverStep
+  only-in z = is-in t s l (serverStep t s l) (server-does s (lookupOf t (entryOf l)) l) z
+
+  hands-up-only-in : serverStep t s l .reply .which ≡ answer reply.unsequenced → s .state ≡ In
+  unfolding serverStep
+  hands-up-only-in z = hands-up-in s l (lookupOf t (entryOf l)) (serverStep t s l) (server-does s (lookupOf t (entryOf l)) l) z
+
+login-exactly-when : LoginExactlyWhen
+unfolding serverStep
+login-exactly-when =
+    record {
+      when = λ t s l size n q e z f. accepts-it t s l size n q e z _ (accepted-exactly-when .when (attemptOf t s l n) z f);
+      only-when = λ t s l z. accepts t s l (serverStep t s l) (server-does s (lookupOf t (entryOf l)) l) z;
+      else-A = λ t s l size n q e z f. rejects-it t s l size n q e z _ (accepted-exactly-when .else-A (attemptOf t s l n) z f);
+      else-S = λ t s l size n q e z f g. rejects-it t s l size n q e z _ (accepted-exactly-when .else-S (attemptOf t s l n) z f g);
+      no-username = λ t s l size n q e z f. rejects-it t s l size n q e z _ (never-accepted .username (attemptOf t s l n) z f);
+      no-password = λ t s l size n q e z f. rejects-it t s l size n q e z _ (never-accepted .password (attemptOf t s l n) z f);
+      too-many = too-many;
+    }
+
+pub server-promises : ServerPromises
+server-promises =
+    record {
+      login-exactly-when = login-exactly-when;
+      only-in = only-in;
+      hands-up-only-in = hands-up-only-in;
+      example = server-example;
+      changes-nothing = λ t. changes-nothing (serverStep t) Client reply.unsequenced (server-rests-or-moves t);
+      changes-nothing-with = λ v. changes-nothing (λ s l. stepWith s (v l) l) Client reply.unsequenced (with-rests-or-moves v);
+      takes-packets = λ t. takes-packets (serverStep t) Client reply.unsequenced (server-rests-or-moves t);
+      keeps = keeps;
+      hands-up-payload = λ t. hands-up (serverStep t) Client reply.unsequenced (server-rests-or-moves t) unsequenced-takes;
+      runs-on = λ t. runs-on (serverStep t) (server-steady t);
+      any-cutting = λ t. any-cutting (serverStep t) (server-steady t);
+    }

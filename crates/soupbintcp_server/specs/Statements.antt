@@ -1,0 +1,94 @@
+-- What is promised of the session at the server.
+use Prim.Native.Nat.{ℕ, _<_}
+use mathlib.Core.List.{List, [], _∷_}
+use mathlib.Core.Path.{_≡_}
+use lib.ListN.{length}
+use Rattle.wire.specs.Refusals.{badSetting}
+use Rattle.wire.specs.Words.{Words, answer, says, refuses}
+use Rattle.soupbintcp.specs.declared.packet.Sender.the-variants.{Client}
+use Rattle.soupbintcp.specs.Letters.{login}
+use Rattle.soupbintcp.specs.Fields.{notAuthorized, sessionNotAvailable}
+use Rattle.soupbintcp.specs.Front.{packet, frontOf, sessionOf, usernameOf, passwordOf}
+use Rattle.login.specs.declared.account.Account.{Account}
+use Rattle.login.specs.Account.{Knowing, mostAccounts}
+use Rattle.login.specs.Decision.{granted, Attempt}
+use Rattle.login.specs.Statements.{AccountRule, NotRefused, Rules, NoText}
+use Rattle.soupbintcp_session.specs.Answer.{accepted, rejected, unsequenced, stays, takes}
+use Rattle.soupbintcp_session.specs.Statements.{ChangesNothing, TakesPackets, HandsUpPayload, AnyCutting, RunsOn}
+use Rattle.soupbintcp_server.specs.declared.server.ServerState.the-variants.{Waiting, In, Closed}
+use Rattle.soupbintcp_server.specs.declared.server.Server.{Server}
+use Rattle.soupbintcp_server.specs.Server.{becomes, entryOf, stepWith, serverStep}
+use Rattle.soupbintcp_server.specs.Examples.{ServerExample}
+
+-- a login request in front
+abbrev pub LoginInFront : List ℕ → ℕ → ℕ → Type 0
+LoginInFront l size n = frontOf Client l ≡ says (packet login) (size ∷ n ∷ [])
+
+-- its entry: its username and its password
+abbrev pub entryFields : List ℕ → Account
+entryFields l = record { username = usernameOf Client l; password = passwordOf Client l }
+
+unfoldable pub EntryIsItsFields : Type 0
+EntryIsItsFields = (l : List ℕ) (size n : ℕ) → LoginInFront l size n → entryOf l ≡ entryFields l
+
+-- what it attempts
+abbrev pub attemptOf : List Account → Server → List ℕ → ℕ → Attempt
+attemptOf t s l n =
+    record { table = t; entry = entryFields l; asked = sessionOf Client l; wanted = n; session = s .session; last = s .last .0 }
+
+-- a login request that a waiting server accepts
+pub record Accepts (t : List Account) (s : Server) (l : List ℕ) : Type 0 where
+  pub waiting : s .state ≡ Waiting
+  pub size : ℕ
+  pub number : ℕ
+  pub front : LoginInFront l size number
+  pub rules : Rules (attemptOf t s l number)
+
+-- a login that isn't refused is accepted exactly when the account, session and number rules hold; J with A where the account rule
+-- doesn't, and J with S where it does and another doesn't
+pub record LoginExactlyWhen : Type 0 where
+  pub when : (t : List Account) (s : Server) (l : List ℕ) (size n : ℕ) → s .state ≡ Waiting → LoginInFront l size n
+      → NotRefused (attemptOf t s l n) → Rules (attemptOf t s l n)
+      → serverStep t s l ≡ takes size (says accepted (granted n (s .last .0) ∷ [])) (becomes s In)
+  pub only-when : (t : List Account) (s : Server) (l : List ℕ) → serverStep t s l .reply .which ≡ answer accepted → Accepts t s l
+  pub else-A : (t : List Account) (s : Server) (l : List ℕ) (size n : ℕ) → s .state ≡ Waiting → LoginInFront l size n
+      → NotRefused (attemptOf t s l n) → (AccountRule (attemptOf t s l n) → ⊥)
+      → serverStep t s l ≡ takes size (says rejected (notAuthorized ∷ [])) (becomes s Closed)
+  pub else-S : (t : List Account) (s : Server) (l : List ℕ) (size n : ℕ) → s .state ≡ Waiting → LoginInFront l size n
+      → NotRefused (attemptOf t s l n) → AccountRule (attemptOf t s l n) → (Rules (attemptOf t s l n) → ⊥)
+      → serverStep t s l ≡ takes size (says rejected (sessionNotAvailable ∷ [])) (becomes s Closed)
+  -- a username or a password that is no text gets J with A, whatever the table holds
+  pub no-username : (t : List Account) (s : Server) (l : List ℕ) (size n : ℕ) → s .state ≡ Waiting → LoginInFront l size n
+      → NotRefused (attemptOf t s l n) → NoText (usernameOf Client l)
+      → serverStep t s l ≡ takes size (says rejected (notAuthorized ∷ [])) (becomes s Closed)
+  pub no-password : (t : List Account) (s : Server) (l : List ℕ) (size n : ℕ) → s .state ≡ Waiting → LoginInFront l size n
+      → NotRefused (attemptOf t s l n) → NoText (passwordOf Client l)
+      → serverStep t s l ≡ takes size (says rejected (notAuthorized ∷ [])) (becomes s Closed)
+  -- 19 comes first, in every state and on every stream
+  pub too-many : (t : List Account) (s : Server) (l : List ℕ) → mostAccounts < length t → serverStep t s l ≡ stays s (refuses badSetting)
+
+-- why a server is in after a step: it was in, or it accepts the login request in front
+pub data WasIn (t : List Account) (s : Server) (l : List ℕ) : Type 0 where
+  before : s .state ≡ In → WasIn t s l
+  by-login : Accepts t s l → WasIn t s l
+
+-- no step changes the session's name or the last number, so that a login accepted can be written with the server that is handed back
+pub record Keeps (s x : Server) : Type 0 where
+  pub session : x .session ≡ s .session
+  pub last : x .last ≡ s .last
+
+-- what a step promises beside its answer, with every table
+pub record ServerPromises : Type 0 where
+  pub login-exactly-when : LoginExactlyWhen
+  -- nobody is in but by a login that meets the rules, and messages are handed up only of one who is in
+  pub only-in : (t : List Account) (s : Server) (l : List ℕ) → serverStep t s l .after .state ≡ In → WasIn t s l
+  pub hands-up-only-in : (t : List Account) (s : Server) (l : List ℕ) → serverStep t s l .reply .which ≡ answer unsequenced → s .state ≡ In
+  pub example : ServerExample
+  pub changes-nothing : (t : List Account) → ChangesNothing Server (serverStep t)
+  -- so does a step with any verdict on the entry in front
+  pub changes-nothing-with : (verdict : List ℕ → Words Knowing) → ChangesNothing Server (λ s l. stepWith s (verdict l) l)
+  pub takes-packets : (t : List Account) → TakesPackets Server (serverStep t) Client
+  pub keeps : (t : List Account) (s : Server) (l : List ℕ) → Keeps s (serverStep t s l .after)
+  pub hands-up-payload : (t : List Account) → HandsUpPayload Server (serverStep t) Client unsequenced
+  pub runs-on : (t : List Account) (s : Server) (l : List ℕ) → RunsOn Server (serverStep t) s l
+  pub any-cutting : (t : List Account) → AnyCutting Server (serverStep t)

@@ -1,0 +1,237 @@
+// The session at the server.
+use login::account::Account;
+use login::account::Verdict;
+use login::decision;
+use login::decision::Decision;
+use login::table;
+use soupbintcp::front;
+use soupbintcp::front::Front;
+use soupbintcp::packet::HEAD_SIZE;
+use soupbintcp::packet::Packet;
+use soupbintcp::packet::Sender;
+use soupbintcp_session::answer::Answer;
+use text_fields::session;
+use wire::kinds;
+use wire::kinds::ByteOffset;
+use wire::kinds::SESSION_SIZE;
+use wire::kinds::SequenceNumber;
+use wire::parts;
+use wire::refusal;
+use wire::refusal::Refusal;
+ghost use mathlib.Core.Path.{_≡_};
+ghost use Prim.Native.Nat.{_≤_};
+ghost use Rattle.wire.specs.Refusals.{badSetting};
+ghost use Rattle.login.specs.Account.{verdictWords};
+ghost use Rattle.login.specs.Table.{recordsOf};
+ghost use Rattle.login.specs.Decision.{decisionWords};
+ghost use Rattle.soupbintcp.specs.Letters.{packetKind, packetValues, letterFor};
+ghost use Rattle.soupbintcp.specs.declared.packet.Sender.the-variants.{Client};
+ghost use Rattle.soupbintcp.specs.Head.{headSize};
+ghost use Rattle.soupbintcp.specs.Front.{sessionOf};
+ghost use Rattle.soupbintcp_server.specs.Server.{server, refusedServer, startRefusal, startServer, entryOf, Steps, loginRow, waitingRow, inRow, serverRow, stepWith, serverStep};
+ghost use Rattle.soupbintcp_server.specs.Statements.{EntryIsItsFields, ServerPromises};
+
+pub enum ServerState {
+    // No login yet.
+    Waiting,
+    In,
+    Closed,
+}
+
+pub struct Server {
+    pub session: [u8; SESSION_SIZE],
+    // The highest message number, 0 if there is none.
+    pub last: SequenceNumber,
+    pub state: ServerState,
+}
+
+// The refusal of a start, its number 0 where there is none, and the server.
+pub struct Started {
+    pub refusal: Refusal,
+    pub server: Server,
+}
+
+// The answer to the front of a stream, how many bytes it took, and the server to use next. An accepted login is answered to the
+// client with that server's session and the granted number.
+pub struct Stepped {
+    pub answer: Answer,
+    pub size: usize,
+    pub server: Server,
+}
+
+// The entry of the login request in front; zero bytes where there is none, which no table knows.
+pub fn entry(stream: &[u8]) -> Account
+    ensures { λ r. ⌜ r ≡ entryOf (now (stream .entry)) ⌝ }
+    ensures its_fields { λ _. ⌜ EntryIsItsFields ⌝ }
+{
+    Account {
+        username: parts::six(front::username(stream, Sender::Client)),
+        password: parts::ten(front::password(stream, Sender::Client)),
+    }
+}
+
+// A refused start: a closed server, its name ten spaces, its number 1.
+fn refused_start() -> Started
+    ensures { λ r. ⌜ (r .refusal .number ≡ badSetting) × (r .server ≡ refusedServer) ⌝ }
+{
+    Started {
+        refusal: refusal::BAD_SETTING,
+        server: Server {
+            session: kinds::BLANK,
+            last: SequenceNumber(1),
+            state: ServerState::Closed,
+        },
+    }
+}
+
+impl Server {
+    // The numbers that a start takes as the last one.
+    pub const LEAST_LAST: SequenceNumber = SequenceNumber(0);
+
+    pub const LARGEST_LAST: SequenceNumber = SequenceNumber(18446744073709551614);
+
+    // A fresh server, or the refusal 19.
+    pub fn new(session: [u8; SESSION_SIZE], last: SequenceNumber) -> Started
+        ensures { λ r. ⌜ (r .refusal .number ≡ startRefusal session (last .0)) × (r .server ≡ startServer session (last .0)) ⌝ }
+    {
+        if !session::is_session(&session, false) {
+            return refused_start();
+        }
+        if last.0 < Server::LEAST_LAST.0 {
+            return refused_start();
+        }
+        if Server::LARGEST_LAST.0 < last.0 {
+            return refused_start();
+        }
+        Started {
+            refusal: refusal::NONE,
+            server: Server {
+                session: session,
+                last: last,
+                state: ServerState::Waiting,
+            },
+        }
+    }
+
+    // Takes the front of a client's stream, the accounts being lent as bytes.
+    pub fn step(self, table: &[u8], stream: &[u8]) -> Stepped
+        ensures { λ r. ⌜ Steps r (serverStep (recordsOf (now (table .entry))) self (now (stream .entry))) ⌝ }
+        ensures promises { λ _. ⌜ ServerPromises ⌝ }
+    {
+        self.step_with(table::lookup(table, entry(stream)), stream)
+    }
+
+    // The same from what a table says of the entry in front, so that the accounts may be kept in any form. The verdict it is given is
+    // believed: a caller has it from a lookup of the entry in front.
+    pub fn step_with(self, verdict: Verdict, stream: &[u8]) -> Stepped
+        ensures { λ r. ⌜ Steps r (stepWith self (verdictWords verdict) (now (stream .entry))) ⌝ }
+    {
+        if let Verdict::TooMany = verdict {
+            return self.stay(Answer::Refused(refusal::BAD_SETTING));
+        }
+        match front::read(stream, Sender::Client) {
+            Front::NeedMore => self.stay(Answer::NeedMore),
+            Front::Refused(r) => self.stay(Answer::Refused(r)),
+            Front::Whole { packet, size } => self.take(packet, size, verdict, stream),
+        }
+    }
+
+    // An answer that changes nothing.
+    fn stay(self, answer: Answer) -> Stepped
+        ensures { λ r. ⌜ r ≡ record { answer = answer; size = 0; server = self } ⌝ }
+    {
+        Stepped {
+            answer: answer,
+            size: 0,
+            server: self,
+        }
+    }
+
+    // A packet taken, and the state after it: the one place where the next server is made.
+    fn goes(self, answer: Answer, size: usize, state: ServerState) -> Stepped
+        ensures { λ r. ⌜ r ≡ record { answer = answer; size = size; server = server (self .session) (self .last .0) state } ⌝ }
+    {
+        let session = self.session;
+        let last = self.last;
+        Stepped {
+            answer: answer,
+            size: size,
+            server: Server {
+                session: session,
+                last: last,
+                state: state,
+            },
+        }
+    }
+
+    // The row of the table for the packet in front.
+    fn take(self, packet: Packet, size: usize, verdict: Verdict, stream: &[u8]) -> Stepped
+        requires { ⌜ headSize ≤ size ⌝ }
+        ensures { λ r. ⌜ Steps r (serverRow self size (letterFor (packetKind packet)) (packetValues packet) (verdictWords verdict) (sessionOf Client (now (stream .entry)))) ⌝ }
+    {
+        let state = self.state;
+        match state {
+            ServerState::Waiting => self.take_waiting(packet, size, verdict, stream),
+            ServerState::In => self.take_in(packet, size),
+            ServerState::Closed => self.stay(Answer::Refused(refusal::STATE_CLOSED)),
+        }
+    }
+
+    // Waiting for a login.
+    fn take_waiting(self, packet: Packet, size: usize, verdict: Verdict, stream: &[u8]) -> Stepped
+        ensures { λ r. ⌜ Steps r (waitingRow self size (letterFor (packetKind packet)) (packetValues packet) (verdictWords verdict) (sessionOf Client (now (stream .entry)))) ⌝ }
+    {
+        match packet {
+            Packet::Login { number } => {
+                let asked = front::session(stream, Sender::Client);
+                let session = self.session;
+                let last = self.last;
+                self.log_in(
+                    decision::decide(verdict, asked, number, session, last),
+                    size,
+                )
+            }
+            Packet::Debug => self.goes(Answer::Debug, size, ServerState::Waiting),
+            _ => self.stay(Answer::Refused(refusal::PACKET_NOT_TAKEN)),
+        }
+    }
+
+    // A login that was decided on.
+    fn log_in(self, decision: Decision, size: usize) -> Stepped
+        ensures { λ r. ⌜ Steps r (loginRow self size (decisionWords decision)) ⌝ }
+    {
+        match decision {
+            Decision::Accepted { number } => {
+                self.goes(Answer::Accepted { number: number }, size, ServerState::In)
+            }
+            Decision::Rejected { reason } => {
+                self.goes(
+                    Answer::Rejected { reason: reason },
+                    size,
+                    ServerState::Closed,
+                )
+            }
+            Decision::Refused(r) => self.stay(Answer::Refused(r)),
+        }
+    }
+
+    // Logged in.
+    fn take_in(self, packet: Packet, size: usize) -> Stepped
+        requires { ⌜ headSize ≤ size ⌝ }
+        ensures { λ r. ⌜ Steps r (inRow self size (letterFor (packetKind packet))) ⌝ }
+    {
+        match packet {
+            Packet::Unsequenced => {
+                let handed = Answer::Unsequenced {
+                    at: ByteOffset(HEAD_SIZE),
+                    length: size - HEAD_SIZE,
+                };
+                self.goes(handed, size, ServerState::In)
+            }
+            Packet::ClientHeartbeat => self.goes(Answer::Heartbeat, size, ServerState::In),
+            Packet::Debug => self.goes(Answer::Debug, size, ServerState::In),
+            Packet::Logout => self.goes(Answer::LoggedOut, size, ServerState::Closed),
+            _ => self.stay(Answer::Refused(refusal::PACKET_NOT_TAKEN)),
+        }
+    }
+}

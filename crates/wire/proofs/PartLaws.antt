@@ -1,0 +1,54 @@
+-- Laws of the parts of a slice l.
+use mathlib.Core.Path.{_≡_, refl, ap, sym, _∙_}
+use mathlib.Core.List.{List, [], _∷_}
+use Prim.Native.Nat.{ℕ, zero, suc, _+_, _-_, _≤_, _<_}
+use native.Mathlib.Omega.{arith}
+use lib.ListN.{length, getD, take, drop, replicate, length-drop, drop-of-length-le}
+use lib.Seq.{take-all, take-nil, drop-cons}
+use borrow.Author.Tests.{le-ltb, lt-ltb}
+use Rattle.wire.specs.Choice.{if_then_else_}
+use Rattle.wire.specs.Parts.{firstBytes}
+
+-- ---- at a place
+
+module _ (l : List ℕ) (at size : ℕ) where
+  pub part-none : length l < at → take 0 l ≡ take size (drop at l)
+  part-none h = rw (drop-of-length-le l {i = at} (omega arith), take-nil size) refl
+
+  pub part-rest : at ≤ length l → length l - at < size → take (length l - at) (drop at l) ≡ take size (drop at l)
+  part-rest h f =
+      let e = length-drop at l in
+      take-all (length l - at) (drop at l) (omega arith) ∙ sym (take-all size (drop at l) (omega arith))
+
+  pub part-all : at ≤ length l → size ≤ length l - at → take (at + size - at) (drop at l) ≡ take size (drop at l)
+  part-all h f = let e : at + size - at ≡ size = omega arith in ap (λ (k : ℕ). take k (drop at l)) e
+
+-- ---- the first ones
+
+pub first-there : (k : ℕ) (l : List ℕ) → k ≤ length l → firstBytes k l ≡ take k l
+unfolding firstBytes
+first-there k l h = simp (le-ltb _ _ h)
+
+pub too-few : (k : ℕ) (l : List ℕ) → length l < k → replicate k 0 ≡ firstBytes k l
+unfolding firstBytes
+too-few k l h = simp (lt-ltb _ _ h)
+
+-- so many bytes from a place on, one by one
+bytesFrom : ℕ → ℕ → List ℕ → List ℕ
+bytesFrom i zero l = []
+bytesFrom i (suc k) l = getD l i 0 ∷ bytesFrom (suc i) k l
+
+one-by-one : (k i : ℕ) (l : List ℕ) → i + k ≤ length l → bytesFrom i k l ≡ take k (drop i l)
+unfolding bytesFrom
+one-by-one zero i l h = refl
+one-by-one (suc k) i l h = rw (drop-cons l i 0 (omega arith)) (ap (λ (m : List ℕ). getD l i 0 ∷ m) (one-by-one k (suc i) l (omega arith)))
+
+pub first-six : (l : List ℕ) → 6 ≤ length l
+    → getD l 0 0 ∷ getD l 1 0 ∷ getD l 2 0 ∷ getD l 3 0 ∷ getD l 4 0 ∷ getD l 5 0 ∷ [] ≡ firstBytes 6 l
+unfolding bytesFrom
+first-six l h = one-by-one 6 0 l h ∙ sym (first-there 6 l h)
+
+pub first-ten : (l : List ℕ) → 10 ≤ length l
+    → getD l 0 0 ∷ getD l 1 0 ∷ getD l 2 0 ∷ getD l 3 0 ∷ getD l 4 0 ∷ getD l 5 0 ∷ getD l 6 0 ∷ getD l 7 0 ∷ getD l 8 0 ∷ getD l 9 0 ∷ [] ≡ firstBytes 10 l
+unfolding bytesFrom
+first-ten l h = one-by-one 10 0 l h ∙ sym (first-there 10 l h)
