@@ -1,12 +1,9 @@
 -- The header of a downstream packet, which is also the whole of a request: session at 0 (10 bytes), sequence number at
 -- 10 (8), message count at 18 (2), each number big-endian.
-use Prim.Native.Nat.{ℕ}
+use Prim.Native.Nat.{ℕ, _+_}
 use mathlib.Core.List.{List, _++_}
+use Rattle.wire.specs.Bounds.{sessionSize, numberSize, countSize}
 use Rattle.wire.specs.Bytes.{number, bytes}
-
--- the bytes of a header
-abbrev pub headerSize : ℕ
-headerSize = 20
 
 -- the bytes of the largest datagram
 abbrev pub largestDatagram : ℕ
@@ -16,19 +13,16 @@ largestDatagram = 65507
 abbrev pub endCount : ℕ
 endCount = 65535
 
--- where the sequence number stands, and its bytes
+-- the session stands in front, then the sequence number, then the message count
 abbrev pub numberAt : ℕ
-numberAt = 10
+numberAt = sessionSize
 
-abbrev pub numberSize : ℕ
-numberSize = 8
-
--- where the message count stands, and its bytes
 abbrev pub countAt : ℕ
-countAt = 18
+countAt = numberAt + numberSize
 
-abbrev pub countSize : ℕ
-countSize = 2
+-- the bytes of a header
+abbrev pub headerSize : ℕ
+headerSize = countAt + countSize
 
 -- the sequence number
 unfoldable pub numberOf : List ℕ → ℕ

@@ -1,7 +1,9 @@
 // The 20 bytes that start a downstream packet and are the whole of a request: session, sequence number, message count.
 use wire::compare;
 use wire::kinds::ByteOffset;
+use wire::kinds::COUNT_SIZE;
 use wire::kinds::MessageCount;
+use wire::kinds::NUMBER_SIZE;
 use wire::kinds::SESSION_SIZE;
 use wire::kinds::SequenceNumber;
 use wire::number;
@@ -11,17 +13,17 @@ ghost use Rattle.wire.specs.Bounds.{sessionSize};
 ghost use Rattle.wire.specs.Bytes.{sameBytes};
 ghost use Rattle.moldudp64.specs.Header.{numberOf, countOf};
 
-// Bytes of a header.
-pub const SIZE: usize = 20;
-
 pub const SESSION_AT: ByteOffset = ByteOffset(0);
 
-pub const NUMBER_AT: ByteOffset = ByteOffset(10);
+pub const NUMBER_AT: ByteOffset = ByteOffset(SESSION_SIZE);
 
-pub const COUNT_AT: ByteOffset = ByteOffset(18);
+pub const COUNT_AT: ByteOffset = ByteOffset(SESSION_SIZE + NUMBER_SIZE);
+
+// Bytes of a header.
+pub const SIZE: usize = SESSION_SIZE + NUMBER_SIZE + COUNT_SIZE;
 
 // This count marks the end of the session and is followed by no blocks.
-pub const END_OF_SESSION: MessageCount = MessageCount(65535);
+pub const END_OF_SESSION: MessageCount = MessageCount(u16::MAX);
 
 // Bytes of the largest datagram.
 pub const LARGEST_DATAGRAM: usize = 65507;

@@ -9,7 +9,7 @@ use Rattle.wire.specs.Bounds.{leastNumber, sessionSize}
 use Rattle.wire.specs.Words.{Words, Case, answer, refused, says}
 use Rattle.text_fields.specs.Session.{goodSession}
 use Rattle.text_fields.specs.Sound.{usernameSize, passwordSize}
-use Rattle.text_fields.specs.Number.{Reading, value, bad, numberSize, numberOf}
+use Rattle.text_fields.specs.Number.{Reading, value, bad, numberFieldSize, numberOf}
 use Rattle.soupbintcp.specs.declared.fields.Fields.{Fields}
 use Rattle.soupbintcp.specs.declared.fields.Fields.the-variants.{Good, Bad}
 use Rattle.soupbintcp.specs.Letters.{PacketKind, accepted, rejected, login, packetKind, packetValues, letterAccepted, letterRejected, letterLogin, plainOf}
@@ -30,7 +30,7 @@ unfoldable pub sessionBytes : ℕ → List ℕ → List ℕ
 sessionBytes c l = if hasFields c then take sessionSize (drop (sessionAt c) l) else []
 
 unfoldable pub numberBytes : ℕ → List ℕ → List ℕ
-numberBytes c l = if hasFields c then take numberSize (drop (sessionAt c + sessionSize) l) else []
+numberBytes c l = if hasFields c then take numberFieldSize (drop (sessionAt c + sessionSize) l) else []
 
 -- ---- what they may be
 

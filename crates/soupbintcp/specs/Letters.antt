@@ -5,7 +5,7 @@ use mathlib.Core.Bool.{Bool, true, false}
 use lib.Dec.{ltb, leb, eqb}
 use Rattle.wire.specs.Choice.{if_then_else_}
 use Rattle.wire.specs.Bounds.{sessionSize}
-use Rattle.text_fields.specs.Number.{numberSize}
+use Rattle.text_fields.specs.Number.{numberFieldSize}
 use Rattle.text_fields.specs.Sound.{usernameSize, passwordSize}
 use Rattle.soupbintcp.specs.declared.packet.Sender.{Sender}
 use Rattle.soupbintcp.specs.declared.packet.Sender.the-variants.{Server, Client}
@@ -94,13 +94,13 @@ mostPayload = 4096
 
 -- the bytes of the payload of A: session and number; of J: the reason; of L: username, password, session and number
 abbrev pub acceptedPayloadSize : ℕ
-acceptedPayloadSize = sessionSize + numberSize
+acceptedPayloadSize = sessionSize + numberFieldSize
 
 abbrev pub rejectedPayloadSize : ℕ
 rejectedPayloadSize = 1
 
 abbrev pub loginPayloadSize : ℕ
-loginPayloadSize = usernameSize + passwordSize + sessionSize + numberSize
+loginPayloadSize = usernameSize + passwordSize + sessionSize + numberFieldSize
 
 -- whether the server and the client send it, and the fewest and most bytes of its payload, which is the length without the letter
 abbrev pub row : Bool → Bool → ℕ → ℕ → Row

@@ -4,7 +4,7 @@ use crate::packet::HEAD_SIZE;
 use crate::packet::LENGTH_SIZE;
 use crate::packet::LOGIN_SESSION_AT;
 use crate::packet::Packet;
-use text_fields::number::NUMBER_SIZE;
+use text_fields::number::NUMBER_FIELD_SIZE;
 use text_fields::number::Number;
 use wire::kinds::ByteOffset;
 use wire::kinds::LEAST_NUMBER;
@@ -67,7 +67,7 @@ pub(crate) fn number_field(stream: &[u8], letter: u8) -> &[u8]
 {
     if has_fields(letter) {
         let at = session_at(letter);
-        return parts::part(stream, ByteOffset(at.0 + SESSION_SIZE), NUMBER_SIZE);
+        return parts::part(stream, ByteOffset(at.0 + SESSION_SIZE), NUMBER_FIELD_SIZE);
     }
     parts::part(stream, ByteOffset(0), 0)
 }

@@ -1,5 +1,5 @@
 // What a logical packet says.
-use text_fields::number::NUMBER_SIZE;
+use text_fields::number::NUMBER_FIELD_SIZE;
 use text_fields::sound::PASSWORD_SIZE;
 use text_fields::sound::USERNAME_SIZE;
 use wire::kinds::ByteOffset;
@@ -30,11 +30,11 @@ pub enum Packet {
 }
 
 // The bytes of the payload of A: session and number; of J: the reason; of L: username, password, session and number.
-pub const ACCEPTED_PAYLOAD: usize = SESSION_SIZE + NUMBER_SIZE;
+pub const ACCEPTED_PAYLOAD: usize = SESSION_SIZE + NUMBER_FIELD_SIZE;
 
 pub const REJECTED_PAYLOAD: usize = 1;
 
-pub const LOGIN_PAYLOAD: usize = USERNAME_SIZE + PASSWORD_SIZE + SESSION_SIZE + NUMBER_SIZE;
+pub const LOGIN_PAYLOAD: usize = USERNAME_SIZE + PASSWORD_SIZE + SESSION_SIZE + NUMBER_FIELD_SIZE;
 
 // Bytes before the payload: the length and the letter.
 pub const HEAD_SIZE: usize = 3;

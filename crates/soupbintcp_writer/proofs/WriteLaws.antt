@@ -17,7 +17,7 @@ use Rattle.decimal.specs.Decimal.{digits}
 use Rattle.text_fields.specs.Letters.{space}
 use Rattle.text_fields.specs.Session.{goodSession}
 use Rattle.text_fields.specs.Sound.{sound}
-use Rattle.text_fields.specs.Number.{numberSize, numberField}
+use Rattle.text_fields.specs.Number.{numberFieldSize, numberField}
 use Rattle.soupbintcp.specs.Letters.{mostPayload}
 use Rattle.soupbintcp.specs.Fields.{goodReason}
 use Rattle.soupbintcp_writer.specs.Packets.{headBytes, packet, payloadGround, acceptedGround, acceptedPayload, reasonGround, goodLogin, loginGround, loginPayload}
@@ -98,7 +98,7 @@ letter-done l m c h e = written l (packet c []) 0 3 m refl (length-packet c []) 
 pub length-field : (n : ℕ) → length (numberField n) ≡ 20
 unfolding numberField
 length-field n =
-    let k = numberSize - length (digits n) in
+    let k = numberFieldSize - length (digits n) in
     omega (arith, length-digits n, length-append (replicate k space) (digits n), length-replicate k space)
 
 -- ---- login accepted: b is whether its session is good

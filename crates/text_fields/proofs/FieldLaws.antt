@@ -18,7 +18,7 @@ use Rattle.decimal.proofs.SpellLaws.{are-so, digit-so, spells-numbers}
 use Rattle.text_fields.specs.declared.number.Number.{Number}
 use Rattle.text_fields.specs.declared.number.Number.the-variants.{Value, Bad}
 use Rattle.text_fields.specs.Letters.{space, leadingSpaces, afterSpaces}
-use Rattle.text_fields.specs.Number.{Reading, value, bad, numberWords, isNumber, numberOf, numberSize, numberField, NoLeadingZero, NumberLaws}
+use Rattle.text_fields.specs.Number.{Reading, value, bad, numberWords, isNumber, numberOf, numberFieldSize, numberField, NoLeadingZero, NumberLaws}
 
 -- ---- spaces in front
 
@@ -52,7 +52,7 @@ spaces-first (b ∷ l) = go (eqb b space) refl (spaces-first l)
 after-field : (n : ℕ) → n ≤ largestNumber → afterSpaces (numberField n) ≡ digits n
 unfolding numberField
 after-field n h =
-    let k = numberSize - length (digits n) in
+    let k = numberFieldSize - length (digits n) in
     let d = no-spaces (digits n) (spells-numbers .spelled n h .digits-alone) in
     let e : leadingSpaces (replicate k space ++ digits n) ≡ k = leading k (digits n) d in
     rw e (drop-at (replicate k space) (digits n) k (length-replicate k space))
@@ -99,14 +99,14 @@ value-so l n least = go (isNumber (afterSpaces l)) (leb least (valueOf (afterSpa
     go true false f e = let w = which-of e in let k : _≡_ {A = ℕ} 0 1 = cc in absurd (omega arith)
     go false y f e = let w = which-of e in let k : _≡_ {A = ℕ} 0 1 = cc in absurd (omega arith)
 
-writes-back : (l : List ℕ) (n least : ℕ) → length l ≡ numberSize → numberOf least l ≡ says value (n ∷ []) → NoLeadingZero l → numberField n ≡ l
+writes-back : (l : List ℕ) (n least : ℕ) → length l ≡ numberFieldSize → numberOf least l ≡ says value (n ∷ []) → NoLeadingZero l → numberField n ≡ l
 unfolding numberField NoLeadingZero
 writes-back l n least h e z =
     let v = value-so l n least e in
     let s : Spelled (afterSpaces l) = record { some = v .number .some; digits-alone = v .number .digits-alone; no-leading-zero = z } in
     let d : digits n ≡ afterSpaces l = ap digits (v .same) ∙ spells-numbers .no-other (afterSpaces l) s (v .number .fits) in
     let t = spaces-first l in
-    let k : numberSize - length (afterSpaces l) ≡ leadingSpaces l =
+    let k : numberFieldSize - length (afterSpaces l) ≡ leadingSpaces l =
     omega (
       arith,
       ap length t,

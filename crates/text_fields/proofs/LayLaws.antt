@@ -16,17 +16,17 @@ use Rattle.wire.proofs.Outputs.{put-room, length-put, wrote-so, wrote-front}
 use Rattle.decimal.specs.Decimal.{digits}
 use Rattle.decimal.proofs.SpellLaws.{length-digits}
 use Rattle.text_fields.specs.Letters.{space}
-use Rattle.text_fields.specs.Number.{numberSize, numberField}
+use Rattle.text_fields.specs.Number.{numberFieldSize, numberField}
 
 -- digits laid at the end of spaces
-field-put : (n : ℕ) → put (replicate numberSize space) (numberSize - length (digits n)) (digits n) ≡ numberField n
+field-put : (n : ℕ) → put (replicate numberFieldSize space) (numberFieldSize - length (digits n)) (digits n) ≡ numberField n
 unfolding numberField
 field-put n =
-    let k = numberSize - length (digits n) in
-    let s = replicate numberSize space in
+    let k = numberFieldSize - length (digits n) in
+    let s = replicate numberFieldSize space in
     let h = length-digits n in
-    let m = length-replicate numberSize space in
-    let b : k + length (digits n) ≡ numberSize = omega arith in
+    let m = length-replicate numberFieldSize space in
+    let b : k + length (digits n) ≡ numberFieldSize = omega arith in
     let i : s ≡ replicate k space ++ replicate (length (digits n)) space =
     sym (replicate-append-replicate k (length (digits n)) space ∙ ap (λ (j : ℕ). replicate j space) b) in
     let t : take k s ≡ replicate k space =
@@ -35,7 +35,7 @@ field-put n =
     put-room s k (digits n) (omega arith) ∙ rw (t, d) (append-nil (replicate k space ++ digits n))
 
 abbrev zeros : List ℕ
-zeros = replicate numberSize 0
+zeros = replicate numberFieldSize 0
 
 -- the digits of every number have room in 20 bytes
 pub never-refused : (r : Written) (m f : List ℕ) (n : ℕ) (x : Refusal) → Writes r zeros m 0 0 (digits n) → r ≡ Refused x → f ≡ numberField n
@@ -52,7 +52,7 @@ module _ (r : Written) (l m : List ℕ) (n k : ℕ) (w : Writes r l m 0 0 (digit
   unfolding writtenWords
   laid = sym (w .answers) ∙ ap writtenWords e
 
-  pub laid-small : k ≤ numberSize
+  pub laid-small : k ≤ numberFieldSize
   laid-small = omega (arith, length-digits n, wrote-so 0 l 0 (digits n) k laid .size)
 
   pub laid-within : k ≤ length m
@@ -65,7 +65,7 @@ module _ (r : Written) (l m : List ℕ) (n k : ℕ) (w : Writes r l m 0 0 (digit
   laid-digits = rw (w .leaves) (wrote-front 0 l (digits n) k laid)
 
   -- behind the spaces that are left of 20
-  pub justified : (q : Written) (f g : List ℕ) → f ≡ replicate numberSize space → Writes q f g 0 (numberSize - k) (take k m) → g ≡ numberField n
+  pub justified : (q : Written) (f g : List ℕ) → f ≡ replicate numberFieldSize space → Writes q f g 0 (numberFieldSize - k) (take k m) → g ≡ numberField n
   justified q f g s p = p .leaves ∙ rw (s, laid-digits, wrote-so 0 l 0 (digits n) k laid .size) (field-put n)
 
 pub field-laid : (r : Written) (l m : List ℕ) (at n : ℕ) (f : List ℕ) → f ≡ numberField n → Writes r l m 0 at f → Writes r l m 0 at (numberField n)

@@ -37,12 +37,12 @@ numberOf least l =
 -- ---- as it is written
 
 -- the bytes of a number field
-abbrev pub numberSize : ℕ
-numberSize = 20
+abbrev pub numberFieldSize : ℕ
+numberFieldSize = 20
 
 -- spaces, then digits without leading zeros
 unfoldable pub numberField : ℕ → List ℕ
-numberField n = replicate (numberSize - length (digits n)) space ++ digits n
+numberField n = replicate (numberFieldSize - length (digits n)) space ++ digits n
 
 -- ---- byte by byte
 
@@ -80,5 +80,5 @@ pub record NumberLaws : Type 0 where
   -- a written number reads back as itself
   pub reads-back : (n least : ℕ) → n ≤ largestNumber → least ≤ n → numberOf least (numberField n) ≡ says value (n ∷ [])
   -- a field without leading zeros that reads to a value is what the writer writes
-  pub writes-back : (l : List ℕ) (n least : ℕ) → length l ≡ numberSize → numberOf least l ≡ says value (n ∷ []) → NoLeadingZero l → numberField n ≡ l
+  pub writes-back : (l : List ℕ) (n least : ℕ) → length l ≡ numberFieldSize → numberOf least l ≡ says value (n ∷ []) → NoLeadingZero l → numberField n ≡ l
   pub tells-apart : Injective numberWords

@@ -11,10 +11,10 @@ ghost use mathlib.Core.Path.{_≡_};
 ghost use lib.ListN.{replicate};
 ghost use Rattle.text_fields.specs.Letters.{space};
 ghost use Rattle.wire.specs.Output.{Writes};
-ghost use Rattle.text_fields.specs.Number.{numberSize, digitStep, numberStep, numberWords, numberGood, numberOf, numberField, NumberFold, NumberLaws};
+ghost use Rattle.text_fields.specs.Number.{numberFieldSize, digitStep, numberStep, numberWords, numberGood, numberOf, numberField, NumberFold, NumberLaws};
 
 // Bytes of a number field.
-pub const NUMBER_SIZE: usize = 20;
+pub const NUMBER_FIELD_SIZE: usize = 20;
 
 // What the bytes of a field so far are: spaces alone, digits after them with their value, or no number.
 pub enum NumberState {
@@ -94,20 +94,20 @@ pub fn put(out: &mut [u8], at: ByteOffset, number: SequenceNumber) -> Written
     ensures { λ r. ⌜ Writes r (now (out .entry)) (now (out .exit)) 0 (at .0) (numberField (number .0)) ⌝ }
     ensures laws { λ _. ⌜ NumberLaws ⌝ }
 {
-    let mut field = [letters::SPACE; NUMBER_SIZE];
+    let mut field = [letters::SPACE; NUMBER_FIELD_SIZE];
     right_justify(&mut field, number);
     output::put_bytes(out, at, &field)
 }
 
 // Lays the digits of a number at the end of a field of spaces.
 fn right_justify(field: &mut [u8], number: SequenceNumber)
-    requires { ⌜ now field ≡ replicate numberSize space ⌝ }
+    requires { ⌜ now field ≡ replicate numberFieldSize space ⌝ }
     ensures { λ _. ⌜ now (field .exit) ≡ numberField (number .0) ⌝ }
 {
-    let mut text = [0u8; NUMBER_SIZE];
+    let mut text = [0u8; NUMBER_FIELD_SIZE];
     match writing::put(&mut text, ByteOffset(0), number.0) {
         Written::Wrote { size } => {
-            output::put_bytes(field, ByteOffset(NUMBER_SIZE - size), &text[..size]);
+            output::put_bytes(field, ByteOffset(NUMBER_FIELD_SIZE - size), &text[..size]);
         }
         Written::Refused(_) => {}
     }

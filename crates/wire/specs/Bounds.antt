@@ -15,6 +15,13 @@ largestNumber = 18446744073709551615
 abbrev pub sessionSize : ℕ
 sessionSize = 10
 
+-- the bytes of a sequence number and of a message count, wherever they are laid as bytes
+abbrev pub numberSize : ℕ
+numberSize = 8
+
+abbrev pub countSize : ℕ
+countSize = 2
+
 -- document 01's "blank": a name of ten spaces
 abbrev pub blank : List ℕ
 blank = replicate sessionSize 32

@@ -13,7 +13,7 @@ pub struct ByteOffset(pub usize);
 pub const LEAST_NUMBER: SequenceNumber = SequenceNumber(1);
 
 // The largest sequence number, 2^64 - 1.
-pub const LARGEST_NUMBER: SequenceNumber = SequenceNumber(18446744073709551615);
+pub const LARGEST_NUMBER: SequenceNumber = SequenceNumber(u64::MAX);
 
 // The bounds of a receiver's asking limit, which are the fewest and the most messages that a request asks for: none is 48,
 // and so is 65,535, the count of an end of session.
@@ -23,6 +23,11 @@ pub const LARGEST_LIMIT: MessageCount = MessageCount(65534);
 
 // Bytes of a session name.
 pub const SESSION_SIZE: usize = 10;
+
+// Bytes of a sequence number and of a message count, wherever they are laid as bytes.
+pub const NUMBER_SIZE: usize = 8;
+
+pub const COUNT_SIZE: usize = 2;
 
 // A blank name: ten spaces.
 pub const BLANK: [u8; SESSION_SIZE] = [b' '; SESSION_SIZE];
