@@ -9,8 +9,22 @@ use Rattle.login.proofs.ExampleLaws.{login-promises}
 use Rattle.soupbintcp_server.proofs.StatementLaws.{server-promises}
 use Rattle.soupbintcp_client.proofs.StatementLaws.{client-promises}
 use Rattle.host_answers.proofs.PromiseLaws.{host-promises}
-use Rattle.host_states.proofs.PromiseLaws.{state-promises}
-use Rattle.acceptance.specs.Conditions.{Condition1, Condition2, Condition3, Condition3IsMeant}
+use Rattle.host_cursor.proofs.CursorLaws.{cursor-promises}
+use Rattle.host_receiver.proofs.ReceiverLaws as kept-receiver
+use Rattle.host_server.proofs.ServerLaws as kept-server
+use Rattle.host_client.proofs.ClientLaws as kept-client
+use Rattle.host_capture.proofs.ReadingLaws.{reading-promises}
+use Rattle.acceptance.specs.Conditions.{HostStates, Condition1, Condition2, Condition3, Condition3IsMeant}
+
+host-states : HostStates
+host-states =
+    record {
+      cursor = cursor-promises;
+      receiver = kept-receiver.receiver-promises;
+      server = kept-server.server-promises;
+      client = kept-client.client-promises;
+      reading = reading-promises;
+    }
 
 pub condition-1 : Condition1
 condition-1 =
@@ -21,7 +35,7 @@ condition-1 =
       server-with = server-promises .changes-nothing-with;
       client = client-promises .changes-nothing;
       host-answers = host-promises .refusal-changes-nothing;
-      host-states = state-promises;
+      host-states = host-states;
     }
 
 pub condition-2 : Condition2

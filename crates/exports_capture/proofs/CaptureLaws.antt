@@ -12,7 +12,7 @@ use Rattle.capture.specs.declared.reading.Fed.{Fed}
 use Rattle.capture.specs.Reading.{feedOf, finishOf, isOver, textOf}
 use Rattle.host_answers.specs.Answers.{flag, padded, Reports, ReportsWriting}
 use Rattle.host_answers.proofs.WritingLaws.{writing-reported}
-use Rattle.host_states.specs.Reading.{readingIn, KeepsReading}
+use Rattle.host_capture.specs.Reading.{readingIn, KeepsReading}
 
 pub reading-kept : (x y : Reading) (r : ℕ) (l m : List ℕ) → x ≡ y → KeepsReading r l m x → KeepsReading r l m y
 reading-kept x y r l m e k = rw (← e) k

@@ -3,7 +3,6 @@ use capture::reading::Reading;
 use capture::whole;
 use host_answers::SHORT;
 use host_answers::WRITTEN_WORDS;
-use host_states::reading_state;
 use wire::refusal;
 ghost use mathlib.Core.Path.{_≡_};
 ghost use mathlib.Core.List.{[], _∷_};
@@ -13,7 +12,7 @@ ghost use lib.Dec.{ltb};
 ghost use Rattle.capture.specs.Reading.{startReading, feedOf, finishOf, isOver, textOf};
 ghost use Rattle.capture.specs.Whole.{captureText};
 ghost use Rattle.host_answers.specs.Answers.{codeOf, flag, Reports, ReportsWriting};
-ghost use Rattle.host_states.specs.Reading.{readingSize, readingIn, KeepsReading};
+ghost use Rattle.host_capture.specs.Reading.{readingSize, readingIn, KeepsReading};
 
 // Starts the reading of a capture in pieces.
 #[no_mangle]
@@ -21,8 +20,8 @@ pub extern "C" fn eiderwagon_capture_start(state: &mut [u8]) -> u32
     ensures { λ r. ⌜ r ≡ codeOf (ltb (length (now (state .entry))) readingSize) 0 ⌝ }
     ensures keeps { λ r. ⌜ KeepsReading r (now (state .entry)) (now (state .exit)) startReading ⌝ }
 {
-    let code = host_answers::code(state.len() < reading_state::SIZE, refusal::NONE);
-    reading_state::write(state, code, Reading::new());
+    let code = host_answers::code(state.len() < host_capture::SIZE, refusal::NONE);
+    host_capture::write(state, code, Reading::new());
     code
 }
 
@@ -32,7 +31,7 @@ pub extern "C" fn eiderwagon_capture_feed(state: &mut [u8], bytes: &[u8], words:
     ensures { λ r. ⌜ Reports r (now (words .entry)) (now (words .exit)) (ltb (length (now (state .entry))) readingSize) 0 (feedOf (readingIn (now (state .entry))) (now (bytes .entry)) .used ∷ flag (isOver (feedOf (readingIn (now (state .entry))) (now (bytes .entry)) .reading .stage)) ∷ []) ⌝ }
     ensures keeps { λ r. ⌜ KeepsReading r (now (state .entry)) (now (state .exit)) (feedOf (readingIn (now (state .entry))) (now (bytes .entry)) .reading) ⌝ }
 {
-    let fed = reading_state::read(state).feed(bytes);
+    let fed = host_capture::read(state).feed(bytes);
     let reading = fed.reading;
     let values = [
         fed.used as u64,
@@ -40,11 +39,11 @@ pub extern "C" fn eiderwagon_capture_feed(state: &mut [u8], bytes: &[u8], words:
     ];
     let code = host_answers::report(
         words,
-        state.len() < reading_state::SIZE,
+        state.len() < host_capture::SIZE,
         refusal::NONE,
         &values,
     );
-    reading_state::write(state, code, reading);
+    host_capture::write(state, code, reading);
     code
 }
 
@@ -54,9 +53,9 @@ pub extern "C" fn eiderwagon_capture_finish(state: &mut [u8], bytes: &[u8]) -> u
     ensures { λ r. ⌜ r ≡ codeOf (ltb (length (now (state .entry))) readingSize) 0 ⌝ }
     ensures keeps { λ r. ⌜ KeepsReading r (now (state .entry)) (now (state .exit)) (finishOf (readingIn (now (state .entry))) (now (bytes .entry))) ⌝ }
 {
-    let code = host_answers::code(state.len() < reading_state::SIZE, refusal::NONE);
-    let finished = reading_state::read(state).finish(bytes);
-    reading_state::write(state, code, finished);
+    let code = host_answers::code(state.len() < host_capture::SIZE, refusal::NONE);
+    let finished = host_capture::read(state).finish(bytes);
+    host_capture::write(state, code, finished);
     code
 }
 
@@ -65,10 +64,10 @@ pub extern "C" fn eiderwagon_capture_finish(state: &mut [u8], bytes: &[u8]) -> u
 pub extern "C" fn eiderwagon_capture_write(state: &[u8], out: &mut [u8], words: &mut [u64]) -> u32
     ensures { λ r. ⌜ ReportsWriting r (now (words .entry)) (now (words .exit)) (now (out .entry)) (now (out .exit)) (ltb (length (now (state .entry))) readingSize) 0 (textOf (readingIn (now (state .entry)))) ⌝ }
 {
-    if (state.len() < reading_state::SIZE) | (words.len() < WRITTEN_WORDS) {
+    if (state.len() < host_capture::SIZE) | (words.len() < WRITTEN_WORDS) {
         return SHORT;
     }
-    host_answers::report_written(words, reading_state::read(state).write(out))
+    host_answers::report_written(words, host_capture::read(state).write(out))
 }
 
 // Writes the report of a whole capture.

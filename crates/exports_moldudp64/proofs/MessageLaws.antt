@@ -7,7 +7,8 @@ use Rattle.moldudp64_messages.specs.declared.cursor.Located.{Located}
 use Rattle.moldudp64_messages.specs.declared.cursor.Cursor.{Cursor}
 use Rattle.moldudp64_messages.specs.Cursor.{located, moved}
 use Rattle.host_answers.specs.Answers.{Reports}
-use Rattle.host_states.specs.Cursor.{cursorIn, KeepsCursor}
+use Rattle.host_cursor.specs.Cursor.{cursorIn, KeepsCursor}
+use Rattle.host_cursor.proofs.CursorLaws.{cursor-kept}
 use Rattle.exports_moldudp64.specs.Datagrams.{locatedWords}
 
 -- the words of what was found
@@ -20,8 +21,5 @@ pub next-answers : (d l : List ℕ) (c : Cursor) (p : Located) (r : ℕ) (ws ws�
 next-answers d l c p r ws ws′ lacks vs a e f h = located-answers p (located d (cursorIn l)) r ws ws′ lacks vs (e ∙ ap (located d) a) f h
 
 -- the cursor that is kept
-pub cursor-kept : (x y : Cursor) (r : ℕ) (l m : List ℕ) → x ≡ y → KeepsCursor r l m x → KeepsCursor r l m y
-cursor-kept x y r l m e k = rw (← e) k
-
 pub next-kept : (d l : List ℕ) (c x : Cursor) (r : ℕ) (m : List ℕ) → c ≡ cursorIn l → x ≡ moved d c → KeepsCursor r l m x → KeepsCursor r l m (moved d (cursorIn l))
 next-kept d l c x r m a e k = cursor-kept x (moved d (cursorIn l)) r l m (e ∙ ap (moved d) a) k

@@ -2,18 +2,15 @@
 use borrow.Author.Needs.{needs}
 use mathlib.Core.Path.{refl}
 use Rattle.host_answers.proofs.Rules.{writings}
-use Rattle.exports_moldudp64.proofs.WordLaws.{datagram-refusal, datagram-words, request-refusal, request-words, answer-refusal, answer-words, datagram-read, request-read, datagrams-apart, answers-apart}
-use Rattle.exports_moldudp64.proofs.MessageLaws.{located-answers, next-answers, cursor-kept, next-kept}
-use Rattle.exports_moldudp64.proofs.ReceiverLaws.{start-code, start-kept, take-answers, take-kept}
+use Rattle.host_cursor.proofs.CursorLaws.{cursor-kept}
+use Rattle.exports_moldudp64.proofs.WordLaws.{datagram-refusal, datagram-words, request-refusal, request-words, datagram-read, request-read, datagrams-apart}
+use Rattle.exports_moldudp64.proofs.MessageLaws.{located-answers, next-answers, next-kept}
 use Rattle.exports_moldudp64.proofs.NameLaws.{data-reported, heartbeat-reported, end-reported, request-reported}
-use Rattle.exports_moldudp64.proofs.RunLaws.{hands-on}
 
-pub ruleset words = (datagram-refusal, datagram-words, request-refusal, request-words, answer-refusal, answer-words, refl, needs)
+pub ruleset words = (datagram-refusal, datagram-words, request-refusal, request-words, refl, needs)
 
 pub ruleset reads = (datagrams-apart, datagram-read, request-read, needs)
 
 pub ruleset messages = (located-answers, next-answers, cursor-kept, next-kept, needs)
-
-pub ruleset receivers = (hands-on, answers-apart, start-code, start-kept, take-answers, take-kept, needs)
 
 pub ruleset names = (data-reported, heartbeat-reported, end-reported, request-reported, writings)

@@ -1,5 +1,4 @@
 // The messages of a datagram: one by its place, or all in one walk with a cursor that the host keeps.
-use host_states::cursor_state;
 use moldudp64_messages::cursor::Cursor;
 use moldudp64_messages::cursor::Located;
 use moldudp64_messages::message;
@@ -11,7 +10,7 @@ ghost use lib.ListN.{length};
 ghost use lib.Dec.{ltb};
 ghost use Rattle.moldudp64_messages.specs.Cursor.{locateOf, located, moved, startOf};
 ghost use Rattle.host_answers.specs.Answers.{codeOf, Reports};
-ghost use Rattle.host_states.specs.Cursor.{cursorSize, cursorIn, KeepsCursor};
+ghost use Rattle.host_cursor.specs.Cursor.{cursorSize, cursorIn, KeepsCursor};
 ghost use Rattle.exports_moldudp64.specs.Datagrams.{locatedWords};
 
 // The words of a message: whether it is there, its offset and its length.
@@ -42,8 +41,8 @@ pub extern "C" fn eiderwagon_mold_walk(datagram: &[u8], cursor: &mut [u8]) -> u3
     ensures { λ r. ⌜ r ≡ codeOf (ltb (length (now (cursor .entry))) cursorSize) 0 ⌝ }
     ensures keeps { λ r. ⌜ KeepsCursor r (now (cursor .entry)) (now (cursor .exit)) (startOf (now (datagram .entry))) ⌝ }
 {
-    let code = host_answers::code(cursor.len() < cursor_state::SIZE, refusal::NONE);
-    cursor_state::write(cursor, code, Cursor::start(datagram));
+    let code = host_answers::code(cursor.len() < host_cursor::SIZE, refusal::NONE);
+    host_cursor::write(cursor, code, Cursor::start(datagram));
     code
 }
 
@@ -53,14 +52,14 @@ pub extern "C" fn eiderwagon_mold_next(cursor: &mut [u8], datagram: &[u8], words
     ensures { λ r. ⌜ Reports r (now (words .entry)) (now (words .exit)) (ltb (length (now (cursor .entry))) cursorSize) 0 (locatedWords (located (now (datagram .entry)) (cursorIn (now (cursor .entry))))) ⌝ }
     ensures keeps { λ r. ⌜ KeepsCursor r (now (cursor .entry)) (now (cursor .exit)) (moved (now (datagram .entry)) (cursorIn (now (cursor .entry)))) ⌝ }
 {
-    let at = cursor_state::read(cursor);
+    let at = host_cursor::read(cursor);
     let values = located_words(at.locate(datagram));
     let code = host_answers::report(
         words,
-        cursor.len() < cursor_state::SIZE,
+        cursor.len() < host_cursor::SIZE,
         refusal::NONE,
         &values,
     );
-    cursor_state::write(cursor, code, at.next(datagram));
+    host_cursor::write(cursor, code, at.next(datagram));
     code
 }

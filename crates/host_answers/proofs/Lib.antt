@@ -1,4 +1,5 @@
 pub mod AnswerLaws
 pub mod WritingLaws
 pub mod PromiseLaws
+pub mod StateLaws
 pub mod Rules

@@ -1,9 +1,13 @@
 -- The laws that the functions' proofs need, for `search`: one set for each task.
 use borrow.Author.Needs.{needs}
+use mathlib.Core.Path.{refl}
 use Rattle.wire.proofs.Copy.{copied-start, copied-kept}
 use Rattle.host_answers.proofs.AnswerLaws.{code-lacks, code-has, has-room, success, no-success, laid-step, laid-end, reports-wrote, reports-refused}
 use Rattle.host_answers.proofs.WritingLaws.{writing-short, writing-reported, words-short, words-reported}
+use Rattle.host_answers.proofs.StateLaws.{flag-set}
 use Rattle.host_answers.proofs.PromiseLaws.{host-promises}
+
+pub ruleset flags = (flag-set, refl, needs)
 
 pub ruleset codes = (code-lacks, code-has, needs)
 

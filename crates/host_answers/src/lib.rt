@@ -1,4 +1,7 @@
-// What every exported function answers with: a code, 0 or the number of a refusal, and values laid into lent words on success alone.
+// What every exported function answers with: a code, 0 or the number of a refusal, and values laid into lent words on success
+// alone; and what the states that a host keeps share.
+//
+// A state is bytes of a fixed layout. Any bytes are one, and it is laid on success alone: the code of the call that made it is given with it.
 use wire::output::Written;
 use wire::refusal;
 use wire::refusal::Refusal;
@@ -7,6 +10,7 @@ ghost use Prim.Native.Nat.{_≤_};
 ghost use mathlib.Core.Bool.{false};
 ghost use lib.ListN.{length};
 ghost use Rattle.wire.specs.Output.{put, writtenWords};
+ghost use Rattle.host_answers.specs.States.{flagOf};
 ghost use Rattle.host_answers.specs.Answers.{codeOf, flag, padded, Reports, HostPromises};
 
 // The words of a writer's answer: how many bytes it wrote.
@@ -30,6 +34,13 @@ pub fn flag(set: bool) -> u8
     ensures { λ r. ⌜ r ≡ flag set ⌝ }
 {
     if set { 1 } else { 0 }
+}
+
+// A flag in a byte: it is set when the byte isn't 0.
+pub fn is_set(byte: u8) -> bool
+    ensures { λ r. ⌜ r ≡ flagOf byte ⌝ }
+{
+    byte != 0
 }
 
 // Lays values into words that have room for them.

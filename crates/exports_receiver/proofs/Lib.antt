@@ -1,0 +1,4 @@
+pub mod ReplyLaws
+pub mod ReceiverLaws
+pub mod RunLaws
+pub mod Rules

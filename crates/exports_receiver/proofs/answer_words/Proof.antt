@@ -1,0 +1,52 @@
+-- Each case by its number and values.
+use Rattle.receiver.specs.Table.{answerWords}
+use Rattle.host_answers.specs.Answers.{padded, wordsAt}
+use Rattle.exports_receiver.specs.Replies.{replyNumber}
+use Rattle.exports_receiver.proofs.Rules.{words}
+use Rattle.exports_receiver.proofs.answer_words.Statement.{statement}
+use Rattle.exports_receiver.proofs.answer_words.Tie as tie
+
+returns : tie.Need-returns
+unfolding answerWords wordsAt replyNumber padded
+returns c = search words
+
+returns-2 : tie.Need-returns-2
+unfolding answerWords wordsAt replyNumber padded
+returns-2 c = search words
+
+returns-3 : tie.Need-returns-3
+unfolding answerWords wordsAt replyNumber padded
+returns-3 c = search words
+
+returns-4 : tie.Need-returns-4
+unfolding answerWords wordsAt replyNumber padded
+returns-4 c = search words
+
+returns-5 : tie.Need-returns-5
+unfolding answerWords wordsAt replyNumber padded
+returns-5 c = search words
+
+returns-6 : tie.Need-returns-6
+unfolding answerWords wordsAt replyNumber padded
+returns-6 c = search words
+
+pub answer-words-spec : {M : Type 1} → statement M
+answer-words-spec =
+    tie.close
+    (tie.spec
+    (λ c. search words)  -- enum-known-answer
+    (λ c. search words)  -- cast-t10
+    (λ c. search words)  -- cast-t11
+    (λ c. search words)  -- enum-told
+    (λ c. search words)  -- enum-told-2
+    (λ c. search words)  -- enum-known-answer-2
+    (λ c. search words)  -- cast-t18
+    (λ c. search words)  -- enum-told-3
+    (λ c. search words)  -- enum-known-answer-3
+    returns
+    returns-2
+    returns-3
+    returns-4
+    returns-5
+    returns-6
+    )

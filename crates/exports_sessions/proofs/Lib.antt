@@ -1,2 +1,0 @@
-pub mod SessionLaws
-pub mod Rules

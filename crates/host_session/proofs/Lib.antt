@@ -1,0 +1,3 @@
+pub mod SessionLaws
+pub mod ReplyLaws
+pub mod Rules

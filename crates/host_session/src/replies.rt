@@ -1,0 +1,56 @@
+// What a step of either end answers, in words.
+use soupbintcp_session::answer::Answer;
+use wire::refusal;
+use wire::refusal::Refusal;
+ghost use mathlib.Core.Path.{_≡_};
+ghost use mathlib.Core.List.{[], _∷_};
+ghost use Rattle.soupbintcp_session.specs.Answer.{answerWords};
+ghost use Rattle.host_answers.specs.Answers.{wordsOf};
+ghost use Rattle.host_session.specs.Replies.{replyNumber, sized, AnswersApart};
+
+// The words of an answer: which it is, how many bytes the step took, and its three values.
+const ANSWER_WORDS: usize = 5;
+
+// An answer as a host gets it: its refusal, or its words.
+pub struct SaidAnswer {
+    pub refusal: Refusal,
+    pub words: [u64; ANSWER_WORDS],
+}
+
+fn says(kind: u64, size: u64, a: u64, b: u64, c: u64) -> SaidAnswer
+    ensures { λ r. ⌜ (r .refusal .number ≡ 0) × (r .words ≡ kind ∷ size ∷ a ∷ b ∷ c ∷ []) ⌝ }
+{
+    SaidAnswer {
+        refusal: refusal::NONE,
+        words: [kind, size, a, b, c],
+    }
+}
+
+// An answer to a step that took so many bytes.
+pub fn answer_words(answer: Answer, size: usize) -> SaidAnswer
+    ensures { λ r. ⌜ (r .refusal .number ≡ answerWords answer .refusal) × (r .words ≡ wordsOf replyNumber 5 (sized size (answerWords answer))) ⌝ }
+    ensures tells_apart { λ _. ⌜ AnswersApart ⌝ }
+{
+    let taken = size as u64;
+    match answer {
+        Answer::NeedMore => says(0, taken, 0, 0, 0),
+        Answer::Accepted { number } => says(1, taken, number.0, 0, 0),
+        Answer::Rejected { reason } => says(2, taken, reason as u64, 0, 0),
+        Answer::Sequenced { number, at, length } => says(
+            3,
+            taken,
+            number.0,
+            at.0 as u64,
+            length as u64,
+        ),
+        Answer::Unsequenced { at, length } => says(4, taken, at.0 as u64, length as u64, 0),
+        Answer::Heartbeat => says(5, taken, 0, 0, 0),
+        Answer::Debug => says(6, taken, 0, 0, 0),
+        Answer::LoggedOut => says(7, taken, 0, 0, 0),
+        Answer::EndOfSession => says(8, taken, 0, 0, 0),
+        Answer::Refused(r) => SaidAnswer {
+            refusal: r,
+            words: [0; ANSWER_WORDS],
+        },
+    }
+}

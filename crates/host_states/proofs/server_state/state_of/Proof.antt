@@ -1,8 +1,0 @@
--- One law for each case.
-use Rattle.host_states.proofs.Rules.{servers}
-use Rattle.host_states.proofs.server_state.state_of.Statement.{statement}
-use Rattle.host_states.proofs.server_state.state_of.Tie as tie
-
-pub state-of-spec : {M : Type 1} → statement M
-state-of-spec =
-    tie.close (tie.spec (λ c. search servers) (λ c. search servers) (λ c. search servers))

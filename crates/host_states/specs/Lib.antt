@@ -1,6 +1,0 @@
-pub mod Fields
-pub mod Cursor
-pub mod Receiver
-pub mod Session
-pub mod Reading
-pub mod Statements
