@@ -12,10 +12,10 @@ use Rattle.wire.specs.Words.{Words, Case, answer, refused}
 use Rattle.wire.specs.Bytes.{sameBytes}
 use Rattle.wire.proofs.Words.{read-back}
 use Rattle.wire.proofs.Same.{same-equal}
-use Rattle.moldudp64.specs.Downstream.{Kind, data-packet, heartbeat, end-of-session}
-use Rattle.receiver.specs.Table.{Reply, deliver, old, quiet, ask, ended}
+use Rattle.moldudp64.specs.Downstream.{DownstreamKind, data-packet, heartbeat, end-of-session}
+use Rattle.receiver.specs.Table.{AnswerKind, deliver, old, quiet, ask, ended}
 use Rattle.soupbintcp.specs.Letters as soup
-use Rattle.soupbintcp.specs.Front.{Fronting, packet, wants-more}
+use Rattle.soupbintcp.specs.Front.{FrontKind, packet, wants-more}
 use Rattle.soupbintcp_session.specs.Answer as session
 use Rattle.acceptance.specs.Examples.{Example, takes, reads, fronts, logs-in, Answered, Result}
 
@@ -62,37 +62,37 @@ module _ {K : Type 0} (code : K → ℕ) (kind : ℕ → K) (back : (k : K) → 
 
 -- ---- the four kinds of words
 
-abbrev replyCode : Reply → ℕ
+abbrev replyCode : AnswerKind → ℕ
 replyCode deliver = 0
 replyCode old = 1
 replyCode quiet = 2
 replyCode ask = 3
 replyCode ended = 4
 
-abbrev replyOf : ℕ → Reply
+abbrev replyOf : ℕ → AnswerKind
 replyOf n = if eqb n 0 then deliver else if eqb n 1 then old else if eqb n 2 then quiet else if eqb n 3 then ask else ended
 
-pub reply-back : (k : Reply) → replyOf (replyCode k) ≡ k
+pub reply-back : (k : AnswerKind) → replyOf (replyCode k) ≡ k
 reply-back deliver = refl
 reply-back old = refl
 reply-back quiet = refl
 reply-back ask = refl
 reply-back ended = refl
 
-abbrev kindCode : Kind → ℕ
+abbrev kindCode : DownstreamKind → ℕ
 kindCode data-packet = 0
 kindCode heartbeat = 1
 kindCode end-of-session = 2
 
-abbrev kindOfCode : ℕ → Kind
+abbrev kindOfCode : ℕ → DownstreamKind
 kindOfCode n = if eqb n 0 then data-packet else if eqb n 1 then heartbeat else end-of-session
 
-pub kind-back : (k : Kind) → kindOfCode (kindCode k) ≡ k
+pub kind-back : (k : DownstreamKind) → kindOfCode (kindCode k) ≡ k
 kind-back data-packet = refl
 kind-back heartbeat = refl
 kind-back end-of-session = refl
 
-abbrev frontCode : Fronting → ℕ
+abbrev frontCode : FrontKind → ℕ
 frontCode (packet soup.debug) = 0
 frontCode (packet soup.accepted) = 1
 frontCode (packet soup.rejected) = 2
@@ -105,7 +105,7 @@ frontCode (packet soup.client-heartbeat) = 8
 frontCode (packet soup.logout) = 9
 frontCode wants-more = 10
 
-abbrev frontOfCode : ℕ → Fronting
+abbrev frontOfCode : ℕ → FrontKind
 frontOfCode n =
     if eqb n 0 then packet soup.debug
     else if eqb n 1 then packet soup.accepted
@@ -119,7 +119,7 @@ frontOfCode n =
     else if eqb n 9 then packet soup.logout
     else wants-more
 
-pub front-back : (k : Fronting) → frontOfCode (frontCode k) ≡ k
+pub front-back : (k : FrontKind) → frontOfCode (frontCode k) ≡ k
 front-back (packet soup.debug) = refl
 front-back (packet soup.accepted) = refl
 front-back (packet soup.rejected) = refl
@@ -132,7 +132,7 @@ front-back (packet soup.client-heartbeat) = refl
 front-back (packet soup.logout) = refl
 front-back wants-more = refl
 
-abbrev sessionCode : session.Reply → ℕ
+abbrev sessionCode : session.SessionAnswerKind → ℕ
 sessionCode session.wants-more = 0
 sessionCode session.accepted = 1
 sessionCode session.rejected = 2
@@ -143,7 +143,7 @@ sessionCode session.debug = 6
 sessionCode session.logged-out = 7
 sessionCode session.end-of-session = 8
 
-abbrev sessionOfCode : ℕ → session.Reply
+abbrev sessionOfCode : ℕ → session.SessionAnswerKind
 sessionOfCode n =
     if eqb n 0 then session.wants-more
     else if eqb n 1 then session.accepted
@@ -155,7 +155,7 @@ sessionOfCode n =
     else if eqb n 7 then session.logged-out
     else session.end-of-session
 
-pub session-back : (k : session.Reply) → sessionOfCode (sessionCode k) ≡ k
+pub session-back : (k : session.SessionAnswerKind) → sessionOfCode (sessionCode k) ≡ k
 session-back session.wants-more = refl
 session-back session.accepted = refl
 session-back session.rejected = refl
@@ -201,7 +201,7 @@ answer-equal a b e =
     let j = eqb-true (a .next) (b .next) (second-of messages (eqb (a .next) (b .next)) rest) in
     answered h i j
   where
-    answered : {w v : Words Reply} {ls ms : List (List ℕ)} {n k : ℕ} → w ≡ v → ls ≡ ms → n ≡ k
+    answered : {w v : Words AnswerKind} {ls ms : List (List ℕ)} {n k : ℕ} → w ≡ v → ls ≡ ms → n ≡ k
         → _≡_ {A = Answered} (record { reply = w; delivered = ls; next = n }) (record { reply = v; delivered = ms; next = k })
     answered h i j = cc
 

@@ -12,7 +12,7 @@ use Rattle.receiver.specs.Condition3 as receiver
 use Rattle.receiver.specs.Witnesses.{NotVacuous, NotWeak}
 use Rattle.soupbintcp_writer.specs.RoundTrips.{EveryPacketWritesBack, PayloadRoundTrip, LetterRoundTrip, AcceptedRoundTrip, RejectedRoundTrip, LoginRoundTrip}
 use Rattle.login.specs.declared.account.Account.{Account}
-use Rattle.login.specs.Account.{Knowing}
+use Rattle.login.specs.Account.{VerdictKind}
 use Rattle.login.specs.Statements.{AcceptedExactlyWhen, NeverAccepted}
 use Rattle.soupbintcp_server.specs.declared.server.Server.{Server}
 use Rattle.soupbintcp_client.specs.declared.client.Client.{Client}
@@ -48,7 +48,7 @@ pub record Condition1 : Type 0 where
   pub receiver : (r : Receiver) (l : List ℕ) → (refusalFor r l ≡ 0 → ⊥) → Refuses answerOf receiverAfter r l
   -- the session is as it was, no bytes are taken, and no other number is given; so it is where more is needed
   pub server : (table : List Account) → ChangesNothing Server (serverStep table)
-  pub server-with : (verdict : List ℕ → Words Knowing) → ChangesNothing Server (λ s l. stepWith s (verdict l) l)
+  pub server-with : (verdict : List ℕ → Words VerdictKind) → ChangesNothing Server (λ s l. stepWith s (verdict l) l)
   pub client : ChangesNothing Client clientStep
   -- a function for hosts in other languages: no word, no byte of an output and no byte of a state has changed
   pub host-answers : RefusalChangesNothing

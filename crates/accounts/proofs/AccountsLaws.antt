@@ -9,7 +9,7 @@ use lib.Dec.{lit≤}
 use borrow.Author.Tests.{le-ltb, lt-ltb}
 use Rattle.wire.proofs.Cases.{below-or-not}
 use Rattle.login.specs.declared.account.Account.{Account}
-use Rattle.login.specs.Table.{recordOf, recordsUpTo, recordsOf}
+use Rattle.login.specs.Table.{accountOf, accountsUpTo, accountsOf}
 use Rattle.accounts.specs.Accounts.{usedOf, Sized, AllSized, none, one-more, flat, FlatIsTheSame}
 
 -- ---- a table by value
@@ -35,8 +35,8 @@ module _ (a : Account) (s : Sized a) where
     front-away : drop 16 (a .username ++ a .password ++ rest) ≡ rest
     front-away = drop-at (a .username ++ a .password) rest 16 front-length
 
-    front-record : recordOf (a .username ++ a .password ++ rest) ≡ a
-    unfolding recordOf
+    front-record : accountOf (a .username ++ a .password ++ rest) ≡ a
+    unfolding accountOf
     front-record =
         rw (append-assoc (a .username) (a .password) rest, take-at (a .username) (a .password ++ rest) 6 (s .username), drop-at (a .username) (a .password ++ rest) 6 (s .username), take-at (a .password) rest 10 (s .password)) refl
 
@@ -45,35 +45,35 @@ unfolding flat
 flat-length [] none = refl
 flat-length (a ∷ t) (one-more _ _ s ss) = omega (arith, length-append (a .username ++ a .password) (flat t), front-length a s, flat-length t ss)
 
-up-to-flat : (t : List Account) (left : List ℕ) → AllSized t → recordsUpTo (length t) (flat t ++ left) ≡ t
-unfolding flat recordsUpTo
+up-to-flat : (t : List Account) (left : List ℕ) → AllSized t → accountsUpTo (length t) (flat t ++ left) ≡ t
+unfolding flat accountsUpTo
 up-to-flat [] left none = refl
 up-to-flat (a ∷ t) left (one-more _ _ s ss) =
     rw (append-assoc (a .username ++ a .password) (flat t) left, front-record a s (flat t ++ left), front-away a s (flat t ++ left), up-to-flat t left ss) refl
 
-flat-records : (t : List Account) (left : List ℕ) → AllSized t → length left < 16 → recordsOf (flat t ++ left) ≡ t
-unfolding recordsOf
+flat-records : (t : List Account) (left : List ℕ) → AllSized t → length left < 16 → accountsOf (flat t ++ left) ≡ t
+unfolding accountsOf
 flat-records t left ss h =
     let e : length (flat t ++ left) / 16 ≡ length t = omega (arith, length-append (flat t) left, flat-length t ss) in
     rw e (up-to-flat t left ss)
 
 -- ---- bytes as records
 
-record-sized : (l : List ℕ) → 16 ≤ length l → Sized (recordOf l)
-unfolding recordOf
+record-sized : (l : List ℕ) → 16 ≤ length l → Sized (accountOf l)
+unfolding accountOf
 record-sized l h =
     let d = length-drop 6 l in
     record { username = length-take-le 6 l (omega arith); password = length-take-le 10 (drop 6 l) (omega arith) }
 
-up-to-sized : (n : ℕ) (l : List ℕ) → n * 16 ≤ length l → AllSized (recordsUpTo n l)
-unfolding recordsUpTo
+up-to-sized : (n : ℕ) (l : List ℕ) → n * 16 ≤ length l → AllSized (accountsUpTo n l)
+unfolding accountsUpTo
 up-to-sized zero l h = none
 up-to-sized (suc n) l h =
     let d = length-drop 16 l in
-    one-more (recordOf l) (recordsUpTo n (drop 16 l)) (record-sized l (omega arith)) (up-to-sized n (drop 16 l) (omega arith))
+    one-more (accountOf l) (accountsUpTo n (drop 16 l)) (record-sized l (omega arith)) (up-to-sized n (drop 16 l) (omega arith))
 
-records-sized : (l : List ℕ) → AllSized (recordsOf l)
-unfolding recordsOf
+records-sized : (l : List ℕ) → AllSized (accountsOf l)
+unfolding accountsOf
 records-sized l = up-to-sized (length l / 16) l (omega arith)
 
 pub flat-same : FlatIsTheSame

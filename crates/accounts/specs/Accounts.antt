@@ -7,7 +7,7 @@ use lib.Dec.{ltb}
 use Rattle.wire.specs.Choice.{if_then_else_}
 use Rattle.text_fields.specs.Sound.{usernameSize, passwordSize}
 use Rattle.login.specs.declared.account.Account.{Account}
-use Rattle.login.specs.Table.{recordSize, recordsOf}
+use Rattle.login.specs.Table.{accountSize, accountsOf}
 
 -- how many records a table by value has
 abbrev pub tableRecords : ℕ
@@ -36,5 +36,5 @@ flat (a ∷ t) = a .username ++ a .password ++ flat t
 -- with bytes left over, which are no record, they are the same records, and so give the same answers; and every table that is lent as
 -- bytes holds such records
 pub record FlatIsTheSame : Type 0 where
-  pub records : (t : List Account) (left : List ℕ) → AllSized t → length left < recordSize → recordsOf (flat t ++ left) ≡ t
-  pub sized : (l : List ℕ) → AllSized (recordsOf l)
+  pub records : (t : List Account) (left : List ℕ) → AllSized t → length left < accountSize → accountsOf (flat t ++ left) ≡ t
+  pub sized : (l : List ℕ) → AllSized (accountsOf l)

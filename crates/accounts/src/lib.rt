@@ -9,7 +9,7 @@ use soupbintcp_server::server::Stepped;
 ghost use mathlib.Core.Path.{_≡_};
 ghost use lib.ListN.{take};
 ghost use Rattle.login.specs.Account.{verdictWords, lookupOf};
-ghost use Rattle.soupbintcp_server.specs.Server.{Steps, serverStep};
+ghost use Rattle.soupbintcp_server.specs.Server.{ServerSteps, serverStep};
 ghost use Rattle.accounts.specs.Accounts.{usedOf, FlatIsTheSame};
 
 // How many records a table by value has.
@@ -36,7 +36,7 @@ pub fn lookup(table: &[Account], entry: Account) -> Verdict
 
 // Takes the front of a client's stream, as the server's own step does with a table that is lent as bytes.
 pub fn step(server: Server, table: &[Account], stream: &[u8]) -> Stepped
-    ensures { λ r. ⌜ Steps r (serverStep (now (table .entry)) server (now (stream .entry))) ⌝ }
+    ensures { λ r. ⌜ ServerSteps r (serverStep (now (table .entry)) server (now (stream .entry))) ⌝ }
 {
     server.step_with(lookup(table, server::entry(stream)), stream)
 }
@@ -57,7 +57,7 @@ pub fn lookup_among(table: [Account; RECORDS], used: usize, entry: Account) -> V
 
 // The step over the first records of a table by value.
 pub fn step_among(server: Server, table: [Account; RECORDS], used: usize, stream: &[u8]) -> Stepped
-    ensures { λ r. ⌜ Steps r (serverStep (take (usedOf used) table) server (now (stream .entry))) ⌝ }
+    ensures { λ r. ⌜ ServerSteps r (serverStep (take (usedOf used) table) server (now (stream .entry))) ⌝ }
 {
     server.step_with(lookup_among(table, used, server::entry(stream)), stream)
 }

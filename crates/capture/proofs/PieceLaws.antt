@@ -9,7 +9,7 @@ use lib.Seq.{drop-append-le, drop-drop}
 use borrow.Author.Tests.{lt-ltb, le-ltb, ltb-true, eq-eqb, ne-eqb}
 use Rattle.wire.specs.Bytes.{joined, AreBytes}
 use Rattle.wire.proofs.Cases.{below-or-not, zero-or-not}
-use Rattle.capture_settings.specs.Settings.{readOf}
+use Rattle.capture_settings.specs.Settings.{settingsOf}
 use Rattle.capture_settings.specs.Statements.{longest, Settled}
 use Rattle.capture_settings.proofs.TextLaws.{settings-promises}
 use Rattle.capture_records.specs.Records.{mostRecords, datagramsOf, restOf}
@@ -20,7 +20,7 @@ use Rattle.capture.specs.declared.reading.Stage.{Stage}
 use Rattle.capture.specs.declared.reading.Stage.the-variants.{Settings, Records, Done, Refused}
 use Rattle.capture.specs.declared.reading.Reading.{Reading}
 use Rattle.capture.specs.declared.reading.Fed.{Fed}
-use Rattle.capture.specs.Reading.{reading, fed, roomOf, takeOf, startedOf, openOf, advanceAt, waits, isOver, feedOf, endOf, endAt, finishOf}
+use Rattle.capture.specs.Reading.{reading, fed, roomOf, takeOf, startedOf, openOf, advanceAt, waits, isOver, feedOf, endOf, endAtStage, finishOf}
 use Rattle.capture.specs.Whole.{byPieces, mostKept, KeepsLittle, OverStays}
 use Rattle.capture.proofs.TakeLaws.{is-part, left-short, joins, over-append, taken}
 use Rattle.capture.proofs.StageLaws.{size-within, take-used, open-used}
@@ -32,7 +32,7 @@ abbrev pub recordsEnd : Report → List ℕ → Reading
 recordsEnd x l = reading Done (endOf (over x (datagramsOf (roomOf x) l)) (length (restOf (roomOf x) l)))
 
 pub end-records : (x : Report) (l : List ℕ) → finishOf (reading Records x) l ≡ recordsEnd x l
-unfolding finishOf advanceAt takeOf endAt
+unfolding finishOf advanceAt takeOf endAtStage
 end-records x l =
     let w = is-part (roomOf x) l .within in
     let e : length l - (length l - length (restOf (roomOf x) l)) ≡ length (restOf (roomOf x) l) = omega arith in
@@ -57,50 +57,50 @@ take-reading x l = refl
 
 -- the records after the settings of l, and the report that they go to
 abbrev pub afterSettings : List ℕ → List ℕ
-afterSettings l = drop (readOf l .size) l
+afterSettings l = drop (settingsOf l .size) l
 
 abbrev pub freshFor : List ℕ → Report
-freshFor l = freshOf (startedOf (readOf l .settings))
+freshFor l = freshOf (startedOf (settingsOf l .settings))
 
-module _ (x : Report) (l : List ℕ) (z : readOf l .refusal .number ≡ 0) where
-  open-so : openOf x l ≡ fed (takeOf (freshFor l) (afterSettings l) .reading) (readOf l .size + takeOf (freshFor l) (afterSettings l) .used)
+module _ (x : Report) (l : List ℕ) (z : settingsOf l .refusal .number ≡ 0) where
+  open-so : openOf x l ≡ fed (takeOf (freshFor l) (afterSettings l) .reading) (settingsOf l .size + takeOf (freshFor l) (afterSettings l) .used)
   unfolding openOf
   open-so = rw (eq-eqb _ _ z)
 
   open-left : drop (openOf x l .used) l ≡ restOf (roomOf (freshFor l)) (afterSettings l)
   open-left =
-      rw open-so (sym (drop-drop (takeOf (freshFor l) (afterSettings l) .used) (readOf l .size) l) ∙ take-left (freshFor l) (drop (readOf l .size) l))
+      rw open-so (sym (drop-drop (takeOf (freshFor l) (afterSettings l) .used) (settingsOf l .size) l) ∙ take-left (freshFor l) (drop (settingsOf l .size) l))
 
   pub end-opened : finishOf (reading Settings x) l ≡ recordsEnd (freshFor l) (afterSettings l)
-  unfolding finishOf advanceAt takeOf endAt
+  unfolding finishOf advanceAt takeOf endAtStage
   end-opened =
       let w = is-part (roomOf (freshFor l)) (afterSettings l) .within in
       let h = size-within l in
-      let n = length-drop (readOf l .size) l in
-      let e : length l - (readOf l .size + (length (drop (readOf l .size) l) - length (restOf (roomOf (freshFor l)) (drop (readOf l .size) l)))) ≡ length (restOf (roomOf (freshFor l)) (drop (readOf l .size) l)) = omega arith in
+      let n = length-drop (settingsOf l .size) l in
+      let e : length l - (settingsOf l .size + (length (drop (settingsOf l .size) l) - length (restOf (roomOf (freshFor l)) (drop (settingsOf l .size) l)))) ≡ length (restOf (roomOf (freshFor l)) (drop (settingsOf l .size) l)) = omega arith in
       rw (open-so, e)
 
-module _ (x : Report) (l : List ℕ) (z : readOf l .refusal .number ≡ 0 → ⊥) where
+module _ (x : Report) (l : List ℕ) (z : settingsOf l .refusal .number ≡ 0 → ⊥) where
   open-bad : openOf x l ≡ fed (reading Refused x) (length l)
   unfolding openOf
   open-bad = rw (ne-eqb _ _ z)
 
   pub end-refused : finishOf (reading Settings x) l ≡ reading Refused x
-  unfolding finishOf advanceAt endAt
+  unfolding finishOf advanceAt endAtStage
   end-refused = rw open-bad
 
 -- ---- one piece more
 
-settled : (a b : List ℕ) → longest ≤ length a → readOf (a ++ b) ≡ readOf a
+settled : (a b : List ℕ) → longest ≤ length a → settingsOf (a ++ b) ≡ settingsOf a
 unfolding Settled
 settled = settings-promises .settled
 
 refused-stays : (x : Report) (l : List ℕ) → finishOf (reading Refused x) l ≡ reading Refused x
-unfolding finishOf advanceAt endAt
+unfolding finishOf advanceAt endAtStage
 refused-stays x l = refl
 
 done-stays : (x : Report) (l : List ℕ) → finishOf (reading Done x) l ≡ reading Done x
-unfolding finishOf advanceAt endAt
+unfolding finishOf advanceAt endAtStage
 done-stays x l = refl
 
 -- what feeding l does to finishing with b behind it
@@ -117,30 +117,30 @@ piece-records x l b =
     rw (take-left x l, take-reading x l, end-records (over x (datagramsOf (roomOf x) l)) (restOf (roomOf x) l ++ b), end-records x (l ++ b)) (fed-records x l b)
 
 module _ (x : Report) (l b : List ℕ) (h : longest ≤ length l) where
-  same-read : readOf (l ++ b) ≡ readOf l
+  same-read : settingsOf (l ++ b) ≡ settingsOf l
   same-read = settled l b h
 
-  piece-open : readOf l .refusal .number ≡ 0 → Piece (reading Settings x) l b
+  piece-open : settingsOf l .refusal .number ≡ 0 → Piece (reading Settings x) l b
   unfolding Piece feedOf waits advanceAt
   piece-open z =
-      let y : Report = freshOf (startedOf (readOf l .settings)) in
-      let m : List ℕ = drop (readOf l .size) l in
-      let g : readOf (l ++ b) .refusal .number ≡ 0 = rw same-read z in
-      let d : drop (readOf l .size) (l ++ b) ≡ drop (readOf l .size) l ++ b = drop-append-le (readOf l .size) l b (size-within l) in
+      let y : Report = freshOf (startedOf (settingsOf l .settings)) in
+      let m : List ℕ = drop (settingsOf l .size) l in
+      let g : settingsOf (l ++ b) .refusal .number ≡ 0 = rw same-read z in
+      let d : drop (settingsOf l .size) (l ++ b) ≡ drop (settingsOf l .size) l ++ b = drop-append-le (settingsOf l .size) l b (size-within l) in
       let r : openOf x l .reading ≡ reading Records (over y (datagramsOf (roomOf y) m)) = ap (λ (f : Fed). f .reading) (open-so x l z) ∙ take-reading y m in
       let u : drop (openOf x l .used) l ≡ restOf (roomOf y) m = open-left x l z in
       rw (le-ltb _ _ h, r, u, end-records (over y (datagramsOf (roomOf y) m)) (restOf (roomOf y) m ++ b), end-opened x (l ++ b) g, same-read, d) (fed-records y m b)
 
-  piece-bad : (readOf l .refusal .number ≡ 0 → ⊥) → Piece (reading Settings x) l b
+  piece-bad : (settingsOf l .refusal .number ≡ 0 → ⊥) → Piece (reading Settings x) l b
   unfolding Piece feedOf waits advanceAt
   piece-bad z =
-      let g : readOf (l ++ b) .refusal .number ≡ 0 → ⊥ = rw same-read z in
+      let g : settingsOf (l ++ b) .refusal .number ≡ 0 → ⊥ = rw same-read z in
       rw (le-ltb _ _ h, open-bad x l z, end-refused x (l ++ b) g) (refused-stays x (drop (length l) l ++ b))
 
 piece-settings : (x : Report) (l b : List ℕ) → Piece (reading Settings x) l b
 piece-settings x l b =
     below-or-not _ (length l) longest (piece-wait x l b)
-    (λ h. zero-or-not _ (readOf l .refusal .number) (piece-open x l b h) (piece-bad x l b h))
+    (λ h. zero-or-not _ (settingsOf l .refusal .number) (piece-open x l b h) (piece-bad x l b h))
 
 piece-at : (g : Stage) (x : Report) (l b : List ℕ) → Piece (reading g x) l b
 unfolding Piece feedOf waits advanceAt
@@ -178,22 +178,22 @@ record Little (f : Fed) (l : List ℕ) : Type 0 where
   uses : f .used ≤ length l
   keeps : AreBytes l → f .reading .report .records < mostRecords → length (drop (f .used) l) ≤ mostKept
 
-little-open : (x : Report) (l : List ℕ) → readOf l .refusal .number ≡ 0 → Little (openOf x l) l
+little-open : (x : Report) (l : List ℕ) → settingsOf l .refusal .number ≡ 0 → Little (openOf x l) l
 little-open x l z =
-    let y : Report = freshOf (startedOf (readOf l .settings)) in
-    let m : List ℕ = drop (readOf l .size) l in
+    let y : Report = freshOf (startedOf (settingsOf l .settings)) in
+    let m : List ℕ = drop (settingsOf l .size) l in
     let r : openOf x l .reading ≡ reading Records (over y (datagramsOf (roomOf y) m)) = ap (λ (f : Fed). f .reading) (open-so x l z) ∙ take-reading y m in
     record {
       uses = open-used x l;
-      keeps = λ small h. keeps-records y m (drop (openOf x l .used) l) (open-left x l z) (bytes-drop (readOf l .size) l small) (rw r at h);
+      keeps = λ small h. keeps-records y m (drop (openOf x l .used) l) (open-left x l z) (bytes-drop (settingsOf l .size) l small) (rw r at h);
     }
 
-little-bad : (x : Report) (l : List ℕ) → (readOf l .refusal .number ≡ 0 → ⊥) → Little (openOf x l) l
+little-bad : (x : Report) (l : List ℕ) → (settingsOf l .refusal .number ≡ 0 → ⊥) → Little (openOf x l) l
 little-bad x l z = record { uses = open-used x l; keeps = λ small h. rw (open-bad x l z) (gone l) }
 
 little-at : (g : Stage) (x : Report) (l : List ℕ) → Little (advanceAt g x l) l
 unfolding advanceAt
-little-at Settings x l = zero-or-not _ (readOf l .refusal .number) (little-open x l) (little-bad x l)
+little-at Settings x l = zero-or-not _ (settingsOf l .refusal .number) (little-open x l) (little-bad x l)
 little-at Records x l =
     record {
       uses = take-used x l;

@@ -16,10 +16,10 @@ use Rattle.wire.specs.declared.output.Written.{Written}
 use Rattle.wire.proofs.Numbers.{part-to-end}
 use Rattle.wire.proofs.Cases.{zero-or-not}
 use Rattle.receiver.specs.declared.receiver.Started.{Started}
-use Rattle.receiver.specs.Receiver.{startRefusal, startReceiver}
+use Rattle.receiver.specs.Receiver.{receiverStartRefusal, startReceiver}
 use Rattle.capture_settings.specs.declared.settings.Settings as declared
 use Rattle.capture_settings.specs.declared.settings.Opened.{Opened}
-use Rattle.capture_settings.specs.Settings.{readOf}
+use Rattle.capture_settings.specs.Settings.{settingsOf}
 use Rattle.capture_settings.specs.Statements.{SizeWithin}
 use Rattle.capture_settings.proofs.TextLaws.{settings-promises}
 use Rattle.capture_tally.specs.declared.report.Report.{Report}
@@ -29,28 +29,28 @@ use Rattle.capture.specs.declared.reading.Stage.{Stage}
 use Rattle.capture.specs.declared.reading.Stage.the-variants.{Settings, Records, Done, Refused}
 use Rattle.capture.specs.declared.reading.Reading.{Reading}
 use Rattle.capture.specs.declared.reading.Fed.{Fed}
-use Rattle.capture.specs.Reading.{reading, fed, startReading, takeOf, startedOf, openOf, advanceAt, advanceOf, waits, isOver, feedOf, endOf, endAt, finishOf, textAt, textOf}
+use Rattle.capture.specs.Reading.{reading, fed, startReading, takeOf, startedOf, openOf, advanceAt, advanceOf, waits, isOver, feedOf, endOf, endAtStage, finishOf, textAt, textOf}
 
 -- ---- the start
 
 pub start-reading : (s : Started) (x : Report) → s .receiver ≡ startReceiver blank 0 0 → x ≡ freshOf (s .receiver) → reading Settings x ≡ startReading
-unfolding startReading startReceiver startRefusal
+unfolding startReading startReceiver receiverStartRefusal
 start-reading s x e f = rw (f, e)
 
 -- ---- settings, and then records: o is what was read of l
 
-pub size-within : (l : List ℕ) → readOf l .size ≤ length l
+pub size-within : (l : List ℕ) → settingsOf l .size ≤ length l
 unfolding SizeWithin
 size-within = settings-promises .size-within
 
-pub open-within : (l : List ℕ) (o : Opened) → o ≡ readOf l → o .size ≤ length l
+pub open-within : (l : List ℕ) (o : Opened) → o ≡ settingsOf l → o .size ≤ length l
 open-within l o e = rw e (size-within l)
 
 pub take-used : (x : Report) (l : List ℕ) → takeOf x l .used ≤ length l
 unfolding takeOf
 take-used x l = omega arith
 
-pub open-refused : (x : Report) (l : List ℕ) (o : Opened) → o ≡ readOf l → (o .refusal .number ≡ 0 → ⊥) → fed (reading Refused x) (length l) ≡ openOf x l
+pub open-refused : (x : Report) (l : List ℕ) (o : Opened) → o ≡ settingsOf l → (o .refusal .number ≡ 0 → ⊥) → fed (reading Refused x) (length l) ≡ openOf x l
 unfolding openOf
 open-refused x l o e z = rw (← e, ne-eqb _ _ z)
 
@@ -59,14 +59,14 @@ pub start-fresh : (s : declared.Settings) (t : Started) (x : Report) → t .rece
 start-fresh s t x e f = f ∙ ap freshOf e
 
 module _ (x y : Report) (l : List ℕ) (o : Opened) (f : Fed) where
-  pub open-good : o ≡ readOf l → o .refusal .number ≡ 0 → y ≡ freshOf (startedOf (o .settings))
+  pub open-good : o ≡ settingsOf l → o .refusal .number ≡ 0 → y ≡ freshOf (startedOf (o .settings))
       → f ≡ takeOf y (take (length l - o .size) (drop (o .size) l)) → fed (f .reading) (o .size + f .used) ≡ openOf x l
   unfolding openOf
   open-good e z g t =
-      let u : f ≡ takeOf (freshOf (startedOf (readOf l .settings))) (drop (readOf l .size) l) = t ∙ rw (part-to-end, g, e) in
+      let u : f ≡ takeOf (freshOf (startedOf (settingsOf l .settings))) (drop (settingsOf l .size) l) = t ∙ rw (part-to-end, g, e) in
       rw (← e, eq-eqb _ _ z) (rw (u, e))
 
-pub open-fits : (y : Report) (l : List ℕ) (o : Opened) (f : Fed) → o ≡ readOf l → f ≡ takeOf y (take (length l - o .size) (drop (o .size) l))
+pub open-fits : (y : Report) (l : List ℕ) (o : Opened) (f : Fed) → o ≡ settingsOf l → f ≡ takeOf y (take (length l - o .size) (drop (o .size) l))
     → length l * 1 < 2 ^ 63 → Fits w64 (o .size + f .used)
 open-fits y l o f e t h =
     let a = open-within l o e in
@@ -145,14 +145,14 @@ module _ (s : Reading) (l : List ℕ) (w : Bool) where
 
 pub open-used : (x : Report) (l : List ℕ) → openOf x l .used ≤ length l
 unfolding openOf
-open-used x l = zero-or-not _ (readOf l .refusal .number) good bad
+open-used x l = zero-or-not _ (settingsOf l .refusal .number) good bad
   where
-    good : readOf l .refusal .number ≡ 0
-        → (if eqb (readOf l .refusal .number) 0 then fed (takeOf (freshOf (startedOf (readOf l .settings))) (drop (readOf l .size) l) .reading) (readOf l .size + takeOf (freshOf (startedOf (readOf l .settings))) (drop (readOf l .size) l) .used) else fed (reading Refused x) (length l)) .used ≤ length l
-    good z = rw (eq-eqb _ _ z) (omega (arith, size-within l, take-used (freshOf (startedOf (readOf l .settings))) (drop (readOf l .size) l), length-drop (readOf l .size) l))
+    good : settingsOf l .refusal .number ≡ 0
+        → (if eqb (settingsOf l .refusal .number) 0 then fed (takeOf (freshOf (startedOf (settingsOf l .settings))) (drop (settingsOf l .size) l) .reading) (settingsOf l .size + takeOf (freshOf (startedOf (settingsOf l .settings))) (drop (settingsOf l .size) l) .used) else fed (reading Refused x) (length l)) .used ≤ length l
+    good z = rw (eq-eqb _ _ z) (omega (arith, size-within l, take-used (freshOf (startedOf (settingsOf l .settings))) (drop (settingsOf l .size) l), length-drop (settingsOf l .size) l))
 
-    bad : (readOf l .refusal .number ≡ 0 → ⊥)
-        → (if eqb (readOf l .refusal .number) 0 then fed (takeOf (freshOf (startedOf (readOf l .settings))) (drop (readOf l .size) l) .reading) (readOf l .size + takeOf (freshOf (startedOf (readOf l .settings))) (drop (readOf l .size) l) .used) else fed (reading Refused x) (length l)) .used ≤ length l
+    bad : (settingsOf l .refusal .number ≡ 0 → ⊥)
+        → (if eqb (settingsOf l .refusal .number) 0 then fed (takeOf (freshOf (startedOf (settingsOf l .settings))) (drop (settingsOf l .size) l) .reading) (settingsOf l .size + takeOf (freshOf (startedOf (settingsOf l .settings))) (drop (settingsOf l .size) l) .used) else fed (reading Refused x) (length l)) .used ≤ length l
     bad z = rw (ne-eqb _ _ z) (omega arith)
 
 used-at : (g : Stage) (x : Report) (l : List ℕ) → advanceAt g x l .used ≤ length l
@@ -175,24 +175,24 @@ end-cut x y n z e = rw (ne-eqb _ _ z) e
 
 -- s was advanced to f, whose reading is of the stage that the code tells
 module _ (s : Reading) (l : List ℕ) (f : Fed) (e : f ≡ advanceOf s l) where
-  finish-at : (g : Stage) → f .reading .stage ≡ g → finishOf s l ≡ endAt g (f .reading .report) (length l - f .used)
+  finish-at : (g : Stage) → f .reading .stage ≡ g → finishOf s l ≡ endAtStage g (f .reading .report) (length l - f .used)
   unfolding finishOf
   finish-at g h = rw (← e, h)
 
   pub finish-settings : f .reading .stage ≡ Settings → f .reading ≡ finishOf s l
-  unfolding endAt
+  unfolding endAtStage
   finish-settings h = by-parts (f .reading) Settings h ∙ sym (finish-at Settings h)
 
   pub finish-records : (x : Report) → f .reading .stage ≡ Records → x ≡ endOf (f .reading .report) (length l - f .used) → reading Done x ≡ finishOf s l
-  unfolding endAt
+  unfolding endAtStage
   finish-records x h g = ap (reading Done) g ∙ sym (finish-at Records h)
 
   pub finish-done : f .reading .stage ≡ Done → f .reading ≡ finishOf s l
-  unfolding endAt
+  unfolding endAtStage
   finish-done h = by-parts (f .reading) Done h ∙ sym (finish-at Done h)
 
   pub finish-refused : f .reading .stage ≡ Refused → f .reading ≡ finishOf s l
-  unfolding endAt
+  unfolding endAtStage
   finish-refused h = by-parts (f .reading) Refused h ∙ sym (finish-at Refused h)
 
 -- ---- writing

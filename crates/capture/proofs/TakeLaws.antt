@@ -14,7 +14,7 @@ use Rattle.wire.proofs.Numbers.{part-to-end, number-append}
 use Rattle.receiver.specs.Feed.{Datagram}
 use Rattle.capture_records.specs.declared.records.Front.{Front}
 use Rattle.capture_records.specs.declared.records.Front.the-variants.{Whole, Short}
-use Rattle.capture_records.specs.Records.{mostRecords, sizeOf, isWhole, datagramOf, frontWords, frontOf, datagramsOf, restOf}
+use Rattle.capture_records.specs.Records.{mostRecords, recordSize, isWhole, datagramOf, recordWords, recordInFront, datagramsOf, restOf}
 use Rattle.capture_records.proofs.RecordLaws.{whole-within, IsFront, said-short, said-whole, whole-there}
 use Rattle.capture_tally.specs.declared.report.Report.{Report}
 use Rattle.capture_tally.specs.Report.{stepOf, over}
@@ -24,7 +24,7 @@ use Rattle.capture.specs.Reading.{reading, fed, roomOf, takeOf}
 
 -- ---- what the words say, as the loop has them: p is the front of l
 
-module _ (l : List ℕ) (p : Front) (k : ℕ) (e : frontWords p ≡ frontOf l) (f : p ≡ Whole k) where
+module _ (l : List ℕ) (p : Front) (k : ℕ) (e : recordWords p ≡ recordInFront l) (f : p ≡ Whole k) where
   front-is : IsFront l k
   front-is = said-whole l k (rw f at e)
 
@@ -41,7 +41,7 @@ module _ (k : ℕ) (l : List ℕ) where
   unfolding datagramsOf
   datagrams-none e = simp e
 
-  datagrams-some : isWhole l ≡ true → datagramsOf (suc k) l ≡ datagramOf l ∷ datagramsOf k (drop (sizeOf l) l)
+  datagrams-some : isWhole l ≡ true → datagramsOf (suc k) l ≡ datagramOf l ∷ datagramsOf k (drop (recordSize l) l)
   unfolding datagramsOf
   datagrams-some e = simp e
 
@@ -49,7 +49,7 @@ module _ (k : ℕ) (l : List ℕ) where
   unfolding restOf
   rest-none e = simp e
 
-  rest-some : isWhole l ≡ true → restOf (suc k) l ≡ restOf k (drop (sizeOf l) l)
+  rest-some : isWhole l ≡ true → restOf (suc k) l ≡ restOf k (drop (recordSize l) l)
   unfolding restOf
   rest-some e = simp e
 
@@ -80,7 +80,7 @@ unfolding over
 over-none x = refl
 
 pub going-step : {x₀ : Report} {l₀ : List ℕ} {x : Report} {l : List ℕ} {left : ℕ} (p : Front) (k : ℕ) (y : Report) → Going x₀ l₀ x l left → 0 < left
-    → frontWords p ≡ frontOf l → p ≡ Whole k → y ≡ stepOf x (take (k - 2) (drop 2 l)) → Going x₀ l₀ y (take (length l - k) (drop k l)) (left - 1)
+    → recordWords p ≡ recordInFront l → p ≡ Whole k → y ≡ stepOf x (take (k - 2) (drop 2 l)) → Going x₀ l₀ y (take (length l - k) (drop k l)) (left - 1)
 going-step {left = zero} p k y g h e f s = absurd (omega arith)
 going-step {x₀} {l₀} {x} {l} {left = suc n} p k y g h e f s =
     let i = front-is l p k e f in
@@ -89,7 +89,7 @@ going-step {x₀} {l₀} {x} {l} {left = suc n} p k y g h e f s =
     let t : y ≡ stepOf x (datagramOf l) = s ∙ ap (λ (j : ℕ). stepOf x (take (j - 2) (drop 2 l))) (i .size) in
     rw (part-to-end k l, sub-one)
     (record {
-      reports = rw (t, i .size) (sym (over-cons x (datagramOf l) (datagramsOf n (drop (sizeOf l) l))) ∙ ap (over x) (sym d) ∙ g .reports);
+      reports = rw (t, i .size) (sym (over-cons x (datagramOf l) (datagramsOf n (drop (recordSize l) l))) ∙ ap (over x) (sym d) ∙ g .reports);
       leaves = rw (i .size) (sym r ∙ g .leaves);
       shorter = omega (arith, length-drop k l, g .shorter);
     })
@@ -104,7 +104,7 @@ done {x₀} {l₀} {x} {l} {left} g d r =
     rw (← a, ← b)
 
 pub going-stop : {x₀ : Report} {l₀ : List ℕ} {x : Report} {l : List ℕ} {left : ℕ} (p : Front) → Going x₀ l₀ x l left → 0 < left
-    → frontWords p ≡ frontOf l → p ≡ Short → fed (reading Records x) (length l₀ - length l) ≡ takeOf x₀ l₀
+    → recordWords p ≡ recordInFront l → p ≡ Short → fed (reading Records x) (length l₀ - length l) ≡ takeOf x₀ l₀
 going-stop {left = zero} p g h e f = absurd (omega arith)
 going-stop {l = l} {left = suc n} p g h e f = let w = said-short l (rw f at e) in done g (datagrams-none n l w) (rest-none n l w)
 
@@ -128,7 +128,7 @@ by-front P l f g = go (isWhole l) refl
 pub few : (k : ℕ) (l : List ℕ) → length (datagramsOf k l) ≤ k
 few zero l = rw (datagrams-zero l) (omega arith)
 few (suc k) l =
-    let i = few k (drop (sizeOf l) l) in
+    let i = few k (drop (recordSize l) l) in
     by-front _ l (λ w. rw (datagrams-some k l w) (omega arith)) (λ w. rw (datagrams-none k l w) (omega arith))
 
 -- what is left is a part of the bytes, to their end
@@ -141,43 +141,43 @@ drop-none l m e = let z : length l - length l ≡ 0 = omega arith in rw (e, z)
 
 pub is-part : (k : ℕ) (l : List ℕ) → Part k l
 is-part zero l = record { within = rw (rest-zero l) (omega arith); part = drop-none l (restOf 0 l) (rest-zero l) }
-is-part (suc k) l = by-front _ l (some (is-part k (drop (sizeOf l) l))) none
+is-part (suc k) l = by-front _ l (some (is-part k (drop (recordSize l) l))) none
   where
     none : isWhole l ≡ false → Part (suc k) l
     none w = record { within = rw (rest-none k l w) (omega arith); part = drop-none l (restOf (suc k) l) (rest-none k l w) }
 
-    some : Part k (drop (sizeOf l) l) → isWhole l ≡ true → Part (suc k) l
+    some : Part k (drop (recordSize l) l) → isWhole l ≡ true → Part (suc k) l
     some i w =
-        let n = length-drop (sizeOf l) l in
+        let n = length-drop (recordSize l) l in
         let m = whole-within l w .most in
-        let e : sizeOf l + (length (drop (sizeOf l) l) - length (restOf k (drop (sizeOf l) l))) ≡ length l - length (restOf k (drop (sizeOf l) l)) = omega (arith, i .within) in
+        let e : recordSize l + (length (drop (recordSize l) l) - length (restOf k (drop (recordSize l) l))) ≡ length l - length (restOf k (drop (recordSize l) l)) = omega (arith, i .within) in
         record {
           within = rw (rest-some k l w) (omega (arith, i .within));
-          part = rw (rest-some k l w) (ap (λ (j : ℕ). drop j l) (sym e) ∙ sym (drop-drop _ (sizeOf l) l) ∙ i .part);
+          part = rw (rest-some k l w) (ap (λ (j : ℕ). drop j l) (sym e) ∙ sym (drop-drop _ (recordSize l) l) ∙ i .part);
         }
 
 -- where fewer than k records were read, what is left is no whole record
 pub left-short : (k : ℕ) (l : List ℕ) → length (datagramsOf k l) < k → isWhole (restOf k l) ≡ false
 left-short zero l h = absurd (omega arith)
-left-short (suc k) l h = by-front _ l (λ w. some (left-short k (drop (sizeOf l) l)) w h) (λ w. none w h)
+left-short (suc k) l h = by-front _ l (λ w. some (left-short k (drop (recordSize l) l)) w h) (λ w. none w h)
   where
     none : isWhole l ≡ false → length (datagramsOf (suc k) l) < suc k → isWhole (restOf (suc k) l) ≡ false
     none w h = rw (rest-none k l w) w
 
-    some : (length (datagramsOf k (drop (sizeOf l) l)) < k → isWhole (restOf k (drop (sizeOf l) l)) ≡ false) → isWhole l ≡ true
+    some : (length (datagramsOf k (drop (recordSize l) l)) < k → isWhole (restOf k (drop (recordSize l) l)) ≡ false) → isWhole l ≡ true
         → length (datagramsOf (suc k) l) < suc k → isWhole (restOf (suc k) l) ≡ false
     some i w h =
-        let e : length (datagramsOf (suc k) l) ≡ suc (length (datagramsOf k (drop (sizeOf l) l))) = ap length (datagrams-some k l w) in
+        let e : length (datagramsOf (suc k) l) ≡ suc (length (datagramsOf k (drop (recordSize l) l))) = ap length (datagrams-some k l w) in
         rw (rest-some k l w) (i (omega arith))
 
 -- ---- more bytes behind
 
 record Same (a b : List ℕ) : Type 0 where
-  same-size : sizeOf (a ++ b) ≡ sizeOf a
+  same-size : recordSize (a ++ b) ≡ recordSize a
   still-whole : isWhole (a ++ b) ≡ true
 
 whole-append : (a b : List ℕ) → isWhole a ≡ true → Same a b
-unfolding sizeOf
+unfolding recordSize
 whole-append a b w =
     let i = whole-within a w in
     let m : number a 0 2 + 2 ≤ length a = i .most in
@@ -195,21 +195,21 @@ joins zero a b =
       datagrams = rw (datagrams-zero a, rest-zero a);
       rest = rw (datagrams-zero a, rest-zero a);
     }
-joins (suc k) a b = by-front _ a (some (joins k (drop (sizeOf a) a) b)) none
+joins (suc k) a b = by-front _ a (some (joins k (drop (recordSize a) a) b)) none
   where
     none : isWhole a ≡ false → Joins (suc k) a b
     none w =
         let s : suc k - 0 ≡ suc k = omega arith in
         record { datagrams = rw (datagrams-none k a w, rest-none k a w, s); rest = rw (datagrams-none k a w, rest-none k a w, s) }
 
-    some : Joins k (drop (sizeOf a) a) b → isWhole a ≡ true → Joins (suc k) a b
+    some : Joins k (drop (recordSize a) a) b → isWhole a ≡ true → Joins (suc k) a b
     some j w =
         let x = whole-append a b w in
         let i = whole-within a w in
-        let d : drop (sizeOf a) (a ++ b) ≡ drop (sizeOf a) a ++ b = drop-append-le (sizeOf a) a b (i .most) in
+        let d : drop (recordSize a) (a ++ b) ≡ drop (recordSize a) a ++ b = drop-append-le (recordSize a) a b (i .most) in
         let c : drop 2 (a ++ b) ≡ drop 2 a ++ b = drop-append-le 2 a b (omega (arith, i .least, i .most)) in
-        let t : take (sizeOf a - 2) (drop 2 a ++ b) ≡ take (sizeOf a - 2) (drop 2 a) =
-        take-append-le (sizeOf a - 2) (drop 2 a) b (omega (arith, i .most, length-drop 2 a)) in
+        let t : take (recordSize a - 2) (drop 2 a ++ b) ≡ take (recordSize a - 2) (drop 2 a) =
+        take-append-le (recordSize a - 2) (drop 2 a) b (omega (arith, i .most, length-drop 2 a)) in
         let s : (n : ℕ) → suc k - suc n ≡ k - n = λ (n : ℕ). omega arith in
         record {
           datagrams = rw (datagrams-some k (a ++ b) (x .still-whole), x .same-size, c, t, d, datagrams-some k a w, rest-some k a w, j .datagrams, s);

@@ -12,11 +12,11 @@ use Rattle.wire.specs.Output.{Writes}
 use Rattle.wire.specs.declared.output.Written.{Written}
 use Rattle.wire.proofs.Cases.{below-or-not, zero-or-not}
 use Rattle.receiver.specs.declared.receiver.Receiver.{Receiver}
-use Rattle.receiver.specs.Receiver.{startRefusal, startReceiver, receiverAfter, refusedReceiver, refusalFor}
+use Rattle.receiver.specs.Receiver.{receiverStartRefusal, startReceiver, receiverAfter, refusedReceiver, refusalFor}
 use Rattle.receiver.specs.Feed.{Datagram, after}
 use Rattle.receiver.specs.Condition3.{plain}
 use Rattle.receiver.proofs.TableLaws.{row-after, refused-stays}
-use Rattle.capture_settings.specs.Settings.{readOf}
+use Rattle.capture_settings.specs.Settings.{settingsOf}
 use Rattle.capture_settings.specs.Statements.{Good}
 use Rattle.capture_settings.proofs.TextLaws.{settings-promises}
 use Rattle.capture_records.specs.Records.{mostRecords, restOf, recordsOf, isCut}
@@ -70,20 +70,20 @@ module _ (r : Receiver) (l : List ℕ) where
       zero-or-not _ (length (restOf mostRecords l)) ended-none
       (λ z. below-or-not _ (length (recordsOf l)) mostRecords (ended-cut z) (ended-most z))
 
-good : (l : List ℕ) → readOf l .refusal .number ≡ 0 → finishOf (reading Settings (freshOf refusedReceiver)) l ≡ captureOf l
+good : (l : List ℕ) → settingsOf l .refusal .number ≡ 0 → finishOf (reading Settings (freshOf refusedReceiver)) l ≡ captureOf l
 unfolding captureOf
 good l z =
     let n : mostRecords - 0 ≡ mostRecords = omega arith in
-    rw (eq-eqb _ _ z) (end-opened (freshOf refusedReceiver) l z ∙ ap (reading Done) (rw n (ended-so (startedOf (readOf l .settings)) (drop (readOf l .size) l))))
+    rw (eq-eqb _ _ z) (end-opened (freshOf refusedReceiver) l z ∙ ap (reading Done) (rw n (ended-so (startedOf (settingsOf l .settings)) (drop (settingsOf l .size) l))))
 
-bad : (l : List ℕ) → (readOf l .refusal .number ≡ 0 → ⊥) → finishOf (reading Settings (freshOf refusedReceiver)) l ≡ captureOf l
+bad : (l : List ℕ) → (settingsOf l .refusal .number ≡ 0 → ⊥) → finishOf (reading Settings (freshOf refusedReceiver)) l ≡ captureOf l
 unfolding captureOf
 bad l z = rw (ne-eqb _ _ z) (end-refused (freshOf refusedReceiver) l z)
 
 -- finishing with all bytes is the whole capture
 pub finish-whole : (l : List ℕ) → finishOf startReading l ≡ captureOf l
 unfolding startReading
-finish-whole l = zero-or-not _ (readOf l .refusal .number) (good l) (bad l)
+finish-whole l = zero-or-not _ (settingsOf l .refusal .number) (good l) (bad l)
 
 -- ---- as the code of `report` has it
 
@@ -98,11 +98,11 @@ any-cutting : AnyCutting
 unfolding AnyCutting
 any-cutting ps = all-pieces startReading [] ps ∙ finish-whole (joined ps)
 
-good-read : (l : List ℕ) → readOf l .refusal .number ≡ 0 → Good (readOf l .settings .session) (readOf l .settings .next .0) (readOf l .settings .limit .0)
+good-read : (l : List ℕ) → settingsOf l .refusal .number ≡ 0 → Good (settingsOf l .settings .session) (settingsOf l .settings .next .0) (settingsOf l .settings .limit .0)
 good-read l z = settings-promises .reads-exactly .only l z .good
 
-good-start : (name : List ℕ) (n limit : ℕ) → Good name n limit → startRefusal n limit ≡ 0
-unfolding startRefusal
+good-start : (name : List ℕ) (n limit : ℕ) → Good name n limit → receiverStartRefusal n limit ≡ 0
+unfolding receiverStartRefusal
 good-start name n limit g = rw (le-ltb _ _ (g .number-least), le-ltb _ _ (g .number-most), le-ltb _ _ (g .limit-least), le-ltb _ _ (g .limit-most))
 
 start-takes-settings : StartTakesSettings
@@ -141,17 +141,17 @@ reading-fits Refused x e = omega (arith, refused-fits)
 
 capture-fits : (l : List ℕ) → length (captureText l) ≤ room
 unfolding captureText captureOf textAt
-capture-fits l = zero-or-not _ (readOf l .refusal .number) fit not-read
+capture-fits l = zero-or-not _ (settingsOf l .refusal .number) fit not-read
   where
-    fit : readOf l .refusal .number ≡ 0 → length (textOf (captureOf l)) ≤ room
+    fit : settingsOf l .refusal .number ≡ 0 → length (textOf (captureOf l)) ≤ room
     fit z =
         let g = good-read l z in
-        let s : recordsReport (startedOf (readOf l .settings)) (drop (readOf l .size) l) .receiver .session ≡ readOf l .settings .session =
-        report-session (startedOf (readOf l .settings)) (drop (readOf l .size) l) ∙ started-session _ _ _ g in
-        let n = report-fits (recordsReport (startedOf (readOf l .settings)) (drop (readOf l .size) l)) (ap length s ∙ g .ten-bytes) in
+        let s : recordsReport (startedOf (settingsOf l .settings)) (drop (settingsOf l .size) l) .receiver .session ≡ settingsOf l .settings .session =
+        report-session (startedOf (settingsOf l .settings)) (drop (settingsOf l .size) l) ∙ started-session _ _ _ g in
+        let n = report-fits (recordsReport (startedOf (settingsOf l .settings)) (drop (settingsOf l .size) l)) (ap length s ∙ g .ten-bytes) in
         rw (eq-eqb _ _ z) (omega arith)
 
-    not-read : (readOf l .refusal .number ≡ 0 → ⊥) → length (textOf (captureOf l)) ≤ room
+    not-read : (settingsOf l .refusal .number ≡ 0 → ⊥) → length (textOf (captureOf l)) ≤ room
     not-read z = rw (ne-eqb _ _ z) (omega (arith, refused-fits))
 
 pub capture-promises : CapturePromises

@@ -8,7 +8,7 @@ use Rattle.wire.specs.Choice.{if_then_else_}
 use Rattle.receiver.specs.declared.receiver.Receiver.{Receiver}
 use Rattle.receiver.specs.Receiver.{startReceiver, refusedReceiver}
 use Rattle.capture_settings.specs.declared.settings.Settings as declared
-use Rattle.capture_settings.specs.Settings.{readOf}
+use Rattle.capture_settings.specs.Settings.{settingsOf}
 use Rattle.capture_settings.specs.Statements.{longest}
 use Rattle.capture_records.specs.Records.{mostRecords, datagramsOf, restOf}
 use Rattle.capture_tally.specs.declared.report.Report.{Report}
@@ -48,9 +48,9 @@ startedOf s = startReceiver (s .session) (s .next .0) (s .limit .0)
 -- settings that were read are passed, and the records after them taken; bad ones end the reading, whatever follows
 unfoldable pub openOf : Report → List ℕ → Fed
 openOf x l =
-    if eqb (readOf l .refusal .number) 0
-    then fed (takeOf (freshOf (startedOf (readOf l .settings))) (drop (readOf l .size) l) .reading)
-    (readOf l .size + takeOf (freshOf (startedOf (readOf l .settings))) (drop (readOf l .size) l) .used)
+    if eqb (settingsOf l .refusal .number) 0
+    then fed (takeOf (freshOf (startedOf (settingsOf l .settings))) (drop (settingsOf l .size) l) .reading)
+    (settingsOf l .size + takeOf (freshOf (startedOf (settingsOf l .settings))) (drop (settingsOf l .size) l) .used)
     else fed (reading Refused x) (length l)
 
 -- ---- a reading
@@ -87,15 +87,15 @@ feedOf s l = if waits (s .stage) (length l) then fed s 0 else advanceOf s l
 unfoldable pub endOf : Report → ℕ → Report
 endOf x left = if eqb left 0 then x else cutOf x
 
-unfoldable pub endAt : Stage → Report → ℕ → Reading
-endAt Settings x left = reading Settings x
-endAt Records x left = reading Done (endOf x left)
-endAt Done x left = reading Done x
-endAt Refused x left = reading Refused x
+unfoldable pub endAtStage : Stage → Report → ℕ → Reading
+endAtStage Settings x left = reading Settings x
+endAtStage Records x left = reading Done (endOf x left)
+endAtStage Done x left = reading Done x
+endAtStage Refused x left = reading Refused x
 
 -- the last bytes
 unfoldable pub finishOf : Reading → List ℕ → Reading
-finishOf s l = endAt (advanceOf s l .reading .stage) (advanceOf s l .reading .report) (length l - advanceOf s l .used)
+finishOf s l = endAtStage (advanceOf s l .reading .stage) (advanceOf s l .reading .report) (length l - advanceOf s l .used)
 
 -- what it prints: while no settings were read, that they are refused
 unfoldable pub textAt : Stage → Report → List ℕ

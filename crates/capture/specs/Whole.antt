@@ -6,12 +6,12 @@ use mathlib.Core.Path.{_≡_}
 use lib.ListN.{length, drop}
 use lib.Dec.{eqb}
 use Rattle.wire.specs.Choice.{if_then_else_}
-use Rattle.wire.specs.Bounds.{sessionSize}
+use Rattle.wire.specs.Bounds.{sessionSize, lengthSize}
 use Rattle.wire.specs.Bytes.{joined, AreBytes}
 use Rattle.receiver.specs.declared.receiver.Receiver.{Receiver}
-use Rattle.receiver.specs.Receiver.{startRefusal, refusedReceiver}
-use Rattle.capture_settings.specs.Settings.{readOf}
-use Rattle.capture_records.specs.Records.{lengthSize, mostRecords, recordsOf, isCut, largestLength}
+use Rattle.receiver.specs.Receiver.{receiverStartRefusal, refusedReceiver}
+use Rattle.capture_settings.specs.Settings.{settingsOf}
+use Rattle.capture_records.specs.Records.{mostRecords, recordsOf, isCut, largestLength}
 use Rattle.capture_tally.specs.declared.report.Report.{Report}
 use Rattle.capture_tally.specs.Report.{freshOf}
 use Rattle.capture_tally.specs.Sums.{summed, summedCut}
@@ -29,7 +29,7 @@ recordsReport r l = if isCut l then summedCut r (recordsOf l) else summed r (rec
 -- the settings start the receiver, and the records follow; bad settings are refused alone
 unfoldable pub captureOf : List ℕ → Reading
 captureOf l =
-    if eqb (readOf l .refusal .number) 0 then reading Done (recordsReport (startedOf (readOf l .settings)) (drop (readOf l .size) l))
+    if eqb (settingsOf l .refusal .number) 0 then reading Done (recordsReport (startedOf (settingsOf l .settings)) (drop (settingsOf l .size) l))
     else reading Refused (freshOf refusedReceiver)
 
 -- what the capture program prints
@@ -50,8 +50,8 @@ AnyCutting = (ps : List (List ℕ)) → byPieces startReading [] ps ≡ captureO
 
 -- settings that are read are never refused by the receiver's start: numbers that it would refuse are bad settings
 unfoldable pub StartTakesSettings : Type 0
-StartTakesSettings = (l : List ℕ) → readOf l .refusal .number ≡ 0
-    → startRefusal (readOf l .settings .next .0) (readOf l .settings .limit .0) ≡ 0
+StartTakesSettings = (l : List ℕ) → settingsOf l .refusal .number ≡ 0
+    → receiverStartRefusal (settingsOf l .settings .next .0) (settingsOf l .settings .limit .0) ≡ 0
 
 -- the most bytes that are kept between two pieces: all but the last byte of the longest record
 abbrev pub mostKept : ℕ

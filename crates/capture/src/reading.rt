@@ -8,6 +8,7 @@ use capture_tally::report::Report;
 use capture_text::report_text;
 use receiver::receiver::Receiver;
 use wire::kinds;
+use wire::kinds::LENGTH_SIZE;
 use wire::kinds::MessageCount;
 use wire::kinds::SequenceNumber;
 use wire::output::Written;
@@ -57,7 +58,7 @@ fn take_records(start: Report, bytes: &[u8]) -> Fed
                 };
             }
             Front::Whole { size } => {
-                report = report.step(&rest[records::LENGTH_SIZE..size]);
+                report = report.step(&rest[LENGTH_SIZE..size]);
                 rest = &rest[size..];
                 left -= 1;
             }

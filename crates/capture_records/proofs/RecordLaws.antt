@@ -15,7 +15,7 @@ use Rattle.wire.proofs.Words.{which-of, values-of, read-back}
 use Rattle.wire.proofs.Numbers.{bytes-number, number-bytes, length-bytes, small-number}
 use Rattle.capture_records.specs.declared.records.Front.{Front}
 use Rattle.capture_records.specs.declared.records.Front.the-variants.{Whole, Short}
-use Rattle.capture_records.specs.Records.{recordBytes, sizeOf, isWhole, datagramOf, Fronting, whole, short, frontWords, frontOf, datagramsOf, restOf, recordsBytes, RecordsMakeTheBytes, largestLength, AllHeld, RecordPromises}
+use Rattle.capture_records.specs.Records.{recordBytes, recordSize, isWhole, datagramOf, RecordKind, whole, short, recordWords, recordInFront, datagramsOf, restOf, recordsBytes, RecordsMakeTheBytes, largestLength, AllHeld, RecordPromises}
 
 -- ---- as the code of `read` has it
 
@@ -25,36 +25,36 @@ module _ (l : List ℕ) where
   stub h = simp (lt-ltb _ _ h)
 
   cut : (k : ℕ) → 2 ≤ length l → k ≡ number l 0 2 → length l < k + 2 → isWhole l ≡ false
-  unfolding isWhole sizeOf
+  unfolding isWhole recordSize
   cut k h e f = let g : length l < number l 0 2 + 2 = omega arith in simp (le-ltb _ _ h, lt-ltb _ _ g)
 
   pub whole-there : (k : ℕ) → 2 ≤ length l → k ≡ number l 0 2 → k + 2 ≤ length l → isWhole l ≡ true
-  unfolding isWhole sizeOf
+  unfolding isWhole recordSize
   whole-there k h e f = let g : number l 0 2 + 2 ≤ length l = omega arith in simp (le-ltb _ _ h, le-ltb _ _ g)
 
-  front-short : isWhole l ≡ false → frontWords Short ≡ frontOf l
-  unfolding frontWords frontOf
+  front-short : isWhole l ≡ false → recordWords Short ≡ recordInFront l
+  unfolding recordWords recordInFront
   front-short e = simp e
 
-  pub read-stub : length l < 2 → frontWords Short ≡ frontOf l
+  pub read-stub : length l < 2 → recordWords Short ≡ recordInFront l
   read-stub h = front-short (stub h)
 
-  pub read-cut : (k : ℕ) → 2 ≤ length l → k ≡ number l 0 2 → length l < k + 2 → frontWords Short ≡ frontOf l
+  pub read-cut : (k : ℕ) → 2 ≤ length l → k ≡ number l 0 2 → length l < k + 2 → recordWords Short ≡ recordInFront l
   read-cut k h e f = front-short (cut k h e f)
 
-  pub read-whole : (k : ℕ) → 2 ≤ length l → k ≡ number l 0 2 → k + 2 ≤ length l → frontWords (Whole (k + 2)) ≡ frontOf l
-  unfolding frontWords frontOf sizeOf
+  pub read-whole : (k : ℕ) → 2 ≤ length l → k ≡ number l 0 2 → k + 2 ≤ length l → recordWords (Whole (k + 2)) ≡ recordInFront l
+  unfolding recordWords recordInFront recordSize
   read-whole k h e f = simp (whole-there k h e f, ← e)
 
 -- ---- as a caller has it
 
 -- a whole record lies within the bytes
 pub record Within (l : List ℕ) : Type 0 where
-  pub least : 2 ≤ sizeOf l
-  pub most : sizeOf l ≤ length l
+  pub least : 2 ≤ recordSize l
+  pub most : recordSize l ≤ length l
 
 pub whole-within : (l : List ℕ) → isWhole l ≡ true → Within l
-unfolding isWhole sizeOf
+unfolding isWhole recordSize
 whole-within l = go (ltb (length l) 2) (ltb (length l) (number l 0 2 + 2)) refl
   where
     go : (a b : Bool) → ltb (length l) (number l 0 2 + 2) ≡ b → if a then false else not b ≡ true → Within l
@@ -64,7 +64,7 @@ whole-within l = go (ltb (length l) 2) (ltb (length l) (number l 0 2 + 2)) refl
 
 -- less than a whole record is at most all but its last byte
 pub short-length : (l : List ℕ) → AreBytes l → isWhole l ≡ false → length l ≤ 65536
-unfolding isWhole sizeOf
+unfolding isWhole recordSize
 short-length l small = go (ltb (length l) 2) (ltb (length l) (number l 0 2 + 2)) refl refl
   where
     go : (a b : Bool) → ltb (length l) 2 ≡ a → ltb (length l) (number l 0 2 + 2) ≡ b → if a then false else not b ≡ false → length l ≤ 65536
@@ -73,23 +73,23 @@ short-length l small = go (ltb (length l) 2) (ltb (length l) (number l 0 2 + 2))
     go false false p q e = let z : _≡_ {A = ℕ} 0 1 = cc in absurd (omega arith)
 
 -- what the words say
-pub said-short : (l : List ℕ) → frontWords Short ≡ frontOf l → isWhole l ≡ false
-unfolding frontWords frontOf
+pub said-short : (l : List ℕ) → recordWords Short ≡ recordInFront l → isWhole l ≡ false
+unfolding recordWords recordInFront
 said-short l = go (isWhole l)
   where
-    go : (b : Bool) → says short [] ≡ if b then says whole (sizeOf l ∷ []) else says short [] → b ≡ false
+    go : (b : Bool) → says short [] ≡ if b then says whole (recordSize l ∷ []) else says short [] → b ≡ false
     go false e = refl
     go true e = let w = which-of e in let z : _≡_ {A = ℕ} 0 1 = cc in absurd (omega arith)
 
 pub record IsFront (l : List ℕ) (k : ℕ) : Type 0 where
   pub all : isWhole l ≡ true
-  pub size : k ≡ sizeOf l
+  pub size : k ≡ recordSize l
 
-pub said-whole : (l : List ℕ) (k : ℕ) → frontWords (Whole k) ≡ frontOf l → IsFront l k
-unfolding frontWords frontOf
+pub said-whole : (l : List ℕ) (k : ℕ) → recordWords (Whole k) ≡ recordInFront l → IsFront l k
+unfolding recordWords recordInFront
 said-whole l k = go (isWhole l) refl
   where
-    go : (b : Bool) → isWhole l ≡ b → says whole (k ∷ []) ≡ if b then says whole (sizeOf l ∷ []) else says short [] → IsFront l k
+    go : (b : Bool) → isWhole l ≡ b → says whole (k ∷ []) ≡ if b then says whole (recordSize l ∷ []) else says short [] → IsFront l k
     go true p e = record { all = p; size = ap (λ (vs : List ℕ). getD vs 0 0) (values-of e) }
     go false p e = let w = which-of e in let z : _≡_ {A = ℕ} 0 1 = cc in absurd (omega arith)
 
@@ -98,8 +98,8 @@ said-whole l k = go (isWhole l) refl
 pub bytes-drop : (k : ℕ) (l : List ℕ) → AreBytes l → AreBytes (drop k l)
 bytes-drop k l small i = rw (getD-drop k l i 0) (small (k + i))
 
-one-record : (l : List ℕ) → AreBytes l → isWhole l ≡ true → recordBytes (datagramOf l) ++ drop (sizeOf l) l ≡ l
-unfolding sizeOf
+one-record : (l : List ℕ) → AreBytes l → isWhole l ≡ true → recordBytes (datagramOf l) ++ drop (recordSize l) l ≡ l
+unfolding recordSize
 one-record l small w =
     let i = whole-within l w in
     let m : number l 0 2 + 2 ≤ length l = i .most in
@@ -114,13 +114,13 @@ one-record l small w =
 make-bytes : (k : ℕ) (l : List ℕ) → AreBytes l → recordsBytes (datagramsOf k l) ++ restOf k l ≡ l
 unfolding datagramsOf restOf recordsBytes
 make-bytes zero l small = refl
-make-bytes (suc k) l small = go (isWhole l) refl (make-bytes k (drop (sizeOf l) l) (bytes-drop (sizeOf l) l small))
+make-bytes (suc k) l small = go (isWhole l) refl (make-bytes k (drop (recordSize l) l) (bytes-drop (recordSize l) l small))
   where
-    go : (b : Bool) → isWhole l ≡ b → recordsBytes (datagramsOf k (drop (sizeOf l) l)) ++ restOf k (drop (sizeOf l) l) ≡ drop (sizeOf l) l
-        → recordsBytes (if b then datagramOf l ∷ datagramsOf k (drop (sizeOf l) l) else []) ++ (if b then restOf k (drop (sizeOf l) l) else l) ≡ l
+    go : (b : Bool) → isWhole l ≡ b → recordsBytes (datagramsOf k (drop (recordSize l) l)) ++ restOf k (drop (recordSize l) l) ≡ drop (recordSize l) l
+        → recordsBytes (if b then datagramOf l ∷ datagramsOf k (drop (recordSize l) l) else []) ++ (if b then restOf k (drop (recordSize l) l) else l) ≡ l
     go false p i = refl
     go true p i =
-        append-assoc (recordBytes (datagramOf l)) (recordsBytes (datagramsOf k (drop (sizeOf l) l))) (restOf k (drop (sizeOf l) l))
+        append-assoc (recordBytes (datagramOf l)) (recordsBytes (datagramsOf k (drop (recordSize l) l))) (restOf k (drop (recordSize l) l))
         ∙ rw i (one-record l small p)
 
 make-the-bytes : RecordsMakeTheBytes
@@ -129,16 +129,16 @@ make-the-bytes = make-bytes
 
 -- ---- the words tell all answers apart
 
-fronted : Case Fronting → List ℕ → Front
+fronted : Case RecordKind → List ℕ → Front
 fronted (answer whole) vs = Whole (getD vs 0 0)
 fronted (answer short) vs = Short
 fronted refused vs = Short
 
-tells-apart : Injective frontWords
-unfolding frontWords fronted
-tells-apart = read-back frontWords (λ w. fronted (w .which) (w .values)) back
+tells-apart : Injective recordWords
+unfolding recordWords fronted
+tells-apart = read-back recordWords (λ w. fronted (w .which) (w .values)) back
   where
-    back : (a : Front) → fronted (frontWords a .which) (frontWords a .values) ≡ a
+    back : (a : Front) → fronted (recordWords a .which) (recordWords a .values) ≡ a
     back (Whole k) = refl
     back Short = refl
 
@@ -152,10 +152,10 @@ front-number d rest h = rw (append-assoc (bytes 2 (length d)) d rest) (number-by
 pub record Reads (d rest : List ℕ) : Type 0 where
   pub all : isWhole (recordBytes d ++ rest) ≡ true
   pub its-datagram : datagramOf (recordBytes d ++ rest) ≡ d
-  pub after-it : drop (sizeOf (recordBytes d ++ rest)) (recordBytes d ++ rest) ≡ rest
+  pub after-it : drop (recordSize (recordBytes d ++ rest)) (recordBytes d ++ rest) ≡ rest
 
 reads-record : (d rest : List ℕ) → length d ≤ largestLength → Reads d rest
-unfolding sizeOf
+unfolding recordSize
 reads-record d rest h =
     let n = front-number d rest h in
     let b = length-bytes 2 (length d) in

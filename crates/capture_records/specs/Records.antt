@@ -1,65 +1,61 @@
 -- The records of a capture, as a list of bytes.
-use Prim.Native.Nat.{ℕ, zero, suc, _+_, _-_, _≤_}
+use Prim.Native.Nat.{ℕ, zero, suc, _+_, _-_, _^_, _≤_}
 use mathlib.Core.List.{List, [], _∷_, _++_, List·Memᴰ}
 use mathlib.Core.Bool.{Bool, false, not}
 use mathlib.Core.Path.{_≡_}
 use lib.ListN.{length, take, drop}
 use lib.Dec.{ltb}
 use Rattle.wire.specs.Choice.{if_then_else_}
-use Rattle.wire.specs.Bounds.{largestCount}
+use Rattle.wire.specs.Bounds.{largestCount, lengthSize}
 use Rattle.wire.specs.Words.{Words, says, Injective}
 use Rattle.wire.specs.Bytes.{number, bytes, AreBytes}
 use Rattle.capture_records.specs.declared.records.Front.{Front}
 use Rattle.capture_records.specs.declared.records.Front.the-variants.{Whole, Short}
 
--- bytes of a record's length, which doesn't count itself
-abbrev pub lengthSize : ℕ
-lengthSize = 2
-
--- the bytes of a record that carries a datagram
+-- the bytes of a record that carries a datagram; its length doesn't count itself
 abbrev pub recordBytes : List ℕ → List ℕ
 recordBytes d = bytes lengthSize (length d) ++ d
 
 -- ---- the record in front
 
 -- the bytes that it takes, its length with them
-unfoldable pub sizeOf : List ℕ → ℕ
-sizeOf l = number l 0 lengthSize + lengthSize
+unfoldable pub recordSize : List ℕ → ℕ
+recordSize l = number l 0 lengthSize + lengthSize
 
 -- all of them are there
 unfoldable pub isWhole : List ℕ → Bool
-isWhole l = if ltb (length l) lengthSize then false else not (ltb (length l) (sizeOf l))
+isWhole l = if ltb (length l) lengthSize then false else not (ltb (length l) (recordSize l))
 
 -- its datagram
 abbrev pub datagramOf : List ℕ → List ℕ
-datagramOf l = take (sizeOf l - lengthSize) (drop lengthSize l)
+datagramOf l = take (recordSize l - lengthSize) (drop lengthSize l)
 
 -- what stands in front, in words
-pub data Fronting : Type 0 where
-  whole short : Fronting
+pub data RecordKind : Type 0 where
+  whole short : RecordKind
 
-unfoldable pub frontWords : Front → Words Fronting
-frontWords (Whole size) = says whole (size ∷ [])
-frontWords Short = says short []
+unfoldable pub recordWords : Front → Words RecordKind
+recordWords (Whole size) = says whole (size ∷ [])
+recordWords Short = says short []
 
-unfoldable pub frontOf : List ℕ → Words Fronting
-frontOf l = if isWhole l then says whole (sizeOf l ∷ []) else says short []
+unfoldable pub recordInFront : List ℕ → Words RecordKind
+recordInFront l = if isWhole l then says whole (recordSize l ∷ []) else says short []
 
 -- ---- all records
 
 -- the datagrams of the whole records in front, at most k of them
 unfoldable pub datagramsOf : ℕ → List ℕ → List (List ℕ)
 datagramsOf zero l = []
-datagramsOf (suc k) l = if isWhole l then datagramOf l ∷ datagramsOf k (drop (sizeOf l) l) else []
+datagramsOf (suc k) l = if isWhole l then datagramOf l ∷ datagramsOf k (drop (recordSize l) l) else []
 
 -- what is left after those records
 unfoldable pub restOf : ℕ → List ℕ → List ℕ
 restOf zero l = l
-restOf (suc k) l = if isWhole l then restOf k (drop (sizeOf l) l) else l
+restOf (suc k) l = if isWhole l then restOf k (drop (recordSize l) l) else l
 
 -- the most records that are read, 2^32 - 1
 abbrev pub mostRecords : ℕ
-mostRecords = 4294967295
+mostRecords = 2 ^ 32 - 1
 
 -- the datagrams of a capture's records
 abbrev pub recordsOf : List ℕ → List (List ℕ)
@@ -98,4 +94,4 @@ pub record RecordsReadBack : Type 0 where
 pub record RecordPromises : Type 0 where
   pub make-the-bytes : RecordsMakeTheBytes
   pub read-back : RecordsReadBack
-  pub tells-apart : Injective frontWords
+  pub tells-apart : Injective recordWords

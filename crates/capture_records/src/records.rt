@@ -1,14 +1,12 @@
 // The record in front of some bytes.
 use wire::kinds::ByteOffset;
+use wire::kinds::LENGTH_SIZE;
 use wire::number;
 ghost use mathlib.Core.Path.{_≡_};
-ghost use Rattle.capture_records.specs.Records.{frontWords, frontOf, RecordPromises};
-
-// Bytes of the length that stands before a datagram and doesn't count itself.
-pub const LENGTH_SIZE: usize = 2;
+ghost use Rattle.capture_records.specs.Records.{recordWords, recordInFront, RecordPromises};
 
 // The most records that are read, 2^32 - 1.
-pub const MOST_RECORDS: u32 = 4294967295;
+pub const MOST_RECORDS: u32 = u32::MAX;
 
 // What stands in front.
 pub enum Front {
@@ -20,7 +18,7 @@ pub enum Front {
 
 // The record in front, if all of its bytes are there.
 pub fn read(bytes: &[u8]) -> Front
-    ensures { λ r. ⌜ frontWords r ≡ frontOf (now (bytes .entry)) ⌝ }
+    ensures { λ r. ⌜ recordWords r ≡ recordInFront (now (bytes .entry)) ⌝ }
     ensures promises { λ _. ⌜ RecordPromises ⌝ }
 {
     if bytes.len() < LENGTH_SIZE {

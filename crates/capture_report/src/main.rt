@@ -24,7 +24,7 @@ fn fill(buf: &mut [u8], have: usize) -> usize
 fn read_all(buf: &mut [u8]) -> Reading {
     let mut reading = Reading::new();
     let mut have: usize = 0;
-    let mut turns: u64 = 18446744073709551615;
+    let mut turns: u64 = u64::MAX;
     while 0 < turns {
         let there = fill(buf, have);
         if there == have {

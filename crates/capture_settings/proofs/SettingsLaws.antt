@@ -18,7 +18,7 @@ use Rattle.capture_settings.specs.declared.lines.Line.{Line}
 use Rattle.capture_settings.specs.declared.settings.Opened.{Opened}
 use Rattle.wire.specs.Parts.{firstBytes}
 use Rattle.wire.proofs.PartLaws.{first-there}
-use Rattle.capture_settings.specs.Settings.{sessionKey, nextKey, limitKey, lineFeed, pastOf, isPrintable, noLine, further, goesOn, lineFrom, lineOf, settings, refusedOpened, fixedSize, nextLine, limitLine, numbersOf, nameLine, readOf}
+use Rattle.capture_settings.specs.Settings.{sessionKey, nextKey, limitKey, lineFeed, pastOf, isPrintable, noLine, further, goesOn, lineFrom, lineOf, settings, refusedOpened, fixedSize, nextLine, limitLine, numbersOf, nameLine, settingsOf}
 
 -- ---- how far they reach
 
@@ -109,21 +109,21 @@ module _ (l a b : List ℕ) (x y : Line) (ea : a ≡ pastOf nextKey l) (ex : x �
 -- ---- the name before them: a is what follows `session=`
 
 module _ (l a : List ℕ) (z : Opened) (ea : a ≡ pastOf sessionKey l) where
-  pub name-cut : length a ≤ sessionSize → z ≡ refusedOpened → z ≡ readOf l
-  unfolding readOf nameLine
+  pub name-cut : length a ≤ sessionSize → z ≡ refusedOpened → z ≡ settingsOf l
+  unfolding settingsOf nameLine
   name-cut h e = simp (← ea, le-leb _ _ h) e
 
-  pub name-open : sessionSize < length a → (getD a sessionSize 0 ≡ lineFeed → ⊥) → z ≡ refusedOpened → z ≡ readOf l
-  unfolding readOf nameLine
+  pub name-open : sessionSize < length a → (getD a sessionSize 0 ≡ lineFeed → ⊥) → z ≡ refusedOpened → z ≡ settingsOf l
+  unfolding settingsOf nameLine
   name-open h g e = simp (← ea, lt-leb _ _ h, ne-eqb _ _ g) e
 
   module _ (p : Bool) (h : sessionSize < length a) (g : getD a sessionSize 0 ≡ lineFeed) (q : p ≡ isPrintable (take sessionSize a)) where
-    pub name-unprintable : not p ≡ true → z ≡ refusedOpened → z ≡ readOf l
-    unfolding readOf nameLine
+    pub name-unprintable : not p ≡ true → z ≡ refusedOpened → z ≡ settingsOf l
+    unfolding settingsOf nameLine
     name-unprintable n e = simp (← ea, lt-leb _ _ h, eq-eqb _ _ g, ← q, n) e
 
-    pub name-good : (name : List ℕ) → not p ≡ false → name ≡ firstBytes sessionSize a → z ≡ numbersOf name (take (length a - 11) (drop 11 a)) → z ≡ readOf l
-    unfolding readOf nameLine
+    pub name-good : (name : List ℕ) → not p ≡ false → name ≡ firstBytes sessionSize a → z ≡ numbersOf name (take (length a - 11) (drop 11 a)) → z ≡ settingsOf l
+    unfolding settingsOf nameLine
     name-good name n m e = simp (← ea, lt-leb _ _ h, eq-eqb _ _ g, ← q, n) (e ∙ rw (m, first-there 10 a (omega arith), part-to-end))
 
 pub ten-there : (l : List ℕ) → sessionSize < length l → sessionSize ≡ length (take sessionSize l)

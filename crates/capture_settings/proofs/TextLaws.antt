@@ -14,7 +14,7 @@ use Rattle.decimal.specs.Decimal.{isDigit, withDigit, digits, valueFrom, valueO
 use Rattle.decimal.proofs.SpellLaws.{digit-so, are-so, value-grows, digits-one, digits-more, digits-first, length-digits, length-digits-below, spells-numbers}
 use Rattle.capture_settings.specs.declared.lines.Line.{Line}
 use Rattle.capture_settings.specs.declared.settings.Opened.{Opened}
-use Rattle.capture_settings.specs.Settings.{sessionKey, nextKey, limitKey, lineFeed, pastOf, isPrintable, noLine, further, goesOn, lineFrom, lineOf, settings, refusedOpened, fixedSize, nextLine, limitLine, numbersOf, nameLine, readOf}
+use Rattle.capture_settings.specs.Settings.{sessionKey, nextKey, limitKey, lineFeed, pastOf, isPrintable, noLine, further, goesOn, lineFrom, lineOf, settings, refusedOpened, fixedSize, nextLine, limitLine, numbersOf, nameLine, settingsOf}
 use Rattle.capture_settings.specs.Statements.{line, settingsText, Good, ReadSo, longest, Settled, SizeWithin, SettingsPromises}
 
 -- ---- one byte of a number
@@ -386,8 +386,8 @@ text-size name n limit h = simp length-append (omega arith)
 abbrev given : List ℕ → ℕ → ℕ → Opened
 given name n limit = record { refusal = record { number = 0 }; settings = settings name n limit; size = length (settingsText name n limit) }
 
-reads : (name : List ℕ) (n limit : ℕ) (rest : List ℕ) → Good name n limit → readOf (settingsText name n limit ++ rest) ≡ given name n limit
-unfolding readOf
+reads : (name : List ℕ) (n limit : ℕ) (rest : List ℕ) → Good name n limit → settingsOf (settingsText name n limit ++ rest) ≡ given name n limit
+unfolding settingsOf
 reads name n limit rest g =
     let a = numbers-read n limit rest (g .number-least) (g .number-most) (g .limit-least) (g .limit-most) name in
     rw (text-shape name n limit rest, past-front sessionKey (name ++ (lineFeed ∷ numbersText n limit rest)), text-size name n limit (g .ten-bytes))
@@ -402,8 +402,8 @@ record GoodIn (l : List ℕ) : Type 0 where
   good : Good name n limit
   text : l ≡ settingsText name n limit ++ rest
 
-refused-name : (l : List ℕ) → nameLine (pastOf sessionKey l) ≡ refusedOpened → readOf l ≡ refusedOpened
-unfolding readOf
+refused-name : (l : List ℕ) → nameLine (pastOf sessionKey l) ≡ refusedOpened → settingsOf l ≡ refusedOpened
+unfolding settingsOf
 refused-name l e = e
 
 past-some : (l : List ℕ) (s : NameSo (pastOf sessionKey l)) → 0 < length (pastOf sessionKey l)
@@ -431,25 +431,25 @@ good-in l s m =
     }
 
 -- all else is refused
-read-either : (l : List ℕ) (P : Type 0) → (readOf l ≡ refusedOpened → P) → (GoodIn l → P) → P
+read-either : (l : List ℕ) (P : Type 0) → (settingsOf l ≡ refusedOpened → P) → (GoodIn l → P) → P
 read-either l P bad good =
     name-either (pastOf sessionKey l) P (λ e. bad (refused-name l e))
     (λ s. numbers-either (s .numbers) (s .name) P (λ e. bad (refused-name l (s .read ∙ e))) (λ m. good (good-in l s m)))
 
-good-read : (l : List ℕ) (g : GoodIn l) → readOf l ≡ given (g .name) (g .n) (g .limit)
-good-read l g = ap readOf (g .text) ∙ reads (g .name) (g .n) (g .limit) (g .rest) (g .good)
+good-read : (l : List ℕ) (g : GoodIn l) → settingsOf l ≡ given (g .name) (g .n) (g .limit)
+good-read l g = ap settingsOf (g .text) ∙ reads (g .name) (g .n) (g .limit) (g .rest) (g .good)
 
 -- what the answer to l says of it
 abbrev SaysSo : List ℕ → Opened → Type 0
 SaysSo l o = ReadSo l (o .settings .session) (o .settings .next .0) (o .settings .limit .0) (o .size)
 
-only : (l : List ℕ) → readOf l .refusal .number ≡ 0 → SaysSo l (readOf l)
+only : (l : List ℕ) → settingsOf l .refusal .number ≡ 0 → SaysSo l (settingsOf l)
 only l h = read-either l _ bad good
   where
-    bad : readOf l ≡ refusedOpened → SaysSo l (readOf l)
+    bad : settingsOf l ≡ refusedOpened → SaysSo l (settingsOf l)
     bad e = let k : _≡_ {A = ℕ} 19 0 = sym (ap (λ (o : Opened). o .refusal .number) e) ∙ h in absurd (omega arith)
 
-    good : GoodIn l → SaysSo l (readOf l)
+    good : GoodIn l → SaysSo l (settingsOf l)
     good g =
         let e = good-read l g in
         let t = settingsText (g .name) (g .n) (g .limit) in
@@ -468,11 +468,11 @@ good-size name n limit g =
     )
 
 -- whatever follows
-good-longer : (a b : List ℕ) (g : GoodIn a) → readOf (a ++ b) ≡ given (g .name) (g .n) (g .limit)
+good-longer : (a b : List ℕ) (g : GoodIn a) → settingsOf (a ++ b) ≡ given (g .name) (g .n) (g .limit)
 good-longer a b g =
     let t = settingsText (g .name) (g .n) (g .limit) in
     let e : a ++ b ≡ t ++ (g .rest ++ b) = ap (λ (m : List ℕ). m ++ b) (g .text) ∙ append-assoc t (g .rest) b in
-    ap readOf e ∙ reads (g .name) (g .n) (g .limit) (g .rest ++ b) (g .good)
+    ap settingsOf e ∙ reads (g .name) (g .n) (g .limit) (g .rest ++ b) (g .good)
 
 -- good settings in front of a and more lie within a
 good-within : (a b : List ℕ) → longest ≤ length a → GoodIn (a ++ b) → GoodIn a
@@ -494,10 +494,10 @@ settled : Settled
 unfolding Settled
 settled a b h = read-either a _ refused good
   where
-    good : GoodIn a → readOf (a ++ b) ≡ readOf a
+    good : GoodIn a → settingsOf (a ++ b) ≡ settingsOf a
     good g = good-longer a b g ∙ sym (good-read a g)
 
-    refused : readOf a ≡ refusedOpened → readOf (a ++ b) ≡ readOf a
+    refused : settingsOf a ≡ refusedOpened → settingsOf (a ++ b) ≡ settingsOf a
     refused e = read-either (a ++ b) _ (λ f. f ∙ sym e)
         (λ g.
         let k : _≡_ {A = ℕ} 19 0 = ap (λ (o : Opened). o .refusal .number) (sym e ∙ good-read a (good-within a b h g)) in
@@ -507,7 +507,7 @@ size-within : SizeWithin
 unfolding SizeWithin
 size-within l = read-either l _ (λ e. rw e (omega arith)) good
   where
-    good : GoodIn l → readOf l .size ≤ length l
+    good : GoodIn l → settingsOf l .size ≤ length l
     good g =
         let e = ap length (g .text) in
         rw (good-read l g) (omega (arith, length-append (settingsText (g .name) (g .n) (g .limit)) (g .rest)))

@@ -6,6 +6,7 @@ use lib.ListN.{length, take, drop, getD}
 use lib.Dec.{ltb, leb, eqb}
 use Rattle.wire.specs.Choice.{if_then_else_}
 use Rattle.wire.specs.Refusals.{badSetting}
+use Rattle.wire.specs.Text.{letter, ascii}
 use Rattle.wire.specs.Bounds.{leastNumber, largestNumber, leastLimit, largestLimit, sessionSize, blank}
 use Rattle.decimal.specs.Decimal.{isDigit, withDigit}
 use Rattle.capture_settings.specs.declared.lines.Line.{Line}
@@ -14,17 +15,17 @@ use Rattle.capture_settings.specs.declared.settings.Opened.{Opened}
 
 -- `session=`, `next=` and `limit=`
 abbrev pub sessionKey : List ℕ
-sessionKey = 115 ∷ 101 ∷ 115 ∷ 115 ∷ 105 ∷ 111 ∷ 110 ∷ 61 ∷ []
+sessionKey = ascii "session="
 
 abbrev pub nextKey : List ℕ
-nextKey = 110 ∷ 101 ∷ 120 ∷ 116 ∷ 61 ∷ []
+nextKey = ascii "next="
 
 abbrev pub limitKey : List ℕ
-limitKey = 108 ∷ 105 ∷ 109 ∷ 105 ∷ 116 ∷ 61 ∷ []
+limitKey = ascii "limit="
 
 -- the line feed that ends each line
 abbrev pub lineFeed : ℕ
-lineFeed = 10
+lineFeed = letter "\n"
 
 -- what is left after a text that stands in front, or nothing where another does
 unfoldable pub pastOf : List ℕ → List ℕ → List ℕ
@@ -32,12 +33,12 @@ pastOf [] l = l
 pastOf (t ∷ text) [] = []
 pastOf (t ∷ text) (b ∷ l) = if eqb b t then pastOf text l else []
 
--- the first and the last byte that may stand in a name, 0x20 and 0x7E
+-- the first and the last byte that may stand in a name
 abbrev pub firstPrintable : ℕ
-firstPrintable = 32
+firstPrintable = 0x20
 
 abbrev pub lastPrintable : ℕ
-lastPrintable = 126
+lastPrintable = 0x7E
 
 -- each byte is one of these
 unfoldable pub isPrintable : List ℕ → Bool
@@ -109,5 +110,5 @@ nameLine l =
     else numbersOf (take sessionSize l) (drop (sessionSize + 1) l)
 
 -- the settings at the front of l, or their refusal
-unfoldable pub readOf : List ℕ → Opened
-readOf l = nameLine (pastOf sessionKey l)
+unfoldable pub settingsOf : List ℕ → Opened
+settingsOf l = nameLine (pastOf sessionKey l)

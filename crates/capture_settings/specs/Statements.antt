@@ -6,7 +6,7 @@ use mathlib.Core.Path.{_≡_}
 use lib.ListN.{length, drop}
 use Rattle.wire.specs.Bounds.{leastNumber, largestNumber, leastLimit, largestLimit, sessionSize}
 use Rattle.decimal.specs.Decimal.{digits}
-use Rattle.capture_settings.specs.Settings.{sessionKey, nextKey, limitKey, lineFeed, isPrintable, settings, fixedSize, readOf}
+use Rattle.capture_settings.specs.Settings.{sessionKey, nextKey, limitKey, lineFeed, isPrintable, settings, fixedSize, settingsOf}
 
 -- a line
 abbrev pub line : List ℕ → List ℕ → List ℕ
@@ -33,10 +33,10 @@ pub record ReadSo (l : List ℕ) (name : List ℕ) (n limit size : ℕ) : Type 0
 -- good settings are read, whatever follows them, and nothing else is
 pub record ReadsExactly : Type 0 where
   pub reads : (name : List ℕ) (n limit : ℕ) (rest : List ℕ) → Good name n limit
-      → readOf (settingsText name n limit ++ rest)
+      → settingsOf (settingsText name n limit ++ rest)
       ≡ record { refusal = record { number = 0 }; settings = settings name n limit; size = length (settingsText name n limit) }
-  pub only : (l : List ℕ) → readOf l .refusal .number ≡ 0
-      → ReadSo l (readOf l .settings .session) (readOf l .settings .next .0) (readOf l .settings .limit .0) (readOf l .size)
+  pub only : (l : List ℕ) → settingsOf l .refusal .number ≡ 0
+      → ReadSo l (settingsOf l .settings .session) (settingsOf l .settings .next .0) (settingsOf l .settings .limit .0) (settingsOf l .size)
 
 -- the most bytes that good settings take: 2^64 - 1 has 20 digits, 65,534 has 5, and a line feed follows each
 abbrev pub longest : ℕ
@@ -44,11 +44,11 @@ longest = fixedSize + (20 + 1) + (5 + 1)
 
 -- that many bytes tell: what comes after them changes nothing
 unfoldable pub Settled : Type 0
-Settled = (a b : List ℕ) → longest ≤ length a → readOf (a ++ b) ≡ readOf a
+Settled = (a b : List ℕ) → longest ≤ length a → settingsOf (a ++ b) ≡ settingsOf a
 
 -- settings that were read are there whole
 unfoldable pub SizeWithin : Type 0
-SizeWithin = (l : List ℕ) → readOf l .size ≤ length l
+SizeWithin = (l : List ℕ) → settingsOf l .size ≤ length l
 
 pub record SettingsPromises : Type 0 where
   pub reads-exactly : ReadsExactly

@@ -8,7 +8,7 @@ use wire::parts;
 use wire::refusal;
 use wire::refusal::Refusal;
 ghost use mathlib.Core.Path.{_≡_};
-ghost use Rattle.capture_settings.specs.Settings.{refusedOpened, numbersOf, readOf};
+ghost use Rattle.capture_settings.specs.Settings.{refusedOpened, numbersOf, settingsOf};
 ghost use Rattle.capture_settings.specs.Statements.{SettingsPromises};
 
 // The name of the session, the number that it is followed from, and the asking limit.
@@ -79,7 +79,7 @@ fn numbers(session: [u8; SESSION_SIZE], s: &[u8]) -> Opened
 
 // The settings at the front of a capture. What stands after them is not looked at.
 pub fn read(bytes: &[u8]) -> Opened
-    ensures { λ r. ⌜ r ≡ readOf (now (bytes .entry)) ⌝ }
+    ensures { λ r. ⌜ r ≡ settingsOf (now (bytes .entry)) ⌝ }
     ensures promises { λ _. ⌜ SettingsPromises ⌝ }
 {
     let a = lines::past(bytes, b"session=");

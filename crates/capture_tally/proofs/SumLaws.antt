@@ -13,9 +13,9 @@ use Rattle.moldudp64.specs.Header.{numberOf, countOf}
 use Rattle.moldudp64.specs.Downstream.{data-packet, kindOf, messagesOf}
 use Rattle.moldudp64.proofs.DownstreamLaws.{sound, count-sound, kind-blocks}
 use Rattle.receiver.specs.declared.receiver.Receiver.{Receiver}
-use Rattle.receiver.specs.Table.{Reply, deliver, old, quiet, ask, ended, Outcome, Row, data-reaches, data-below, heartbeat-below, heartbeat-at, any-above, end-at}
-use Rattle.receiver.specs.Receiver.{refusalFor, rowOf, answerOf, receiverAfter}
-use Rattle.receiver.specs.Delivery.{deliveredIn, deliveredBy}
+use Rattle.receiver.specs.Table.{AnswerKind, deliver, old, quiet, ask, ended, Outcome, Row, data-reaches, data-below, heartbeat-below, heartbeat-at, any-above, end-at}
+use Rattle.receiver.specs.Receiver.{refusalFor, tableRow, answerOf, receiverAfter}
+use Rattle.receiver.specs.Delivery.{messagesDeliveredAt, messagesDelivered}
 use Rattle.receiver.specs.Feed.{Datagram, after, delivered}
 use Rattle.receiver.specs.Condition3.{plain}
 use Rattle.receiver.proofs.TableLaws.{row-answer, row-after, refused-stays}
@@ -31,19 +31,19 @@ use Rattle.capture_tally.proofs.ReportLaws.{counted-more}
 -- ---- one answer
 
 -- what it delivers, counted, and how far the receiver's number is from the largest before it and after it
-record Delivers (w : Words Reply) (d : Datagram) (n next : ℕ) : Type 0 where
-  many : partsOf w .delivered ≡ length (deliveredBy w d)
+record Delivers (w : Words AnswerKind) (d : Datagram) (n next : ℕ) : Type 0 where
+  many : partsOf w .delivered ≡ length (messagesDelivered w d)
   room : partsOf w .delivered + (largest - next) ≤ largest - n
 
 -- an answer of another kind delivers nothing, and leaves the number
-module _ (d : Datagram) (n : ℕ) (k : Reply) (vs : List ℕ) where
-  none : partsIn (answer k) vs .delivered ≡ 0 → length (deliveredIn (answer k) vs d) ≡ 0 → Delivers (record { which = answer k; refusal = 0; values = vs }) d n n
+module _ (d : Datagram) (n : ℕ) (k : AnswerKind) (vs : List ℕ) where
+  none : partsIn (answer k) vs .delivered ≡ 0 → length (messagesDeliveredAt (answer k) vs d) ≡ 0 → Delivers (record { which = answer k; refusal = 0; values = vs }) d n n
   none e f = record { many = e ∙ sym f; room = omega arith }
 
 -- by the row of the table
 by-row : (limit n f c : ℕ) (d : Datagram) (o : Outcome) → Row limit n (kindOf d) f c o → (kindOf d ≡ data-packet → length (messagesOf d) ≡ c)
     → (kindOf d ≡ data-packet → f + c ≤ largest) → Delivers (o .reply) d n (o .next)
-unfolding partsIn deliveredIn
+unfolding partsIn messagesDeliveredAt
 by-row limit n f c d o (data-reaches k a b e) count fits =
     rw e
     (record {
@@ -57,7 +57,7 @@ by-row limit n f c d o (any-above a e) count fits = rw e (none d n ask _ refl re
 by-row limit n f c d o (end-at k a e) count fits = rw e (none d n ended [] refl refl)
 
 refused-none : (d : Datagram) (n k : ℕ) → Delivers (refuses k) d n n
-unfolding partsIn deliveredIn
+unfolding partsIn messagesDeliveredAt
 refused-none d n k = record { many = refl; room = omega arith }
 
 delivers-so : (r : Receiver) (d : Datagram) → Delivers (answerOf r d) d (r .next .0) (receiverAfter r d .next .0)
@@ -68,7 +68,7 @@ delivers-so r d = zero-or-not _ (refusalFor r d) good bad
         let w = well-read r d z in
         let s = sound d w .numbers-fit in
         rw (row-answer r d z, row-after r d z)
-        (by-row (r .limit .0) (r .next .0) (numberOf d) (countOf d) d (rowOf r d) (row-of r d z)
+        (by-row (r .limit .0) (r .next .0) (numberOf d) (countOf d) d (tableRow r d) (row-of r d z)
         (λ k. count-sound d w ∙ kind-blocks d data-packet k)
         (λ k. omega (arith, s, kind-blocks d data-packet k)))
 
@@ -82,7 +82,7 @@ record Single (t : Tally) : Type 0 where
   asked-one : t .asked ≤ 1
   refused-one : t .refused ≤ 1
 
-single-in : (w : Case Reply) (vs : List ℕ) → Single (partsIn w vs)
+single-in : (w : Case AnswerKind) (vs : List ℕ) → Single (partsIn w vs)
 unfolding partsIn
 single-in (answer deliver) vs = record { old-one = omega arith; quiet-one = omega arith; asked-one = omega arith; refused-one = omega arith }
 single-in (answer old) vs = record { old-one = omega arith; quiet-one = omega arith; asked-one = omega arith; refused-one = omega arith }
@@ -94,7 +94,7 @@ single-in refused vs = record { old-one = omega arith; quiet-one = omega arith; 
 -- ---- a list of datagrams
 
 -- a part that is at most 1 sums to at most as many as there are
-sum-few : (part : Tally → ℕ) → ((w : Words Reply) → part (partsOf w) ≤ 1) → (r : Receiver) (ds : List Datagram) → sumOf part (answersOf r ds) ≤ length ds
+sum-few : (part : Tally → ℕ) → ((w : Words AnswerKind) → part (partsOf w) ≤ 1) → (r : Receiver) (ds : List Datagram) → sumOf part (answersOf r ds) ≤ length ds
 unfolding sumOf answersOf
 sum-few part one r [] = omega arith
 sum-few part one r (d ∷ ds) = let i = sum-few part one (receiverAfter r d) ds in omega (arith, one (answerOf r d))
@@ -119,7 +119,7 @@ delivered-sum r [] = refl
 delivered-sum r (d ∷ ds) =
     let i = delivered-sum (receiverAfter r d) ds in
     let m = delivers-so r d .many in
-    omega (arith, length-append (deliveredBy (answerOf r d) d) (delivered plain (receiverAfter r d) ds))
+    omega (arith, length-append (messagesDelivered (answerOf r d) d) (delivered plain (receiverAfter r d) ds))
 
 -- and lies between the receiver's number and the largest
 delivered-room : (r : Receiver) (ds : List Datagram) → sumOf (λ t. t .delivered) (answersOf r ds) ≤ largest - r .next .0

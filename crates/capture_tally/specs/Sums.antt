@@ -5,7 +5,7 @@ use mathlib.Core.Path.{_≡_}
 use lib.ListN.{length}
 use Rattle.wire.specs.Words.{Words}
 use Rattle.receiver.specs.declared.receiver.Receiver.{Receiver}
-use Rattle.receiver.specs.Table.{Reply}
+use Rattle.receiver.specs.Table.{AnswerKind}
 use Rattle.receiver.specs.Receiver.{answerOf, receiverAfter}
 use Rattle.receiver.specs.Feed.{Datagram, after, delivered}
 use Rattle.receiver.specs.Condition3.{plain}
@@ -16,12 +16,12 @@ use Rattle.capture_tally.specs.Tally.{tally, partsOf}
 use Rattle.capture_tally.specs.Report.{report, freshOf, cutOf, over}
 
 -- the receiver's answers to the datagrams, one after the other
-unfoldable pub answersOf : Receiver → List Datagram → List (Words Reply)
+unfoldable pub answersOf : Receiver → List Datagram → List (Words AnswerKind)
 answersOf r [] = []
 answersOf r (d ∷ ds) = answerOf r d ∷ answersOf (receiverAfter r d) ds
 
 -- the sum of one part over all answers
-unfoldable pub sumOf : (Tally → ℕ) → List (Words Reply) → ℕ
+unfoldable pub sumOf : (Tally → ℕ) → List (Words AnswerKind) → ℕ
 sumOf part [] = 0
 sumOf part (w ∷ ws) = part (partsOf w) + sumOf part ws
 

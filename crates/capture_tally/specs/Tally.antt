@@ -1,11 +1,11 @@
 -- The five counts of a report.
-use Prim.Native.Nat.{ℕ, _+_}
+use Prim.Native.Nat.{ℕ, _+_, _-_, _^_}
 use mathlib.Core.List.{List}
 use lib.ListN.{getD}
 use lib.Dec.{ltb}
 use Rattle.wire.specs.Choice.{if_then_else_}
 use Rattle.wire.specs.Words.{Words, Case, answer, refused}
-use Rattle.receiver.specs.Table.{Reply, deliver, old, quiet, ask, ended}
+use Rattle.receiver.specs.Table.{AnswerKind, deliver, old, quiet, ask, ended}
 use Rattle.capture_tally.specs.declared.tally.Tally.{Tally}
 
 -- messages delivered; answers old, quiet and ask; refusals
@@ -13,7 +13,7 @@ abbrev pub tally : ℕ → ℕ → ℕ → ℕ → ℕ → Tally
 tally d o q a r = record { delivered = d; old = o; quiet = q; asked = a; refused = r }
 
 -- what an answer adds to each count: a deliver answer its messages, the second of its values
-unfoldable pub partsIn : Case Reply → List ℕ → Tally
+unfoldable pub partsIn : Case AnswerKind → List ℕ → Tally
 partsIn (answer deliver) values = tally (getD values 1 0) 0 0 0 0
 partsIn (answer old) values = tally 0 1 0 0 0
 partsIn (answer quiet) values = tally 0 0 1 0 0
@@ -21,7 +21,7 @@ partsIn (answer ask) values = tally 0 0 0 1 0
 partsIn (answer ended) values = tally 0 0 0 0 0
 partsIn refused values = tally 0 0 0 0 1
 
-abbrev pub partsOf : Words Reply → Tally
+abbrev pub partsOf : Words AnswerKind → Tally
 partsOf w = partsIn (w .which) (w .values)
 
 -- what a record that is cut short adds: one refusal
@@ -30,7 +30,7 @@ cutParts = tally 0 0 0 0 1
 
 -- the largest count, 2^64 - 1
 abbrev pub largest : ℕ
-largest = 18446744073709551615
+largest = 2 ^ 64 - 1
 
 -- a sum, capped at the largest count
 unfoldable pub upTo : ℕ → ℕ → ℕ

@@ -5,7 +5,7 @@ ghost use Rattle.receiver.specs.Table.{answerWords};
 ghost use Rattle.capture_tally.specs.Tally.{partsOf, plusOf, upTo};
 
 // The largest count.
-const LARGEST: u64 = 18446744073709551615;
+const LARGEST: u64 = u64::MAX;
 
 // Messages delivered, and answers of the other kinds.
 pub struct Tally {

@@ -17,13 +17,13 @@ use Rattle.decimal.specs.Decimal.{digits}
 use Rattle.decimal.proofs.SpellLaws.{length-digits}
 use Rattle.capture_settings.specs.Settings.{sessionKey, lineFeed}
 use Rattle.capture_settings.specs.Statements.{line}
-use Rattle.capture_text.specs.Text.{numberLine, sessionLine, endedKey, yes, no, endedLine, Lays}
+use Rattle.capture_text.specs.Text.{numberLine, sessionLine, endedKey, yes, no, endedLine, LaysLine}
 
 -- ---- two parts
 
 -- one after the other they are one part
-pub then-laid : {l m o : List ℕ} {at a b : ℕ} {x y : List ℕ} {k n : ℕ} → Lays a l m at x k → Lays b m o a y n → at + k + n ≤ length l
-    → Lays b l o at (x ++ y) (k + n)
+pub then-laid : {l m o : List ℕ} {at a b : ℕ} {x y : List ℕ} {k n : ℕ} → LaysLine a l m at x k → LaysLine b m o a y n → at + k + n ≤ length l
+    → LaysLine b l o at (x ++ y) (k + n)
 then-laid {l} {m} {o} {at} {a} {b} {x} {y} {k} {n} p q h =
     let s = length-append x y in
     let r : at + length x + length y ≤ length l = omega (arith, p .within, q .within) in
@@ -34,7 +34,7 @@ then-laid {l} {m} {o} {at} {a} {b} {x} {y} {k} {n} p q h =
     }
 
 -- a larger bound
-pub laid-within : {l m : List ℕ} {at a : ℕ} {x : List ℕ} {k : ℕ} (n : ℕ) → Lays a l m at x k → k ≤ n → Lays a l m at x n
+pub laid-within : {l m : List ℕ} {at a : ℕ} {x : List ℕ} {k : ℕ} (n : ℕ) → LaysLine a l m at x k → k ≤ n → LaysLine a l m at x n
 laid-within n p h = record { place = p .place; bytes = p .bytes; within = omega (arith, p .within) }
 
 -- ---- how long a line is
@@ -67,12 +67,12 @@ module _ (r : Written) (l m : List ℕ) (at n : ℕ) (w : Writes r l m 0 at (dig
       let s = laid-digits k e in
       record { fits = omega (arith, s .size, s .room) }
 
-  pub digits-laid : (k : ℕ) → r ≡ Wrote k → Lays (at + k) l m at (digits n) 20
+  pub digits-laid : (k : ℕ) → r ≡ Wrote k → LaysLine (at + k) l m at (digits n) 20
   digits-laid k e =
       let s = laid-digits k e in
       record { place = ap (λ (i : ℕ). at + i) (s .size); bytes = w .leaves; within = length-digits n }
 
-  pub digits-not-refused : (q : Refusal) → r ≡ Refused q → Lays at l m at (digits n) 20
+  pub digits-not-refused : (q : Refusal) → r ≡ Refused q → LaysLine at l m at (digits n) 20
   unfolding writtenWords
   digits-not-refused q e =
       let g : at + length (digits n) ≤ length l = omega (arith, length-digits n) in
@@ -84,27 +84,27 @@ module _ (r : Written) (l m : List ℕ) (at n : ℕ) (w : Writes r l m 0 at (dig
 -- ---- the lines
 
 module _ (l m o p : List ℕ) (at a b c : ℕ) where
-  pub number-line-laid : (key : List ℕ) (n : ℕ) → Lays a l m at key (length key) → Lays b m o a (digits n) 20
-      → Lays c o p b (lineFeed ∷ []) 1 → at + length key + 21 ≤ length l
-      → Lays c l p at (numberLine key n) (length key + 21)
+  pub number-line-laid : (key : List ℕ) (n : ℕ) → LaysLine a l m at key (length key) → LaysLine b m o a (digits n) 20
+      → LaysLine c o p b (lineFeed ∷ []) 1 → at + length key + 21 ≤ length l
+      → LaysLine c l p at (numberLine key n) (length key + 21)
   unfolding numberLine
   number-line-laid key n x y z h =
       let u = then-laid x y (omega arith) in
       laid-within (length key + 21) (then-laid u z (omega arith)) (omega arith)
 
-  pub session-line-laid : (name : List ℕ) → Lays a l m at sessionKey 8 → Lays b m o a name (length name)
-      → Lays c o p b (lineFeed ∷ []) 1 → length name ≡ 10 → at + 19 ≤ length l
-      → Lays c l p at (sessionLine name) 19
+  pub session-line-laid : (name : List ℕ) → LaysLine a l m at sessionKey 8 → LaysLine b m o a name (length name)
+      → LaysLine c o p b (lineFeed ∷ []) 1 → length name ≡ 10 → at + 19 ≤ length l
+      → LaysLine c l p at (sessionLine name) 19
   unfolding sessionLine
   session-line-laid name x y z e h =
       let u = then-laid x (laid-within 10 y (omega arith)) (omega arith) in
       then-laid u z (omega arith)
 
 module _ (e : Bool) (l m : List ℕ) (at a : ℕ) where
-  pub ended-laid : e ≡ true → Lays a l m at (line endedKey yes) 10 → Lays a l m at (endedLine e) 10
+  pub ended-laid : e ≡ true → LaysLine a l m at (line endedKey yes) 10 → LaysLine a l m at (endedLine e) 10
   unfolding endedLine
   ended-laid f x = rw f x
 
-  pub not-ended-laid : e ≡ false → Lays a l m at (line endedKey no) 9 → Lays a l m at (endedLine e) 10
+  pub not-ended-laid : e ≡ false → LaysLine a l m at (line endedKey no) 9 → LaysLine a l m at (endedLine e) 10
   unfolding endedLine
   not-ended-laid f x = rw f (laid-within 10 x (omega arith))

@@ -13,23 +13,23 @@ use Rattle.capture_tally.specs.declared.tally.Tally.{Tally}
 use Rattle.capture_tally.specs.declared.report.Report.{Report}
 use Rattle.capture_settings.specs.Settings.{nextKey}
 use Rattle.capture_settings.specs.Statements.{line}
-use Rattle.capture_text.specs.Text.{numberLine, sessionLine, endedLine, deliveredKey, oldKey, quietKey, askedKey, refusedKey, receiverText, tallyText, reportText, settingsKey, refusedWord, refusedText, room, Lays}
+use Rattle.capture_text.specs.Text.{numberLine, sessionLine, endedLine, deliveredKey, oldKey, quietKey, askedKey, refusedKey, receiverText, tallyText, reportText, settingsKey, refusedWord, refusedText, room, LaysLine}
 use Rattle.capture_text.proofs.LineLaws.{then-laid, laid-within, number-length, session-length, ended-length}
 
 -- ---- the parts
 
-pub receiver-laid : (x : Receiver) (l m o p : List ℕ) (a b c : ℕ) → Lays a l m 0 (sessionLine (x .session)) 19
-    → Lays b m o a (numberLine nextKey (x .next .0)) 26 → Lays c o p b (endedLine (x .ended)) 10 → room ≤ length l
-    → Lays c l p 0 (receiverText x) 60
+pub receiver-laid : (x : Receiver) (l m o p : List ℕ) (a b c : ℕ) → LaysLine a l m 0 (sessionLine (x .session)) 19
+    → LaysLine b m o a (numberLine nextKey (x .next .0)) 26 → LaysLine c o p b (endedLine (x .ended)) 10 → room ≤ length l
+    → LaysLine c l p 0 (receiverText x) 60
 unfolding receiverText
 receiver-laid x l m o p a b c u v w h =
     let s = then-laid u v (omega arith) in
     laid-within 60 (then-laid s w (omega arith)) (omega arith)
 
-pub tally-laid : (t : Tally) (l m o p q r : List ℕ) (at a b c d e : ℕ) → Lays a l m at (numberLine deliveredKey (t .delivered)) 31
-    → Lays b m o a (numberLine oldKey (t .old)) 25 → Lays c o p b (numberLine quietKey (t .quiet)) 27
-    → Lays d p q c (numberLine askedKey (t .asked)) 27 → Lays e q r d (numberLine refusedKey (t .refused)) 29 → at + 140 ≤ length l
-    → Lays e l r at (tallyText t) 140
+pub tally-laid : (t : Tally) (l m o p q r : List ℕ) (at a b c d e : ℕ) → LaysLine a l m at (numberLine deliveredKey (t .delivered)) 31
+    → LaysLine b m o a (numberLine oldKey (t .old)) 25 → LaysLine c o p b (numberLine quietKey (t .quiet)) 27
+    → LaysLine d p q c (numberLine askedKey (t .asked)) 27 → LaysLine e q r d (numberLine refusedKey (t .refused)) 29 → at + 140 ≤ length l
+    → LaysLine e l r at (tallyText t) 140
 unfolding tallyText
 tally-laid t l m o p q r at a b c d e x₁ x₂ x₃ x₄ x₅ h =
     let s₂ = then-laid x₁ x₂ (omega arith) in
@@ -37,14 +37,14 @@ tally-laid t l m o p q r at a b c d e x₁ x₂ x₃ x₄ x₅ h =
     let s₄ = then-laid s₃ x₄ (omega arith) in
     laid-within 140 (then-laid s₄ x₅ (omega arith)) (omega arith)
 
-pub report-laid : (x : Report) (l m o : List ℕ) (a b : ℕ) → Lays a l m 0 (receiverText (x .receiver)) 60
-    → Lays b m o a (tallyText (x .tally)) 140 → room ≤ length l → Lays b l o 0 (reportText x) 200
+pub report-laid : (x : Report) (l m o : List ℕ) (a b : ℕ) → LaysLine a l m 0 (receiverText (x .receiver)) 60
+    → LaysLine b m o a (tallyText (x .tally)) 140 → room ≤ length l → LaysLine b l o 0 (reportText x) 200
 unfolding reportText
 report-laid x l m o a b u v h = then-laid u v (omega arith)
 
 -- ---- the whole, copied from the front of a text of its own: z is that text before, t after
 
-module _ (x : Report) (z t : List ℕ) (n : ℕ) (p : Lays n z t 0 (reportText x) 200) (h : room ≤ length z) where
+module _ (x : Report) (z t : List ℕ) (n : ℕ) (p : LaysLine n z t 0 (reportText x) 200) (h : room ≤ length z) where
   report-front : take n t ≡ reportText x
   report-front =
       let g : 0 + length (reportText x) ≤ length z = omega (arith, p .within) in

@@ -4,6 +4,7 @@ use mathlib.Core.List.{List, [], _∷_, _++_}
 use mathlib.Core.Bool.{Bool, true, false}
 use mathlib.Core.Path.{_≡_}
 use lib.ListN.{length}
+use Rattle.wire.specs.Text.{ascii}
 use Rattle.wire.specs.Output.{put}
 use Rattle.decimal.specs.Decimal.{digits}
 use Rattle.receiver.specs.declared.receiver.Receiver.{Receiver}
@@ -24,13 +25,13 @@ sessionLine name = line sessionKey name
 
 -- `ended=`, `yes` and `no`
 abbrev pub endedKey : List ℕ
-endedKey = 101 ∷ 110 ∷ 100 ∷ 101 ∷ 100 ∷ 61 ∷ []
+endedKey = ascii "ended="
 
 abbrev pub yes : List ℕ
-yes = 121 ∷ 101 ∷ 115 ∷ []
+yes = ascii "yes"
 
 abbrev pub no : List ℕ
-no = 110 ∷ 111 ∷ []
+no = ascii "no"
 
 unfoldable pub endedLine : Bool → List ℕ
 endedLine true = line endedKey yes
@@ -38,19 +39,19 @@ endedLine false = line endedKey no
 
 -- `delivered=`, `old=`, `quiet=`, `asked=`, `refused=`
 abbrev pub deliveredKey : List ℕ
-deliveredKey = 100 ∷ 101 ∷ 108 ∷ 105 ∷ 118 ∷ 101 ∷ 114 ∷ 101 ∷ 100 ∷ 61 ∷ []
+deliveredKey = ascii "delivered="
 
 abbrev pub oldKey : List ℕ
-oldKey = 111 ∷ 108 ∷ 100 ∷ 61 ∷ []
+oldKey = ascii "old="
 
 abbrev pub quietKey : List ℕ
-quietKey = 113 ∷ 117 ∷ 105 ∷ 101 ∷ 116 ∷ 61 ∷ []
+quietKey = ascii "quiet="
 
 abbrev pub askedKey : List ℕ
-askedKey = 97 ∷ 115 ∷ 107 ∷ 101 ∷ 100 ∷ 61 ∷ []
+askedKey = ascii "asked="
 
 abbrev pub refusedKey : List ℕ
-refusedKey = 114 ∷ 101 ∷ 102 ∷ 117 ∷ 115 ∷ 101 ∷ 100 ∷ 61 ∷ []
+refusedKey = ascii "refused="
 
 -- ---- the text
 
@@ -70,10 +71,10 @@ reportText x = receiverText (x .receiver) ++ tallyText (x .tally)
 
 -- `settings=refused`
 abbrev pub settingsKey : List ℕ
-settingsKey = 115 ∷ 101 ∷ 116 ∷ 116 ∷ 105 ∷ 110 ∷ 103 ∷ 115 ∷ 61 ∷ []
+settingsKey = ascii "settings="
 
 abbrev pub refusedWord : List ℕ
-refusedWord = 114 ∷ 101 ∷ 102 ∷ 117 ∷ 115 ∷ 101 ∷ 100 ∷ []
+refusedWord = ascii "refused"
 
 unfoldable pub refusedText : List ℕ
 refusedText = line settingsKey refusedWord
@@ -85,7 +86,7 @@ room = 256
 -- ---- laying it, part by part: for private helpers alone; no public promise uses it
 
 -- bs was laid at a place of l, which gave m; the next place follows it, and it is no longer than most
-pub record Lays (next : ℕ) (l m : List ℕ) (at : ℕ) (bs : List ℕ) (most : ℕ) : Type 0 where
+pub record LaysLine (next : ℕ) (l m : List ℕ) (at : ℕ) (bs : List ℕ) (most : ℕ) : Type 0 where
   pub place : next ≡ at + length bs
   pub bytes : m ≡ put l at bs
   pub within : length bs ≤ most

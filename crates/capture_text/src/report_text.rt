@@ -9,7 +9,7 @@ use wire::output::Written;
 ghost use Prim.Native.Nat.{_+_, _≤_};
 ghost use lib.ListN.{length};
 ghost use Rattle.wire.specs.Output.{Writes};
-ghost use Rattle.capture_text.specs.Text.{room, Lays, receiverText, tallyText, reportText, refusedText};
+ghost use Rattle.capture_text.specs.Text.{room, LaysLine, receiverText, tallyText, reportText, refusedText};
 
 // The bytes that are room enough for any report.
 pub const ROOM: usize = 256;
@@ -17,7 +17,7 @@ pub const ROOM: usize = 256;
 // The lines of the receiver, at the front.
 fn put_receiver(out: &mut [u8], receiver: Receiver) -> ByteOffset
     requires { ⌜ room ≤ length (now out) ⌝ }
-    ensures { λ r. ⌜ Lays (r .0) (now (out .entry)) (now (out .exit)) 0 (receiverText receiver) 60 ⌝ }
+    ensures { λ r. ⌜ LaysLine (r .0) (now (out .entry)) (now (out .exit)) 0 (receiverText receiver) 60 ⌝ }
 {
     let name = receiver.session;
     let a = lines::put_session_line(out, ByteOffset(0), name);
@@ -28,7 +28,7 @@ fn put_receiver(out: &mut [u8], receiver: Receiver) -> ByteOffset
 // The lines of the counts.
 fn put_tally(out: &mut [u8], at: ByteOffset, tally: Tally) -> ByteOffset
     requires { ⌜ at .0 + 140 ≤ length (now out) ⌝ }
-    ensures { λ r. ⌜ Lays (r .0) (now (out .entry)) (now (out .exit)) (at .0) (tallyText tally) 140 ⌝ }
+    ensures { λ r. ⌜ LaysLine (r .0) (now (out .entry)) (now (out .exit)) (at .0) (tallyText tally) 140 ⌝ }
 {
     let a = lines::put_number_line(out, at, b"delivered=", tally.delivered);
     let b = lines::put_number_line(out, a, b"old=", tally.old);
@@ -40,7 +40,7 @@ fn put_tally(out: &mut [u8], at: ByteOffset, tally: Tally) -> ByteOffset
 // All lines, at the front.
 fn put_report(out: &mut [u8], report: Report) -> ByteOffset
     requires { ⌜ room ≤ length (now out) ⌝ }
-    ensures { λ r. ⌜ Lays (r .0) (now (out .entry)) (now (out .exit)) 0 (reportText report) 200 ⌝ }
+    ensures { λ r. ⌜ LaysLine (r .0) (now (out .entry)) (now (out .exit)) 0 (reportText report) 200 ⌝ }
 {
     let receiver = report.receiver;
     let tally = report.tally;

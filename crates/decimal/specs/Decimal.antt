@@ -5,6 +5,7 @@ use mathlib.Core.Bool.{Bool, true, false, _&&_}
 use mathlib.Core.Path.{_≡_}
 use lib.ListN.{length, getD}
 use lib.Dec.{ltb, leb}
+use Rattle.wire.specs.Text.{letter}
 use Rattle.wire.specs.Choice.{if_then_else_}
 use Rattle.wire.specs.Bounds.{largestNumber}
 use Rattle.wire.specs.Words.{Words, says, Injective}
@@ -13,11 +14,11 @@ use Rattle.decimal.specs.declared.reading.Appended.the-variants.{Value, 
 
 -- `0` to `9`
 unfoldable pub isDigit : ℕ → Bool
-isDigit b = if ltb b 48 then false else leb b 57
+isDigit b = if ltb b (letter "0") then false else leb b (letter "9")
 
 -- a number with one more digit behind it
 abbrev pub withDigit : ℕ → ℕ → ℕ
-withDigit v b = v * 10 + (b - 48)
+withDigit v b = v * 10 + (b - letter "0")
 
 -- ---- one more byte
 
@@ -45,7 +46,7 @@ AppendedApart = Injective appendedWords
 -- the digits of a number below 10 ^ f, without leading zeros; the number 0 has one digit
 unfoldable pub digitsUpTo : ℕ → ℕ → List ℕ
 digitsUpTo zero n = []
-digitsUpTo (suc f) n = (if ltb n 10 then [] else digitsUpTo f (n / 10)) ++ ((48 + n % 10) ∷ [])
+digitsUpTo (suc f) n = (if ltb n 10 then [] else digitsUpTo f (n / 10)) ++ ((letter "0" + n % 10) ∷ [])
 
 -- the digits of a number of 64 bits, which has at most 20
 unfoldable pub digits : ℕ → List ℕ
@@ -69,7 +70,7 @@ areDigits (b ∷ t) = isDigit b && areDigits t
 pub record Spelled (t : List ℕ) : Type 0 where
   pub some : 0 < length t
   pub digits-alone : areDigits t ≡ true
-  pub no-leading-zero : 1 < length t → getD t 0 0 ≡ 48 → ⊥
+  pub no-leading-zero : 1 < length t → getD t 0 0 ≡ letter "0" → ⊥
 
 -- the digits of a number are such a text with its value, and there is no other
 pub record SpellsNumbers : Type 0 where

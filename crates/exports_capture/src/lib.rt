@@ -11,7 +11,7 @@ ghost use lib.ListN.{length};
 ghost use lib.Dec.{ltb};
 ghost use Rattle.capture.specs.Reading.{startReading, feedOf, finishOf, isOver, textOf};
 ghost use Rattle.capture.specs.Whole.{captureText};
-ghost use Rattle.host_answers.specs.Answers.{codeOf, flag, Reports, ReportsWriting};
+ghost use Rattle.host_answers.specs.Answers.{codeOf, flag, AnswersWith, AnswersWriting};
 ghost use Rattle.host_capture.specs.Reading.{readingSize, readingIn, KeepsReading};
 
 // Starts the reading of a capture in pieces.
@@ -28,7 +28,7 @@ pub extern "C" fn eiderwagon_capture_start(state: &mut [u8]) -> u32
 // Feeds some bytes, after which more may come: how many were used, and whether nothing that follows changes the report.
 #[no_mangle]
 pub extern "C" fn eiderwagon_capture_feed(state: &mut [u8], bytes: &[u8], words: &mut [u64]) -> u32
-    ensures { λ r. ⌜ Reports r (now (words .entry)) (now (words .exit)) (ltb (length (now (state .entry))) readingSize) 0 (feedOf (readingIn (now (state .entry))) (now (bytes .entry)) .used ∷ flag (isOver (feedOf (readingIn (now (state .entry))) (now (bytes .entry)) .reading .stage)) ∷ []) ⌝ }
+    ensures { λ r. ⌜ AnswersWith r (now (words .entry)) (now (words .exit)) (ltb (length (now (state .entry))) readingSize) 0 (feedOf (readingIn (now (state .entry))) (now (bytes .entry)) .used ∷ flag (isOver (feedOf (readingIn (now (state .entry))) (now (bytes .entry)) .reading .stage)) ∷ []) ⌝ }
     ensures keeps { λ r. ⌜ KeepsReading r (now (state .entry)) (now (state .exit)) (feedOf (readingIn (now (state .entry))) (now (bytes .entry)) .reading) ⌝ }
 {
     let fed = host_capture::read(state).feed(bytes);
@@ -37,7 +37,7 @@ pub extern "C" fn eiderwagon_capture_feed(state: &mut [u8], bytes: &[u8], words:
         fed.used as u64,
         host_answers::flag(reading.is_over()) as u64,
     ];
-    let code = host_answers::report(
+    let code = host_answers::answer(
         words,
         state.len() < host_capture::SIZE,
         refusal::NONE,
@@ -62,12 +62,12 @@ pub extern "C" fn eiderwagon_capture_finish(state: &mut [u8], bytes: &[u8]) -> u
 // Writes what was read so far.
 #[no_mangle]
 pub extern "C" fn eiderwagon_capture_write(state: &[u8], out: &mut [u8], words: &mut [u64]) -> u32
-    ensures { λ r. ⌜ ReportsWriting r (now (words .entry)) (now (words .exit)) (now (out .entry)) (now (out .exit)) (ltb (length (now (state .entry))) readingSize) 0 (textOf (readingIn (now (state .entry)))) ⌝ }
+    ensures { λ r. ⌜ AnswersWriting r (now (words .entry)) (now (words .exit)) (now (out .entry)) (now (out .exit)) (ltb (length (now (state .entry))) readingSize) 0 (textOf (readingIn (now (state .entry)))) ⌝ }
 {
     if (state.len() < host_capture::SIZE) | (words.len() < WRITTEN_WORDS) {
         return SHORT;
     }
-    host_answers::report_written(words, host_capture::read(state).write(out))
+    host_answers::answer_written(words, host_capture::read(state).write(out))
 }
 
 // Writes the report of a whole capture.
@@ -77,10 +77,10 @@ pub extern "C" fn eiderwagon_capture_report(
     out: &mut [u8],
     words: &mut [u64],
 ) -> u32
-    ensures { λ r. ⌜ ReportsWriting r (now (words .entry)) (now (words .exit)) (now (out .entry)) (now (out .exit)) false 0 (captureText (now (capture .entry))) ⌝ }
+    ensures { λ r. ⌜ AnswersWriting r (now (words .entry)) (now (words .exit)) (now (out .entry)) (now (out .exit)) false 0 (captureText (now (capture .entry))) ⌝ }
 {
     if words.len() < WRITTEN_WORDS {
         return SHORT;
     }
-    host_answers::report_written(words, whole::report(capture, out))
+    host_answers::answer_written(words, whole::report(capture, out))
 }

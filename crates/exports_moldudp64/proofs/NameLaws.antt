@@ -11,25 +11,25 @@ use Rattle.wire.specs.declared.output.Written.{Written}
 use Rattle.wire.specs.Parts.{firstBytes}
 use Rattle.moldudp64.specs.Header.{header}
 use Rattle.moldudp64.specs.Request.{requestGround}
-use Rattle.moldudp64.specs.Written.{packet, endPacket}
-use Rattle.moldudp64_writer.specs.Writer.{cut, packetOf, packetGround, endGround}
-use Rattle.host_answers.specs.Answers.{padded, Reports, ReportsWriting}
+use Rattle.moldudp64.specs.Written.{encoded, encodedEnd}
+use Rattle.moldudp64_writer.specs.Writer.{cut, encodedCut, packetGround, endGround}
+use Rattle.host_answers.specs.Answers.{padded, AnswersWith, AnswersWriting}
 use Rattle.host_answers.proofs.WritingLaws.{writing-reported}
 
 module _ (lacks : Bool) (ws ws′ l l′ : List ℕ) (w : Written) (r n : ℕ) (s t : List ℕ) (a : t ≡ firstBytes sessionSize s) (e : lacks || ltb (length ws) 1 ≡ false)
-    (h : Reports r ws ws′ false (writtenWords w .refusal) (padded 1 (writtenWords w .values))) where
-  pub data-reported : (ks d : List ℕ) → Writes w l l′ (packetGround n ks d) 0 (packetOf t n ks d)
-      → ReportsWriting r ws ws′ l l′ lacks (packetGround n ks d) (packetOf (firstBytes sessionSize s) n ks d)
+    (h : AnswersWith r ws ws′ false (writtenWords w .refusal) (padded 1 (writtenWords w .values))) where
+  pub data-reported : (ks d : List ℕ) → Writes w l l′ (packetGround n ks d) 0 (encodedCut t n ks d)
+      → AnswersWriting r ws ws′ l l′ lacks (packetGround n ks d) (encodedCut (firstBytes sessionSize s) n ks d)
   data-reported ks d f = rw (← a) (writing-reported lacks ws l _ _ w r ws′ l′ e f h)
 
-  pub heartbeat-reported : Writes w l l′ (packetGround n [] []) 0 (packetOf t n [] [])
-      → ReportsWriting r ws ws′ l l′ lacks (packetGround n [] []) (packet (firstBytes sessionSize s) n [])
+  pub heartbeat-reported : Writes w l l′ (packetGround n [] []) 0 (encodedCut t n [] [])
+      → AnswersWriting r ws ws′ l l′ lacks (packetGround n [] []) (encoded (firstBytes sessionSize s) n [])
   unfolding cut
   heartbeat-reported f = rw (← a) (writing-reported lacks ws l _ _ w r ws′ l′ e f h)
 
-  pub end-reported : Writes w l l′ (endGround n) 0 (endPacket t n) → ReportsWriting r ws ws′ l l′ lacks (endGround n) (endPacket (firstBytes sessionSize s) n)
+  pub end-reported : Writes w l l′ (endGround n) 0 (encodedEnd t n) → AnswersWriting r ws ws′ l l′ lacks (endGround n) (encodedEnd (firstBytes sessionSize s) n)
   end-reported f = rw (← a) (writing-reported lacks ws l _ _ w r ws′ l′ e f h)
 
   pub request-reported : (c : ℕ) → Writes w l l′ (requestGround n c) 0 (header t n c)
-      → ReportsWriting r ws ws′ l l′ lacks (requestGround n c) (header (firstBytes sessionSize s) n c)
+      → AnswersWriting r ws ws′ l l′ lacks (requestGround n c) (header (firstBytes sessionSize s) n c)
   request-reported c f = rw (← a) (writing-reported lacks ws l _ _ w r ws′ l′ e f h)

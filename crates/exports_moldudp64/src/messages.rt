@@ -8,8 +8,8 @@ ghost use mathlib.Core.Path.{_≡_};
 ghost use mathlib.Core.Bool.{false};
 ghost use lib.ListN.{length};
 ghost use lib.Dec.{ltb};
-ghost use Rattle.moldudp64_messages.specs.Cursor.{locateOf, located, moved, startOf};
-ghost use Rattle.host_answers.specs.Answers.{codeOf, Reports};
+ghost use Rattle.moldudp64_messages.specs.Cursor.{locateOf, located, advanced, startOf};
+ghost use Rattle.host_answers.specs.Answers.{codeOf, AnswersWith};
 ghost use Rattle.host_cursor.specs.Cursor.{cursorSize, cursorIn, KeepsCursor};
 ghost use Rattle.exports_moldudp64.specs.Datagrams.{locatedWords};
 
@@ -29,10 +29,10 @@ fn located_words(found: Located) -> [u64; MESSAGE_WORDS]
 // Finds one message by its place.
 #[no_mangle]
 pub extern "C" fn eiderwagon_mold_locate(datagram: &[u8], place: u16, words: &mut [u64]) -> u32
-    ensures { λ r. ⌜ Reports r (now (words .entry)) (now (words .exit)) false 0 (locatedWords (locateOf (now (datagram .entry)) place)) ⌝ }
+    ensures { λ r. ⌜ AnswersWith r (now (words .entry)) (now (words .exit)) false 0 (locatedWords (locateOf (now (datagram .entry)) place)) ⌝ }
 {
     let values = located_words(message::locate(datagram, MessageCount(place)));
-    host_answers::report(words, false, refusal::NONE, &values)
+    host_answers::answer(words, false, refusal::NONE, &values)
 }
 
 // Sets a cursor to the first message.
@@ -49,12 +49,12 @@ pub extern "C" fn eiderwagon_mold_walk(datagram: &[u8], cursor: &mut [u8]) -> u3
 // Answers the message at a cursor, and moves the cursor to the next one.
 #[no_mangle]
 pub extern "C" fn eiderwagon_mold_next(cursor: &mut [u8], datagram: &[u8], words: &mut [u64]) -> u32
-    ensures { λ r. ⌜ Reports r (now (words .entry)) (now (words .exit)) (ltb (length (now (cursor .entry))) cursorSize) 0 (locatedWords (located (now (datagram .entry)) (cursorIn (now (cursor .entry))))) ⌝ }
-    ensures keeps { λ r. ⌜ KeepsCursor r (now (cursor .entry)) (now (cursor .exit)) (moved (now (datagram .entry)) (cursorIn (now (cursor .entry)))) ⌝ }
+    ensures { λ r. ⌜ AnswersWith r (now (words .entry)) (now (words .exit)) (ltb (length (now (cursor .entry))) cursorSize) 0 (locatedWords (located (now (datagram .entry)) (cursorIn (now (cursor .entry))))) ⌝ }
+    ensures keeps { λ r. ⌜ KeepsCursor r (now (cursor .entry)) (now (cursor .exit)) (advanced (now (datagram .entry)) (cursorIn (now (cursor .entry)))) ⌝ }
 {
     let at = host_cursor::read(cursor);
     let values = located_words(at.locate(datagram));
-    let code = host_answers::report(
+    let code = host_answers::answer(
         words,
         cursor.len() < host_cursor::SIZE,
         refusal::NONE,

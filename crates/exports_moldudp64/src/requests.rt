@@ -6,7 +6,7 @@ use wire::refusal::Refusal;
 ghost use mathlib.Core.Path.{_≡_};
 ghost use mathlib.Core.Bool.{false};
 ghost use Rattle.moldudp64.specs.Request.{requestWords, requestOf};
-ghost use Rattle.host_answers.specs.Answers.{padded, Reports};
+ghost use Rattle.host_answers.specs.Answers.{padded, AnswersWith};
 
 // The words of a request: its first number and its count.
 const REQUEST_WORDS: usize = 2;
@@ -35,9 +35,9 @@ fn request_words(read: Request) -> SaidRequest
 // Reads a request.
 #[no_mangle]
 pub extern "C" fn eiderwagon_mold_read_request(request: &[u8], words: &mut [u64]) -> u32
-    ensures { λ r. ⌜ Reports r (now (words .entry)) (now (words .exit)) false (requestOf (now (request .entry)) .refusal) (padded 2 (requestOf (now (request .entry)) .values)) ⌝ }
+    ensures { λ r. ⌜ AnswersWith r (now (words .entry)) (now (words .exit)) false (requestOf (now (request .entry)) .refusal) (padded 2 (requestOf (now (request .entry)) .values)) ⌝ }
 {
     let said = request_words(request::read(request));
     let values = said.words;
-    host_answers::report(words, false, said.refusal, &values)
+    host_answers::answer(words, false, said.refusal, &values)
 }

@@ -14,9 +14,9 @@ ghost use Rattle.wire.specs.Bounds.{sessionSize};
 ghost use Rattle.wire.specs.Parts.{firstBytes};
 ghost use Rattle.moldudp64.specs.Header.{header};
 ghost use Rattle.moldudp64.specs.Request.{requestGround};
-ghost use Rattle.moldudp64.specs.Written.{packet, endPacket};
-ghost use Rattle.moldudp64_writer.specs.Writer.{packetOf, packetGround, endGround};
-ghost use Rattle.host_answers.specs.Answers.{ReportsWriting};
+ghost use Rattle.moldudp64.specs.Written.{encoded, encodedEnd};
+ghost use Rattle.moldudp64_writer.specs.Writer.{encodedCut, packetGround, endGround};
+ghost use Rattle.host_answers.specs.Answers.{AnswersWriting};
 
 // Writes data; no lengths make a heartbeat.
 #[no_mangle]
@@ -28,12 +28,12 @@ pub extern "C" fn eiderwagon_mold_write_data(
     out: &mut [u8],
     words: &mut [u64],
 ) -> u32
-    ensures { λ r. ⌜ ReportsWriting r (now (words .entry)) (now (words .exit)) (now (out .entry)) (now (out .exit)) (ltb (length (now (session .entry))) sessionSize) (packetGround first (now (lengths .entry)) (now (joined .entry))) (packetOf (firstBytes sessionSize (now (session .entry))) first (now (lengths .entry)) (now (joined .entry))) ⌝ }
+    ensures { λ r. ⌜ AnswersWriting r (now (words .entry)) (now (words .exit)) (now (out .entry)) (now (out .exit)) (ltb (length (now (session .entry))) sessionSize) (packetGround first (now (lengths .entry)) (now (joined .entry))) (encodedCut (firstBytes sessionSize (now (session .entry))) first (now (lengths .entry)) (now (joined .entry))) ⌝ }
 {
     if (session.len() < SESSION_SIZE) | (words.len() < WRITTEN_WORDS) {
         return SHORT;
     }
-    host_answers::report_written(
+    host_answers::answer_written(
         words,
         downstream::write_messages(
             out,
@@ -53,13 +53,13 @@ pub extern "C" fn eiderwagon_mold_write_heartbeat(
     out: &mut [u8],
     words: &mut [u64],
 ) -> u32
-    ensures { λ r. ⌜ ReportsWriting r (now (words .entry)) (now (words .exit)) (now (out .entry)) (now (out .exit)) (ltb (length (now (session .entry))) sessionSize) (packetGround next [] []) (packet (firstBytes sessionSize (now (session .entry))) next []) ⌝ }
+    ensures { λ r. ⌜ AnswersWriting r (now (words .entry)) (now (words .exit)) (now (out .entry)) (now (out .exit)) (ltb (length (now (session .entry))) sessionSize) (packetGround next [] []) (encoded (firstBytes sessionSize (now (session .entry))) next []) ⌝ }
 {
     if (session.len() < SESSION_SIZE) | (words.len() < WRITTEN_WORDS) {
         return SHORT;
     }
     let lengths = [0u16; 1];
-    host_answers::report_written(
+    host_answers::answer_written(
         words,
         downstream::write_messages(
             out,
@@ -79,12 +79,12 @@ pub extern "C" fn eiderwagon_mold_write_end(
     out: &mut [u8],
     words: &mut [u64],
 ) -> u32
-    ensures { λ r. ⌜ ReportsWriting r (now (words .entry)) (now (words .exit)) (now (out .entry)) (now (out .exit)) (ltb (length (now (session .entry))) sessionSize) (endGround next) (endPacket (firstBytes sessionSize (now (session .entry))) next) ⌝ }
+    ensures { λ r. ⌜ AnswersWriting r (now (words .entry)) (now (words .exit)) (now (out .entry)) (now (out .exit)) (ltb (length (now (session .entry))) sessionSize) (endGround next) (encodedEnd (firstBytes sessionSize (now (session .entry))) next) ⌝ }
 {
     if (session.len() < SESSION_SIZE) | (words.len() < WRITTEN_WORDS) {
         return SHORT;
     }
-    host_answers::report_written(
+    host_answers::answer_written(
         words,
         downstream::write_end_of_session(out, parts::ten(session), SequenceNumber(next)),
     )
@@ -99,12 +99,12 @@ pub extern "C" fn eiderwagon_mold_write_request(
     out: &mut [u8],
     words: &mut [u64],
 ) -> u32
-    ensures { λ r. ⌜ ReportsWriting r (now (words .entry)) (now (words .exit)) (now (out .entry)) (now (out .exit)) (ltb (length (now (session .entry))) sessionSize) (requestGround first count) (header (firstBytes sessionSize (now (session .entry))) first count) ⌝ }
+    ensures { λ r. ⌜ AnswersWriting r (now (words .entry)) (now (words .exit)) (now (out .entry)) (now (out .exit)) (ltb (length (now (session .entry))) sessionSize) (requestGround first count) (header (firstBytes sessionSize (now (session .entry))) first count) ⌝ }
 {
     if (session.len() < SESSION_SIZE) | (words.len() < WRITTEN_WORDS) {
         return SHORT;
     }
-    host_answers::report_written(
+    host_answers::answer_written(
         words,
         request::write(
             out,

@@ -9,24 +9,24 @@ use Rattle.wire.specs.Choice.{if_then_else_}
 use Rattle.wire.proofs.Words.{read-back}
 use Rattle.receiver.specs.declared.receiver.Answer.{Answer}
 use Rattle.receiver.specs.declared.receiver.Answer.the-variants as reply
-use Rattle.receiver.specs.Table.{Reply, deliver, old, quiet, ask, ended, answerWords}
+use Rattle.receiver.specs.Table.{AnswerKind, deliver, old, quiet, ask, ended, answerWords}
 use Rattle.host_answers.specs.Answers.{wordsOf}
-use Rattle.exports_receiver.specs.Replies.{replyNumber, AnswersApart}
+use Rattle.exports_receiver.specs.Replies.{answerNumber, AnswerNumbersApart}
 
 -- an answer of a known case y
 pub answer-refusal : {x y : Answer} {g : ℕ} → x ≡ y → g ≡ answerWords y .refusal → g ≡ answerWords x .refusal
 answer-refusal e h = rw e h
 
-pub answer-words : {x y : Answer} {ws : List ℕ} → x ≡ y → ws ≡ wordsOf replyNumber 4 (answerWords y) → ws ≡ wordsOf replyNumber 4 (answerWords x)
+pub answer-words : {x y : Answer} {ws : List ℕ} → x ≡ y → ws ≡ wordsOf answerNumber 4 (answerWords y) → ws ≡ wordsOf answerNumber 4 (answerWords x)
 answer-words e h = rw e h
 
 -- the numbers tell answers apart: each is read back
-unfoldable reply-of : ℕ → Reply
+unfoldable reply-of : ℕ → AnswerKind
 reply-of n =
     if eqb n 1 then deliver else if eqb n 2 then old else if eqb n 3 then quiet else if eqb n 4 then ask else ended
 
-reply-back : (k : Reply) → reply-of (replyNumber k) ≡ k
-unfolding reply-of replyNumber
+reply-back : (k : AnswerKind) → reply-of (answerNumber k) ≡ k
+unfolding reply-of answerNumber
 reply-back deliver = refl
 reply-back old = refl
 reply-back quiet = refl
@@ -42,5 +42,5 @@ values-in-four (reply.Ask f c) = omega arith
 values-in-four reply.Ended = omega arith
 values-in-four (reply.Refused r) = omega arith
 
-pub answers-apart : AnswersApart
-answers-apart = record { numbers = read-back replyNumber reply-of reply-back; values-fit = values-in-four }
+pub answers-apart : AnswerNumbersApart
+answers-apart = record { numbers = read-back answerNumber reply-of reply-back; values-fit = values-in-four }

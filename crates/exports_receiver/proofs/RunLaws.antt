@@ -14,12 +14,12 @@ use Rattle.receiver.specs.Receiver.{refusalFor, answerOf, receiverAfter}
 use Rattle.receiver.specs.Feed.{Datagram, after}
 use Rattle.receiver.specs.Condition3.{plain}
 use Rattle.receiver.proofs.Promises.{receiver-promises}
-use Rattle.moldudp64.specs.Downstream.{Kind}
+use Rattle.moldudp64.specs.Downstream.{DownstreamKind}
 use Rattle.host_answers.specs.Answers.{codeOf, wordsAt, wordsOf}
 use Rattle.host_answers.proofs.AnswerLaws.{length-padded, success, no-success}
 use Rattle.host_receiver.specs.Receiver.{receiverSize, receiverIn}
-use Rattle.exports_receiver.specs.Replies.{replyNumber}
-use Rattle.exports_receiver.specs.Run.{Takes, Handed, none, one, HandsOn}
+use Rattle.exports_receiver.specs.Replies.{answerNumber}
+use Rattle.exports_receiver.specs.Run.{TakeCall, Handed, none, one, HandsOn}
 
 -- an answer has as many words as it is given
 length-words : {K : Type 0} (table : K → ℕ) (n : ℕ) (c : Case K) (vs : List ℕ) → length (wordsAt table n c vs) ≡ n
@@ -28,7 +28,7 @@ length-words table n (answer k) vs = length-padded n _
 length-words table n refused vs = length-padded n []
 
 -- no row of the table refuses
-no-refusal : (limit n f c : ℕ) (k : Kind) (o : Outcome) → Row limit n k f c o → o .reply .refusal ≡ 0
+no-refusal : (limit n f c : ℕ) (k : DownstreamKind) (o : Outcome) → Row limit n k f c o → o .reply .refusal ≡ 0
 no-refusal limit n f c k o (data-reaches a b d e) = ap (λ (x : Outcome). x .reply .refusal) e
 no-refusal limit n f c k o (data-below a b e) = ap (λ (x : Outcome). x .reply .refusal) e
 no-refusal limit n f c k o (heartbeat-below a b e) = ap (λ (x : Outcome). x .reply .refusal) e
@@ -45,11 +45,11 @@ refused-stays r d z =
     absurd (z (ap (λ (w : Words _). w .refusal) (row .its-answer) ∙ no-refusal _ _ _ _ _ _ (row .its-row))))
     (λ e. receiver-promises .follows-the-table .refused r d e .unchanged)
 
-module _ {l : List ℕ} {d : Datagram} {m : List ℕ} (t : Takes l d m) where
+module _ {l : List ℕ} {d : Datagram} {m : List ℕ} (t : TakeCall l d m) where
   code-is : t .code ≡ answerOf (receiverIn l) d .refusal
   unfolding codeOf
   code-is =
-      let long : length (wordsOf replyNumber 4 (answerOf (receiverIn l) d)) ≡ 4 = length-words replyNumber 4 _ _ in
+      let long : length (wordsOf answerNumber 4 (answerOf (receiverIn l) d)) ≡ 4 = length-words answerNumber 4 _ _ in
       t .answers .returns ∙ rw (long, le-ltb (length (t .words)) 4 (t .room))
 
   took : receiverSize ≤ length l → receiverIn m ≡ receiverAfter (receiverIn l) d

@@ -17,12 +17,12 @@ ghost use lib.Dec.{ltb};
 ghost use Rattle.wire.specs.Bounds.{sessionSize};
 ghost use Rattle.wire.specs.Parts.{firstBytes};
 ghost use Rattle.receiver.specs.Table.{answerWords};
-ghost use Rattle.receiver.specs.Delivery.{deliveryOf};
-ghost use Rattle.receiver.specs.Receiver.{startRefusal, startReceiver, answerOf, receiverAfter};
+ghost use Rattle.receiver.specs.Delivery.{deliveryCursor};
+ghost use Rattle.receiver.specs.Receiver.{receiverStartRefusal, startReceiver, answerOf, receiverAfter};
 ghost use Rattle.host_answers.specs.Answers.{codeOf, wordsOf, Answers};
 ghost use Rattle.host_cursor.specs.Cursor.{cursorSize, KeepsCursor};
 ghost use Rattle.host_receiver.specs.Receiver.{receiverSize, receiverIn, KeepsReceiver};
-ghost use Rattle.exports_receiver.specs.Replies.{replyNumber, AnswersApart};
+ghost use Rattle.exports_receiver.specs.Replies.{answerNumber, AnswerNumbersApart};
 ghost use Rattle.exports_receiver.specs.Run.{HandsOn};
 
 // The words of an answer: which it is, and its three values.
@@ -35,7 +35,7 @@ struct SaidAnswer {
 }
 
 fn answer_words(answer: Answer) -> SaidAnswer
-    ensures { λ r. ⌜ (r .refusal .number ≡ answerWords answer .refusal) × (r .words ≡ wordsOf replyNumber 4 (answerWords answer)) ⌝ }
+    ensures { λ r. ⌜ (r .refusal .number ≡ answerWords answer .refusal) × (r .words ≡ wordsOf answerNumber 4 (answerWords answer)) ⌝ }
 {
     match answer {
         Answer::Deliver {
@@ -77,7 +77,7 @@ pub extern "C" fn eiderwagon_receiver_start(
     limit: u16,
     state: &mut [u8],
 ) -> u32
-    ensures { λ r. ⌜ r ≡ codeOf (ltb (length (now (session .entry))) sessionSize || ltb (length (now (state .entry))) receiverSize) (startRefusal next limit) ⌝ }
+    ensures { λ r. ⌜ r ≡ codeOf (ltb (length (now (session .entry))) sessionSize || ltb (length (now (state .entry))) receiverSize) (receiverStartRefusal next limit) ⌝ }
     ensures keeps { λ r. ⌜ KeepsReceiver r (now (state .entry)) (now (state .exit)) (startReceiver (firstBytes sessionSize (now (session .entry))) next limit) ⌝ }
     ensures hands_on { λ _. ⌜ HandsOn ⌝ }
 {
@@ -100,16 +100,16 @@ pub extern "C" fn eiderwagon_receiver_take(
     datagram: &[u8],
     words: &mut [u64],
 ) -> u32
-    ensures { λ r. ⌜ Answers r (now (words .entry)) (now (words .exit)) (ltb (length (now (state .entry))) receiverSize) replyNumber 4 (answerOf (receiverIn (now (state .entry))) (now (datagram .entry))) ⌝ }
+    ensures { λ r. ⌜ Answers r (now (words .entry)) (now (words .exit)) (ltb (length (now (state .entry))) receiverSize) answerNumber 4 (answerOf (receiverIn (now (state .entry))) (now (datagram .entry))) ⌝ }
     ensures keeps { λ r. ⌜ KeepsReceiver r (now (state .entry)) (now (state .exit)) (receiverAfter (receiverIn (now (state .entry))) (now (datagram .entry))) ⌝ }
-    ensures tells_apart { λ _. ⌜ AnswersApart ⌝ }
+    ensures tells_apart { λ _. ⌜ AnswerNumbersApart ⌝ }
 {
     let taken = host_receiver::read(state).take(datagram);
     let answer = taken.answer;
     let after = taken.receiver;
     let said = answer_words(answer);
     let values = said.words;
-    let code = host_answers::report(
+    let code = host_answers::answer(
         words,
         state.len() < host_receiver::SIZE,
         said.refusal,
@@ -128,7 +128,7 @@ pub extern "C" fn eiderwagon_receiver_walk(
     cursor: &mut [u8],
 ) -> u32
     ensures { λ r. ⌜ r ≡ codeOf (ltb (length (now (cursor .entry))) cursorSize) 0 ⌝ }
-    ensures keeps { λ r. ⌜ KeepsCursor r (now (cursor .entry)) (now (cursor .exit)) (deliveryOf (now (datagram .entry)) count skipped) ⌝ }
+    ensures keeps { λ r. ⌜ KeepsCursor r (now (cursor .entry)) (now (cursor .exit)) (deliveryCursor (now (datagram .entry)) count skipped) ⌝ }
 {
     let code = host_answers::code(cursor.len() < host_cursor::SIZE, refusal::NONE);
     let first: Cursor = delivery::start(datagram, MessageCount(count), MessageCount(skipped));

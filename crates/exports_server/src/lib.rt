@@ -11,17 +11,17 @@ ghost use lib.ListN.{length};
 ghost use lib.Dec.{ltb};
 ghost use Rattle.wire.specs.Bounds.{sessionSize};
 ghost use Rattle.wire.specs.Parts.{firstBytes};
-ghost use Rattle.login.specs.Table.{recordsOf};
-ghost use Rattle.soupbintcp_server.specs.Server.{startRefusal, startServer, serverStep};
+ghost use Rattle.login.specs.Table.{accountsOf};
+ghost use Rattle.soupbintcp_server.specs.Server.{serverStartRefusal, startServer, serverStep};
 ghost use Rattle.host_answers.specs.Answers.{codeOf, Answers};
 ghost use Rattle.host_session.specs.Session.{sessionStateSize};
 ghost use Rattle.host_server.specs.Server.{serverIn, KeepsServer};
-ghost use Rattle.host_session.specs.Replies.{replyNumber, stepWords, AnswersApart};
+ghost use Rattle.host_session.specs.Replies.{sessionAnswerNumber, stepWords, SessionNumbersApart};
 
 // Starts a server.
 #[no_mangle]
 pub extern "C" fn eiderwagon_server_start(session: &[u8], last: u64, state: &mut [u8]) -> u32
-    ensures { λ r. ⌜ r ≡ codeOf (ltb (length (now (session .entry))) sessionSize || ltb (length (now (state .entry))) sessionStateSize) (startRefusal (firstBytes sessionSize (now (session .entry))) last) ⌝ }
+    ensures { λ r. ⌜ r ≡ codeOf (ltb (length (now (session .entry))) sessionSize || ltb (length (now (state .entry))) sessionStateSize) (serverStartRefusal (firstBytes sessionSize (now (session .entry))) last) ⌝ }
     ensures keeps { λ r. ⌜ KeepsServer r (now (state .entry)) (now (state .exit)) (startServer (firstBytes sessionSize (now (session .entry))) last) ⌝ }
 {
     let started = Server::new(parts::ten(session), SequenceNumber(last));
@@ -40,16 +40,16 @@ pub extern "C" fn eiderwagon_server_step(
     stream: &[u8],
     words: &mut [u64],
 ) -> u32
-    ensures { λ r. ⌜ Answers r (now (words .entry)) (now (words .exit)) (ltb (length (now (state .entry))) sessionStateSize) replyNumber 5 (stepWords (serverStep (recordsOf (now (accounts .entry))) (serverIn (now (state .entry))) (now (stream .entry)))) ⌝ }
-    ensures keeps { λ r. ⌜ KeepsServer r (now (state .entry)) (now (state .exit)) (serverStep (recordsOf (now (accounts .entry))) (serverIn (now (state .entry))) (now (stream .entry)) .after) ⌝ }
-    ensures tells_apart { λ _. ⌜ AnswersApart ⌝ }
+    ensures { λ r. ⌜ Answers r (now (words .entry)) (now (words .exit)) (ltb (length (now (state .entry))) sessionStateSize) sessionAnswerNumber 5 (stepWords (serverStep (accountsOf (now (accounts .entry))) (serverIn (now (state .entry))) (now (stream .entry)))) ⌝ }
+    ensures keeps { λ r. ⌜ KeepsServer r (now (state .entry)) (now (state .exit)) (serverStep (accountsOf (now (accounts .entry))) (serverIn (now (state .entry))) (now (stream .entry)) .after) ⌝ }
+    ensures tells_apart { λ _. ⌜ SessionNumbersApart ⌝ }
 {
     let stepped = host_server::read(state).step(accounts, stream);
     let answer = stepped.answer;
     let after = stepped.server;
     let said = replies::answer_words(answer, stepped.size);
     let values = said.words;
-    let code = host_answers::report(
+    let code = host_answers::answer(
         words,
         state.len() < host_server::SIZE,
         said.refusal,

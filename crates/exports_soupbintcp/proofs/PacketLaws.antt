@@ -20,9 +20,9 @@ use Rattle.soupbintcp.specs.declared.scan.Stop.{Stop}
 use Rattle.soupbintcp.specs.declared.scan.Scanned.{Scanned}
 use Rattle.soupbintcp.specs.declared.scan.Stop.the-variants as stop
 use Rattle.soupbintcp.specs.Letters.{debug, accepted, rejected, sequenced, server-heartbeat, end-of-session, login, unsequenced, client-heartbeat, logout, packetKind, packetValues, letterFor, letterDebug, letterAccepted, letterRejected, letterSequenced, letterServerHeartbeat, letterEnd, letterLogin, letterUnsequenced, letterClientHeartbeat, letterLogout}
-use Rattle.soupbintcp.specs.Front.{Fronting, packet, wants-more, frontWords, frontOf}
+use Rattle.soupbintcp.specs.Front.{FrontKind, packet, wants-more, frontWords, frontOf}
 use Rattle.soupbintcp.specs.Scan.{stopWords, scanOf, Scans}
-use Rattle.host_answers.specs.Answers.{padded, wordsAt, wordsOf, Reports}
+use Rattle.host_answers.specs.Answers.{padded, wordsAt, wordsOf, AnswersWith}
 use Rattle.exports_soupbintcp.specs.Packets.{senderOf, frontNumber, scanWords, FrontsApart}
 
 pub from-server : (n : ℕ) → n ≡ 0 → Server ≡ senderOf n
@@ -75,20 +75,20 @@ stop-refused x r e = rw e
 
 module _ (n : ℕ) (s : Sender) (l : List ℕ) (r : ℕ) (ws ws′ : List ℕ) (e : s ≡ senderOf n) where
   pub read-answers : (x : Front) (g : ℕ) (vs : List ℕ) → frontWords x ≡ frontOf s l → g ≡ frontWords x .refusal → vs ≡ wordsOf frontNumber 3 (frontWords x)
-      → Reports r ws ws′ false g vs → Reports r ws ws′ false (frontOf (senderOf n) l .refusal) (wordsOf frontNumber 3 (frontOf (senderOf n) l))
+      → AnswersWith r ws ws′ false g vs → AnswersWith r ws ws′ false (frontOf (senderOf n) l .refusal) (wordsOf frontNumber 3 (frontOf (senderOf n) l))
   read-answers x g vs f a b h = rw (← e, ← f, ← a, ← b) h
 
-  pub scan-answers : (x : Scanned) (k : ℕ) → Scans x s l → k ≡ stopWords (x .stop) .refusal → Reports r ws ws′ false 0 (x .packets ∷ x .bytes ∷ k ∷ [])
-      → Reports r ws ws′ false 0 (scanWords (scanOf (senderOf n) l))
+  pub scan-answers : (x : Scanned) (k : ℕ) → Scans x s l → k ≡ stopWords (x .stop) .refusal → AnswersWith r ws ws′ false 0 (x .packets ∷ x .bytes ∷ k ∷ [])
+      → AnswersWith r ws ws′ false 0 (scanWords (scanOf (senderOf n) l))
   scan-answers x k f a h = rw (← e, ← f .packets, ← f .bytes, ← f .stop, ← a) h
 
 -- ---- the numbers tell fronts apart: each is read back
 
-unfoldable front-at : ℕ → Fronting
+unfoldable front-at : ℕ → FrontKind
 front-at n =
     if eqb n letterDebug then packet debug else if eqb n letterAccepted then packet accepted else if eqb n letterRejected then packet rejected else if eqb n letterSequenced then packet sequenced else if eqb n letterServerHeartbeat then packet server-heartbeat else if eqb n letterEnd then packet end-of-session else if eqb n letterLogin then packet login else if eqb n letterUnsequenced then packet unsequenced else if eqb n letterClientHeartbeat then packet client-heartbeat else if eqb n letterLogout then packet logout else wants-more
 
-front-back : (f : Fronting) → front-at (frontNumber f) ≡ f
+front-back : (f : FrontKind) → front-at (frontNumber f) ≡ f
 unfolding front-at frontNumber letterFor
 front-back (packet debug) = refl
 front-back (packet accepted) = refl

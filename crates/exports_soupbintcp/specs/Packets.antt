@@ -9,7 +9,7 @@ use Rattle.soupbintcp.specs.declared.packet.Sender.{Sender}
 use Rattle.soupbintcp.specs.declared.packet.Sender.the-variants.{Server, Client}
 use Rattle.soupbintcp.specs.Letters.{letterFor}
 use Rattle.soupbintcp.specs.declared.front.Front.{Front}
-use Rattle.soupbintcp.specs.Front.{Fronting, packet, wants-more, frontWords}
+use Rattle.soupbintcp.specs.Front.{FrontKind, packet, wants-more, frontWords}
 use Rattle.soupbintcp.specs.Scan.{Scan}
 
 -- who sends a stream: 0 is the server, every other number the client
@@ -17,7 +17,7 @@ unfoldable pub senderOf : ℕ → Sender
 senderOf n = if eqb n 0 then Server else Client
 
 -- the number of an answer is the packet's letter, and 0 where more bytes are needed; its size and its value follow
-unfoldable pub frontNumber : Fronting → ℕ
+unfoldable pub frontNumber : FrontKind → ℕ
 frontNumber (packet k) = letterFor k
 frontNumber wants-more = 0
 

@@ -10,7 +10,7 @@ use wire::refusal::Refusal;
 ghost use mathlib.Core.Path.{_≡_};
 ghost use mathlib.Core.List.{_∷_};
 ghost use mathlib.Core.Bool.{false};
-ghost use Rattle.host_answers.specs.Answers.{padded, wordsOf, Reports, Answers};
+ghost use Rattle.host_answers.specs.Answers.{padded, wordsOf, AnswersWith, Answers};
 ghost use Rattle.soupbintcp.specs.Letters.{packetKind, packetValues, letterFor};
 ghost use Rattle.soupbintcp.specs.Front.{frontWords, frontOf};
 ghost use Rattle.soupbintcp.specs.Scan.{stopWords, scanOf};
@@ -82,7 +82,7 @@ pub extern "C" fn eiderwagon_soup_read(stream: &[u8], sender: u8, words: &mut [u
 {
     let said = front_words(front::read(stream, sender_of(sender)));
     let values = said.words;
-    host_answers::report(words, false, said.refusal, &values)
+    host_answers::answer(words, false, said.refusal, &values)
 }
 
 // The refusal that stopped a scan, its number 0 where more bytes are needed.
@@ -98,7 +98,7 @@ fn stop_number(stop: Stop) -> u64
 // Passes all good packets at the front of a stream.
 #[no_mangle]
 pub extern "C" fn eiderwagon_soup_scan(stream: &[u8], sender: u8, words: &mut [u64]) -> u32
-    ensures { λ r. ⌜ Reports r (now (words .entry)) (now (words .exit)) false 0 (scanWords (scanOf (senderOf sender) (now (stream .entry)))) ⌝ }
+    ensures { λ r. ⌜ AnswersWith r (now (words .entry)) (now (words .exit)) false 0 (scanWords (scanOf (senderOf sender) (now (stream .entry)))) ⌝ }
 {
     let scanned = scan::scan(stream, sender_of(sender));
     let stop = scanned.stop;
@@ -107,5 +107,5 @@ pub extern "C" fn eiderwagon_soup_scan(stream: &[u8], sender: u8, words: &mut [u
         scanned.bytes as u64,
         stop_number(stop),
     ];
-    host_answers::report(words, false, refusal::NONE, &values)
+    host_answers::answer(words, false, refusal::NONE, &values)
 }

@@ -17,8 +17,8 @@ ghost use Rattle.wire.specs.Bounds.{sessionSize};
 ghost use Rattle.wire.specs.Parts.{firstBytes};
 ghost use Rattle.text_fields.specs.Sound.{usernameSize, passwordSize};
 ghost use Rattle.soupbintcp.specs.Letters.{letterDebug, letterAccepted, letterRejected, letterSequenced, letterServerHeartbeat, letterEnd, letterLogin, letterUnsequenced, letterClientHeartbeat, letterLogout};
-ghost use Rattle.soupbintcp_writer.specs.Packets.{packet, payloadGround, acceptedGround, acceptedPayload, reasonGround, loginGround, loginPayload};
-ghost use Rattle.host_answers.specs.Answers.{ReportsWriting};
+ghost use Rattle.soupbintcp_writer.specs.Packets.{encoded, payloadGround, acceptedGround, acceptedPayload, reasonGround, loginGround, loginPayload};
+ghost use Rattle.host_answers.specs.Answers.{AnswersWriting};
 
 // Debug, of either end.
 #[no_mangle]
@@ -27,12 +27,12 @@ pub extern "C" fn eiderwagon_soup_write_debug(
     out: &mut [u8],
     words: &mut [u64],
 ) -> u32
-    ensures { λ r. ⌜ ReportsWriting r (now (words .entry)) (now (words .exit)) (now (out .entry)) (now (out .exit)) false (payloadGround (now (payload .entry))) (packet letterDebug (now (payload .entry))) ⌝ }
+    ensures { λ r. ⌜ AnswersWriting r (now (words .entry)) (now (words .exit)) (now (out .entry)) (now (out .exit)) false (payloadGround (now (payload .entry))) (encoded letterDebug (now (payload .entry))) ⌝ }
 {
     if words.len() < WRITTEN_WORDS {
         return SHORT;
     }
-    host_answers::report_written(words, server::write_debug(out, payload))
+    host_answers::answer_written(words, server::write_debug(out, payload))
 }
 
 // Login accepted.
@@ -43,12 +43,12 @@ pub extern "C" fn eiderwagon_soup_write_accepted(
     out: &mut [u8],
     words: &mut [u64],
 ) -> u32
-    ensures { λ r. ⌜ ReportsWriting r (now (words .entry)) (now (words .exit)) (now (out .entry)) (now (out .exit)) (ltb (length (now (session .entry))) sessionSize) (acceptedGround (firstBytes sessionSize (now (session .entry))) number) (packet letterAccepted (acceptedPayload (firstBytes sessionSize (now (session .entry))) number)) ⌝ }
+    ensures { λ r. ⌜ AnswersWriting r (now (words .entry)) (now (words .exit)) (now (out .entry)) (now (out .exit)) (ltb (length (now (session .entry))) sessionSize) (acceptedGround (firstBytes sessionSize (now (session .entry))) number) (encoded letterAccepted (acceptedPayload (firstBytes sessionSize (now (session .entry))) number)) ⌝ }
 {
     if (session.len() < SESSION_SIZE) | (words.len() < WRITTEN_WORDS) {
         return SHORT;
     }
-    host_answers::report_written(
+    host_answers::answer_written(
         words,
         server::write_accepted(out, parts::ten(session), SequenceNumber(number)),
     )
@@ -61,12 +61,12 @@ pub extern "C" fn eiderwagon_soup_write_rejected(
     out: &mut [u8],
     words: &mut [u64],
 ) -> u32
-    ensures { λ r. ⌜ ReportsWriting r (now (words .entry)) (now (words .exit)) (now (out .entry)) (now (out .exit)) false (reasonGround reason) (packet letterRejected (reason ∷ [])) ⌝ }
+    ensures { λ r. ⌜ AnswersWriting r (now (words .entry)) (now (words .exit)) (now (out .entry)) (now (out .exit)) false (reasonGround reason) (encoded letterRejected (reason ∷ [])) ⌝ }
 {
     if words.len() < WRITTEN_WORDS {
         return SHORT;
     }
-    host_answers::report_written(words, server::write_rejected(out, reason))
+    host_answers::answer_written(words, server::write_rejected(out, reason))
 }
 
 // A sequenced message.
@@ -76,34 +76,34 @@ pub extern "C" fn eiderwagon_soup_write_sequenced(
     out: &mut [u8],
     words: &mut [u64],
 ) -> u32
-    ensures { λ r. ⌜ ReportsWriting r (now (words .entry)) (now (words .exit)) (now (out .entry)) (now (out .exit)) false (payloadGround (now (payload .entry))) (packet letterSequenced (now (payload .entry))) ⌝ }
+    ensures { λ r. ⌜ AnswersWriting r (now (words .entry)) (now (words .exit)) (now (out .entry)) (now (out .exit)) false (payloadGround (now (payload .entry))) (encoded letterSequenced (now (payload .entry))) ⌝ }
 {
     if words.len() < WRITTEN_WORDS {
         return SHORT;
     }
-    host_answers::report_written(words, server::write_sequenced(out, payload))
+    host_answers::answer_written(words, server::write_sequenced(out, payload))
 }
 
 // A heartbeat of the server.
 #[no_mangle]
 pub extern "C" fn eiderwagon_soup_write_server_heartbeat(out: &mut [u8], words: &mut [u64]) -> u32
-    ensures { λ r. ⌜ ReportsWriting r (now (words .entry)) (now (words .exit)) (now (out .entry)) (now (out .exit)) false 0 (packet letterServerHeartbeat []) ⌝ }
+    ensures { λ r. ⌜ AnswersWriting r (now (words .entry)) (now (words .exit)) (now (out .entry)) (now (out .exit)) false 0 (encoded letterServerHeartbeat []) ⌝ }
 {
     if words.len() < WRITTEN_WORDS {
         return SHORT;
     }
-    host_answers::report_written(words, server::write_heartbeat(out))
+    host_answers::answer_written(words, server::write_heartbeat(out))
 }
 
 // End of session.
 #[no_mangle]
 pub extern "C" fn eiderwagon_soup_write_end(out: &mut [u8], words: &mut [u64]) -> u32
-    ensures { λ r. ⌜ ReportsWriting r (now (words .entry)) (now (words .exit)) (now (out .entry)) (now (out .exit)) false 0 (packet letterEnd []) ⌝ }
+    ensures { λ r. ⌜ AnswersWriting r (now (words .entry)) (now (words .exit)) (now (out .entry)) (now (out .exit)) false 0 (encoded letterEnd []) ⌝ }
 {
     if words.len() < WRITTEN_WORDS {
         return SHORT;
     }
-    host_answers::report_written(words, server::write_end_of_session(out))
+    host_answers::answer_written(words, server::write_end_of_session(out))
 }
 
 // Login request.
@@ -116,7 +116,7 @@ pub extern "C" fn eiderwagon_soup_write_login(
     out: &mut [u8],
     words: &mut [u64],
 ) -> u32
-    ensures { λ r. ⌜ ReportsWriting r (now (words .entry)) (now (words .exit)) (now (out .entry)) (now (out .exit)) (ltb (length (now (username .entry))) usernameSize || ltb (length (now (password .entry))) passwordSize || ltb (length (now (session .entry))) sessionSize) (loginGround (firstBytes usernameSize (now (username .entry))) (firstBytes passwordSize (now (password .entry))) (firstBytes sessionSize (now (session .entry)))) (packet letterLogin (loginPayload (firstBytes usernameSize (now (username .entry))) (firstBytes passwordSize (now (password .entry))) (firstBytes sessionSize (now (session .entry))) number)) ⌝ }
+    ensures { λ r. ⌜ AnswersWriting r (now (words .entry)) (now (words .exit)) (now (out .entry)) (now (out .exit)) (ltb (length (now (username .entry))) usernameSize || ltb (length (now (password .entry))) passwordSize || ltb (length (now (session .entry))) sessionSize) (loginGround (firstBytes usernameSize (now (username .entry))) (firstBytes passwordSize (now (password .entry))) (firstBytes sessionSize (now (session .entry)))) (encoded letterLogin (loginPayload (firstBytes usernameSize (now (username .entry))) (firstBytes passwordSize (now (password .entry))) (firstBytes sessionSize (now (session .entry))) number)) ⌝ }
 {
     let short = (username.len() < USERNAME_SIZE)
         | (password.len() < PASSWORD_SIZE)
@@ -130,7 +130,7 @@ pub extern "C" fn eiderwagon_soup_write_login(
         session: parts::ten(session),
         number: SequenceNumber(number),
     };
-    host_answers::report_written(words, client::write_login(out, login))
+    host_answers::answer_written(words, client::write_login(out, login))
 }
 
 // An unsequenced message.
@@ -140,32 +140,32 @@ pub extern "C" fn eiderwagon_soup_write_unsequenced(
     out: &mut [u8],
     words: &mut [u64],
 ) -> u32
-    ensures { λ r. ⌜ ReportsWriting r (now (words .entry)) (now (words .exit)) (now (out .entry)) (now (out .exit)) false (payloadGround (now (payload .entry))) (packet letterUnsequenced (now (payload .entry))) ⌝ }
+    ensures { λ r. ⌜ AnswersWriting r (now (words .entry)) (now (words .exit)) (now (out .entry)) (now (out .exit)) false (payloadGround (now (payload .entry))) (encoded letterUnsequenced (now (payload .entry))) ⌝ }
 {
     if words.len() < WRITTEN_WORDS {
         return SHORT;
     }
-    host_answers::report_written(words, client::write_unsequenced(out, payload))
+    host_answers::answer_written(words, client::write_unsequenced(out, payload))
 }
 
 // A heartbeat of the client.
 #[no_mangle]
 pub extern "C" fn eiderwagon_soup_write_client_heartbeat(out: &mut [u8], words: &mut [u64]) -> u32
-    ensures { λ r. ⌜ ReportsWriting r (now (words .entry)) (now (words .exit)) (now (out .entry)) (now (out .exit)) false 0 (packet letterClientHeartbeat []) ⌝ }
+    ensures { λ r. ⌜ AnswersWriting r (now (words .entry)) (now (words .exit)) (now (out .entry)) (now (out .exit)) false 0 (encoded letterClientHeartbeat []) ⌝ }
 {
     if words.len() < WRITTEN_WORDS {
         return SHORT;
     }
-    host_answers::report_written(words, client::write_heartbeat(out))
+    host_answers::answer_written(words, client::write_heartbeat(out))
 }
 
 // Logout.
 #[no_mangle]
 pub extern "C" fn eiderwagon_soup_write_logout(out: &mut [u8], words: &mut [u64]) -> u32
-    ensures { λ r. ⌜ ReportsWriting r (now (words .entry)) (now (words .exit)) (now (out .entry)) (now (out .exit)) false 0 (packet letterLogout []) ⌝ }
+    ensures { λ r. ⌜ AnswersWriting r (now (words .entry)) (now (words .exit)) (now (out .entry)) (now (out .exit)) false 0 (encoded letterLogout []) ⌝ }
 {
     if words.len() < WRITTEN_WORDS {
         return SHORT;
     }
-    host_answers::report_written(words, client::write_logout(out))
+    host_answers::answer_written(words, client::write_logout(out))
 }

@@ -14,7 +14,7 @@ use Rattle.wire.specs.Output.{put, writtenWords}
 use Rattle.wire.specs.declared.refusal.Refusal.{Refusal}
 use Rattle.wire.specs.declared.output.Written.{Written}
 use Rattle.wire.specs.declared.output.Written.the-variants.{Wrote, Refused}
-use Rattle.host_answers.specs.Answers.{codeOf, onSuccess, padded, Reports}
+use Rattle.host_answers.specs.Answers.{codeOf, onSuccess, padded, AnswersWith}
 
 pub code-lacks : (lacks : Bool) (g : ℕ) → lacks ≡ true → outputShort ≡ codeOf lacks g
 unfolding codeOf
@@ -61,12 +61,12 @@ laid-end c h g = copied-end c h (omega arith) (omega arith)
 -- ---- what a writer answered
 
 module _ (w : Written) (r : ℕ) (ws ws′ : List ℕ) where
-  pub reports-wrote : (size : ℕ) → w ≡ Wrote size → Reports r ws ws′ false 0 (size ∷ [])
-      → Reports r ws ws′ false (writtenWords w .refusal) (padded 1 (writtenWords w .values))
+  pub answers-wrote : (size : ℕ) → w ≡ Wrote size → AnswersWith r ws ws′ false 0 (size ∷ [])
+      → AnswersWith r ws ws′ false (writtenWords w .refusal) (padded 1 (writtenWords w .values))
   unfolding writtenWords padded
-  reports-wrote size e h = rw e h
+  answers-wrote size e h = rw e h
 
-  pub reports-refused : (x : Refusal) → w ≡ Refused x → Reports r ws ws′ false (x .number) (0 ∷ [])
-      → Reports r ws ws′ false (writtenWords w .refusal) (padded 1 (writtenWords w .values))
+  pub answers-refused : (x : Refusal) → w ≡ Refused x → AnswersWith r ws ws′ false (x .number) (0 ∷ [])
+      → AnswersWith r ws ws′ false (writtenWords w .refusal) (padded 1 (writtenWords w .values))
   unfolding writtenWords padded
-  reports-refused x e h = rw e h
+  answers-refused x e h = rw e h

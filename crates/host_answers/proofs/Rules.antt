@@ -2,7 +2,7 @@
 use borrow.Author.Needs.{needs}
 use mathlib.Core.Path.{refl}
 use Rattle.wire.proofs.Copy.{copied-start, copied-kept}
-use Rattle.host_answers.proofs.AnswerLaws.{code-lacks, code-has, has-room, success, no-success, laid-step, laid-end, reports-wrote, reports-refused}
+use Rattle.host_answers.proofs.AnswerLaws.{code-lacks, code-has, has-room, success, no-success, laid-step, laid-end, answers-wrote, answers-refused}
 use Rattle.host_answers.proofs.WritingLaws.{writing-short, writing-reported, words-short, words-reported}
 use Rattle.host_answers.proofs.StateLaws.{flag-set}
 use Rattle.host_answers.proofs.PromiseLaws.{host-promises}
@@ -13,7 +13,7 @@ pub ruleset codes = (code-lacks, code-has, needs)
 
 pub ruleset layings = (copied-start, laid-step, laid-end, copied-kept, needs)
 
-pub ruleset reports = (host-promises, has-room, success, no-success, reports-wrote, reports-refused, needs)
+pub ruleset answers = (host-promises, has-room, success, no-success, answers-wrote, answers-refused, needs)
 
 -- for the exported writers
 pub ruleset writings = (writing-short, writing-reported, words-short, words-reported, needs)

@@ -15,7 +15,7 @@ use Rattle.wire.specs.declared.output.Written.{Written}
 use Rattle.wire.proofs.Cases.{zero-or-not}
 use Rattle.wire.proofs.Words.{refusal-of, values-of}
 use Rattle.wire.proofs.Outputs.{put-none}
-use Rattle.host_answers.specs.Answers.{codeOf, onSuccess, padded, Reports, ReportsWriting}
+use Rattle.host_answers.specs.Answers.{codeOf, onSuccess, padded, AnswersWith, AnswersWriting}
 use Rattle.host_answers.proofs.AnswerLaws.{no-success, length-padded}
 
 -- neither of two tests
@@ -56,12 +56,12 @@ same-words r a b before f =
     (λ z. sym (no-success r a before z) ∙ no-success r b before z)
 
 module _ (lacks : Bool) (ws l : List ℕ) (g : ℕ) (bs : List ℕ) where
-  pub writing-short : lacks || ltb (length ws) 1 ≡ true → ReportsWriting outputShort ws ws l l lacks g bs
+  pub writing-short : lacks || ltb (length ws) 1 ≡ true → AnswersWriting outputShort ws ws l l lacks g bs
   unfolding codeOf onSuccess
   writing-short e = record { returns = rw e; words = refl; output = refl }
 
   pub writing-reported : (w : Written) (r : ℕ) (ws′ l′ : List ℕ) → lacks || ltb (length ws) 1 ≡ false → Writes w l l′ g 0 bs
-      → Reports r ws ws′ false (writtenWords w .refusal) (padded 1 (writtenWords w .values)) → ReportsWriting r ws ws′ l l′ lacks g bs
+      → AnswersWith r ws ws′ false (writtenWords w .refusal) (padded 1 (writtenWords w .values)) → AnswersWriting r ws ws′ l l′ lacks g bs
   unfolding codeOf
   writing-reported w r ws′ l′ e writes reports =
       let code : writtenWords w .refusal ≡ writeRefusal g l 0 bs = refusal-of (writes .answers) ∙ answer-code l bs g in
@@ -79,9 +79,9 @@ module _ (lacks : Bool) (ws l : List ℕ) (g : ℕ) (bs : List ℕ) where
 
 -- a writer that is given no buffer of a fixed size but its words
 module _ (ws l : List ℕ) (g : ℕ) (bs : List ℕ) where
-  pub words-short : length ws < 1 → ReportsWriting outputShort ws ws l l false g bs
+  pub words-short : length ws < 1 → AnswersWriting outputShort ws ws l l false g bs
   words-short h = writing-short false ws l g bs (lt-ltb _ _ h)
 
   pub words-reported : (w : Written) (r : ℕ) (ws′ l′ : List ℕ) → 1 ≤ length ws → Writes w l l′ g 0 bs
-      → Reports r ws ws′ false (writtenWords w .refusal) (padded 1 (writtenWords w .values)) → ReportsWriting r ws ws′ l l′ false g bs
+      → AnswersWith r ws ws′ false (writtenWords w .refusal) (padded 1 (writtenWords w .values)) → AnswersWriting r ws ws′ l l′ false g bs
   words-reported w r ws′ l′ h writes reports = writing-reported false ws l g bs w r ws′ l′ (le-ltb _ _ h) writes reports

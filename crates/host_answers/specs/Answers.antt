@@ -45,16 +45,16 @@ wordsOf table n w = wordsAt table n (w .which) (w .values)
 -- ---- the promises, of a function that answers r; lacks says that another lent buffer of a fixed size is too short
 
 -- g is the refusal, or 0, and vs are the values: the words ws become ws′
-pub record Reports (r : ℕ) (ws ws′ : List ℕ) (lacks : Bool) (g : ℕ) (vs : List ℕ) : Type 0 where
+pub record AnswersWith (r : ℕ) (ws ws′ : List ℕ) (lacks : Bool) (g : ℕ) (vs : List ℕ) : Type 0 where
   pub returns : r ≡ codeOf (lacks || ltb (length ws) (length vs)) g
   pub words : ws′ ≡ onSuccess r (put ws 0 vs) ws
 
 -- an answer w in document 01's words, its kinds by a table, in n words
 abbrev pub Answers : {K : Type 0} → ℕ → List ℕ → List ℕ → Bool → (K → ℕ) → ℕ → Words K → Type 0
-Answers r ws ws′ lacks table n w = Reports r ws ws′ lacks (w .refusal) (wordsOf table n w)
+Answers r ws ws′ lacks table n w = AnswersWith r ws ws′ lacks (w .refusal) (wordsOf table n w)
 
 -- a writer: g is its own ground and bs are its bytes. The output l becomes l′, and the words say how many bytes were written
-pub record ReportsWriting (r : ℕ) (ws ws′ l l′ : List ℕ) (lacks : Bool) (g : ℕ) (bs : List ℕ) : Type 0 where
+pub record AnswersWriting (r : ℕ) (ws ws′ l l′ : List ℕ) (lacks : Bool) (g : ℕ) (bs : List ℕ) : Type 0 where
   pub returns : r ≡ codeOf (lacks || ltb (length ws) 1) (writeRefusal g l 0 bs)
   pub words : ws′ ≡ onSuccess r (put ws 0 (length bs ∷ [])) ws
   pub output : l′ ≡ onSuccess r (put l 0 bs) l
@@ -63,15 +63,15 @@ pub record ReportsWriting (r : ℕ) (ws ws′ l l′ : List ℕ) (lacks : Bool) 
 
 -- a refusal changes no word and no byte of an output, whatever the function
 pub record RefusalChangesNothing : Type 0 where
-  pub words : (r : ℕ) (ws ws′ : List ℕ) (lacks : Bool) (g : ℕ) (vs : List ℕ) → Reports r ws ws′ lacks g vs → (r ≡ 0 → ⊥) → ws′ ≡ ws
-  pub writing : (r : ℕ) (ws ws′ l l′ : List ℕ) (lacks : Bool) (g : ℕ) (bs : List ℕ) → ReportsWriting r ws ws′ l l′ lacks g bs → (r ≡ 0 → ⊥)
+  pub words : (r : ℕ) (ws ws′ : List ℕ) (lacks : Bool) (g : ℕ) (vs : List ℕ) → AnswersWith r ws ws′ lacks g vs → (r ≡ 0 → ⊥) → ws′ ≡ ws
+  pub writing : (r : ℕ) (ws ws′ l l′ : List ℕ) (lacks : Bool) (g : ℕ) (bs : List ℕ) → AnswersWriting r ws ws′ l l′ lacks g bs → (r ≡ 0 → ⊥)
       → (ws′ ≡ ws) × (l′ ≡ l)
 
 -- a success lays all of its words and changes none behind them; what is written stands in front, and nothing behind it changes
 pub record SuccessLaysItsWords : Type 0 where
-  pub words : (r : ℕ) (ws ws′ : List ℕ) (lacks : Bool) (g : ℕ) (vs : List ℕ) → Reports r ws ws′ lacks g vs → r ≡ 0
+  pub words : (r : ℕ) (ws ws′ : List ℕ) (lacks : Bool) (g : ℕ) (vs : List ℕ) → AnswersWith r ws ws′ lacks g vs → r ≡ 0
       → ws′ ≡ vs ++ drop (length vs) ws
-  pub writing : (r : ℕ) (ws ws′ l l′ : List ℕ) (lacks : Bool) (g : ℕ) (bs : List ℕ) → ReportsWriting r ws ws′ l l′ lacks g bs → r ≡ 0
+  pub writing : (r : ℕ) (ws ws′ l l′ : List ℕ) (lacks : Bool) (g : ℕ) (bs : List ℕ) → AnswersWriting r ws ws′ l l′ lacks g bs → r ≡ 0
       → (ws′ ≡ length bs ∷ drop 1 ws) × (l′ ≡ bs ++ drop (length bs) l)
 
 pub record HostPromises : Type 0 where

@@ -11,7 +11,7 @@ ghost use mathlib.Core.Bool.{false};
 ghost use lib.ListN.{length};
 ghost use Rattle.wire.specs.Output.{put, writtenWords};
 ghost use Rattle.host_answers.specs.States.{flagOf};
-ghost use Rattle.host_answers.specs.Answers.{codeOf, flag, padded, Reports, HostPromises};
+ghost use Rattle.host_answers.specs.Answers.{codeOf, flag, padded, AnswersWith, HostPromises};
 
 // The words of a writer's answer: how many bytes it wrote.
 pub const WRITTEN_WORDS: usize = 1;
@@ -56,8 +56,8 @@ fn lay(words: &mut [u64], values: &[u64])
 }
 
 // Answers a refusal, or values.
-pub fn report(words: &mut [u64], lacks: bool, refused: Refusal, values: &[u64]) -> u32
-    ensures { λ r. ⌜ Reports r (now (words .entry)) (now (words .exit)) lacks (refused .number) (now (values .entry)) ⌝ }
+pub fn answer(words: &mut [u64], lacks: bool, refused: Refusal, values: &[u64]) -> u32
+    ensures { λ r. ⌜ AnswersWith r (now (words .entry)) (now (words .exit)) lacks (refused .number) (now (values .entry)) ⌝ }
 {
     let short = lacks | (words.len() < values.len());
     let number = code(short, refused);
@@ -68,12 +68,12 @@ pub fn report(words: &mut [u64], lacks: bool, refused: Refusal, values: &[u64]) 
 }
 
 // Answers what a writer answered: how many bytes it wrote, or its refusal.
-pub fn report_written(words: &mut [u64], written: Written) -> u32
-    ensures { λ r. ⌜ Reports r (now (words .entry)) (now (words .exit)) false (writtenWords written .refusal) (padded 1 (writtenWords written .values)) ⌝ }
+pub fn answer_written(words: &mut [u64], written: Written) -> u32
+    ensures { λ r. ⌜ AnswersWith r (now (words .entry)) (now (words .exit)) false (writtenWords written .refusal) (padded 1 (writtenWords written .values)) ⌝ }
     ensures promises { λ _. ⌜ HostPromises ⌝ }
 {
     match written {
-        Written::Wrote { size } => report(words, false, refusal::NONE, &[size as u64]),
-        Written::Refused(r) => report(words, false, r, &[0]),
+        Written::Wrote { size } => answer(words, false, refusal::NONE, &[size as u64]),
+        Written::Refused(r) => answer(words, false, r, &[0]),
     }
 }

@@ -13,7 +13,7 @@ use Rattle.soupbintcp_client.specs.declared.client.Client.{Client}
 use Rattle.soupbintcp_client.specs.Client.{client}
 use Rattle.host_answers.specs.States.{Keeps, StatePromises}
 use Rattle.host_answers.proofs.StateLaws.{state-promises}
-use Rattle.host_session.specs.Session.{sessionStateSize, sessionFields, sessionBytes, sessionIn}
+use Rattle.host_session.specs.Session.{sessionStateSize, sessionFields, sessionStateBytes, sessionStateIn}
 use Rattle.host_session.proofs.SessionLaws.{end-kept}
 use Rattle.host_client.specs.Client.{clientStateOf, clientStateByte, clientBytes, clientIn, KeepsClient}
 
@@ -29,14 +29,14 @@ pub client-byte : {s t : ClientState} {b : ℕ} → s ≡ t → b ≡ clientStat
 client-byte e h = rw e h
 
 pub client-kept : (s : Client) (code b : ℕ) (l m : List ℕ) → b ≡ clientStateByte (s .state)
-    → Keeps code l m sessionStateSize sessionIn (sessionBytes (sessionFields (s .session) (s .number .0) b)) (sessionFields (s .session) (s .number .0) b)
+    → Keeps code l m sessionStateSize sessionStateIn (sessionStateBytes (sessionFields (s .session) (s .number .0) b)) (sessionFields (s .session) (s .number .0) b)
     → Keeps code l m sessionStateSize clientIn (clientBytes s) s
 unfolding clientBytes clientIn
 client-kept s code b l m e k = end-kept code l m clientIn (λ f. client (f .name) (f .num) (clientStateOf (f .state))) _ s (λ _. refl) (rw (client-back (s .state))) (rw e at k)
 
 pub client-read : (l name : List ℕ) (n b : ℕ) (s : ClientState) → name ≡ firstBytes sessionSize l → n ≡ number l 10 8 → b ≡ getD l 18 0
     → s ≡ clientStateOf b → client name n s ≡ clientIn l
-unfolding clientIn sessionIn
+unfolding clientIn sessionStateIn
 client-read l name n b s p q r t = rw (t, r, q, p)
 
 module _ (b : ℕ) where

@@ -8,7 +8,7 @@ use Rattle.soupbintcp_client.specs.declared.client.ClientState.the-variants as 
 use Rattle.soupbintcp_client.specs.declared.client.Client.{Client}
 use Rattle.soupbintcp_client.specs.Client.{client}
 use Rattle.host_answers.specs.States.{Keeps}
-use Rattle.host_session.specs.Session.{sessionStateSize, sessionFields, sessionBytes, sessionIn}
+use Rattle.host_session.specs.Session.{sessionStateSize, sessionFields, sessionStateBytes, sessionStateIn}
 
 -- 1 asked, 2 in, 3 ended; every other byte is closed
 unfoldable pub clientStateOf : ℕ → ClientState
@@ -21,11 +21,11 @@ clientStateByte state.Ended = 3
 clientStateByte state.Closed = 0
 
 unfoldable pub clientBytes : Client → List ℕ
-clientBytes c = sessionBytes (sessionFields (c .session) (c .number .0) (clientStateByte (c .state)))
+clientBytes c = sessionStateBytes (sessionFields (c .session) (c .number .0) (clientStateByte (c .state)))
 
 -- any bytes are one
 unfoldable pub clientIn : List ℕ → Client
-clientIn l = client (sessionIn l .name) (sessionIn l .num) (clientStateOf (sessionIn l .state))
+clientIn l = client (sessionStateIn l .name) (sessionStateIn l .num) (clientStateOf (sessionStateIn l .state))
 
 abbrev pub KeepsClient : ℕ → List ℕ → List ℕ → Client → Type 0
 KeepsClient code l m c = Keeps code l m sessionStateSize clientIn (clientBytes c) c

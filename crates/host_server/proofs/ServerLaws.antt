@@ -13,7 +13,7 @@ use Rattle.soupbintcp_server.specs.declared.server.Server.{Server}
 use Rattle.soupbintcp_server.specs.Server.{server}
 use Rattle.host_answers.specs.States.{Keeps, StatePromises}
 use Rattle.host_answers.proofs.StateLaws.{state-promises}
-use Rattle.host_session.specs.Session.{sessionStateSize, sessionFields, sessionBytes, sessionIn}
+use Rattle.host_session.specs.Session.{sessionStateSize, sessionFields, sessionStateBytes, sessionStateIn}
 use Rattle.host_session.proofs.SessionLaws.{end-kept}
 use Rattle.host_server.specs.Server.{serverStateOf, serverStateByte, serverBytes, serverIn, KeepsServer}
 
@@ -28,14 +28,14 @@ pub server-byte : {s t : ServerState} {b : ℕ} → s ≡ t → b ≡ serverStat
 server-byte e h = rw e h
 
 pub server-kept : (s : Server) (code b : ℕ) (l m : List ℕ) → b ≡ serverStateByte (s .state)
-    → Keeps code l m sessionStateSize sessionIn (sessionBytes (sessionFields (s .session) (s .last .0) b)) (sessionFields (s .session) (s .last .0) b)
+    → Keeps code l m sessionStateSize sessionStateIn (sessionStateBytes (sessionFields (s .session) (s .last .0) b)) (sessionFields (s .session) (s .last .0) b)
     → Keeps code l m sessionStateSize serverIn (serverBytes s) s
 unfolding serverBytes serverIn
 server-kept s code b l m e k = end-kept code l m serverIn (λ f. server (f .name) (f .num) (serverStateOf (f .state))) _ s (λ _. refl) (rw (server-back (s .state))) (rw e at k)
 
 pub server-read : (l name : List ℕ) (n b : ℕ) (s : ServerState) → name ≡ firstBytes sessionSize l → n ≡ number l 10 8 → b ≡ getD l 18 0
     → s ≡ serverStateOf b → server name n s ≡ serverIn l
-unfolding serverIn sessionIn
+unfolding serverIn sessionStateIn
 server-read l name n b s p q r t = rw (t, r, q, p)
 
 module _ (b : ℕ) where

@@ -8,7 +8,7 @@ use Rattle.soupbintcp_server.specs.declared.server.ServerState.the-variants.{Wa
 use Rattle.soupbintcp_server.specs.declared.server.Server.{Server}
 use Rattle.soupbintcp_server.specs.Server.{server}
 use Rattle.host_answers.specs.States.{Keeps}
-use Rattle.host_session.specs.Session.{sessionStateSize, sessionFields, sessionBytes, sessionIn}
+use Rattle.host_session.specs.Session.{sessionStateSize, sessionFields, sessionStateBytes, sessionStateIn}
 
 -- 1 waiting, 2 in; every other byte is closed
 unfoldable pub serverStateOf : ℕ → ServerState
@@ -20,11 +20,11 @@ serverStateByte In = 2
 serverStateByte Closed = 0
 
 unfoldable pub serverBytes : Server → List ℕ
-serverBytes s = sessionBytes (sessionFields (s .session) (s .last .0) (serverStateByte (s .state)))
+serverBytes s = sessionStateBytes (sessionFields (s .session) (s .last .0) (serverStateByte (s .state)))
 
 -- any bytes are one
 unfoldable pub serverIn : List ℕ → Server
-serverIn l = server (sessionIn l .name) (sessionIn l .num) (serverStateOf (sessionIn l .state))
+serverIn l = server (sessionStateIn l .name) (sessionStateIn l .num) (serverStateOf (sessionStateIn l .state))
 
 abbrev pub KeepsServer : ℕ → List ℕ → List ℕ → Server → Type 0
 KeepsServer code l m s = Keeps code l m sessionStateSize serverIn (serverBytes s) s

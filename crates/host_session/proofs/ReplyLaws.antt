@@ -9,25 +9,25 @@ use Rattle.wire.specs.Choice.{if_then_else_}
 use Rattle.wire.proofs.Words.{read-back}
 use Rattle.soupbintcp_session.specs.declared.answer.Answer.{Answer}
 use Rattle.soupbintcp_session.specs.declared.answer.Answer.the-variants as case
-use Rattle.soupbintcp_session.specs.Answer.{Reply, wants-more, accepted, rejected, sequenced, unsequenced, heartbeat, debug, logged-out, end-of-session, answerWords}
+use Rattle.soupbintcp_session.specs.Answer.{SessionAnswerKind, wants-more, accepted, rejected, sequenced, unsequenced, heartbeat, debug, logged-out, end-of-session, sessionAnswerWords}
 use Rattle.host_answers.specs.Answers.{wordsOf}
-use Rattle.host_session.specs.Replies.{replyNumber, sized, AnswersApart}
+use Rattle.host_session.specs.Replies.{sessionAnswerNumber, sized, SessionNumbersApart}
 
 -- an answer of a known case y
-pub answer-refusal : {x y : Answer} {g : ℕ} → x ≡ y → g ≡ answerWords y .refusal → g ≡ answerWords x .refusal
+pub answer-refusal : {x y : Answer} {g : ℕ} → x ≡ y → g ≡ sessionAnswerWords y .refusal → g ≡ sessionAnswerWords x .refusal
 answer-refusal e h = rw e h
 
-pub answer-words : {x y : Answer} {ws : List ℕ} (size : ℕ) → x ≡ y → ws ≡ wordsOf replyNumber 5 (sized size (answerWords y))
-    → ws ≡ wordsOf replyNumber 5 (sized size (answerWords x))
+pub answer-words : {x y : Answer} {ws : List ℕ} (size : ℕ) → x ≡ y → ws ≡ wordsOf sessionAnswerNumber 5 (sized size (sessionAnswerWords y))
+    → ws ≡ wordsOf sessionAnswerNumber 5 (sized size (sessionAnswerWords x))
 answer-words size e h = rw e h
 
 -- the numbers tell answers apart: each is read back
-unfoldable reply-of : ℕ → Reply
+unfoldable reply-of : ℕ → SessionAnswerKind
 reply-of n =
     if eqb n 0 then wants-more else if eqb n 1 then accepted else if eqb n 2 then rejected else if eqb n 3 then sequenced else if eqb n 4 then unsequenced else if eqb n 5 then heartbeat else if eqb n 6 then debug else if eqb n 7 then logged-out else end-of-session
 
-reply-back : (k : Reply) → reply-of (replyNumber k) ≡ k
-unfolding reply-of replyNumber
+reply-back : (k : SessionAnswerKind) → reply-of (sessionAnswerNumber k) ≡ k
+unfolding reply-of sessionAnswerNumber
 reply-back wants-more = refl
 reply-back accepted = refl
 reply-back rejected = refl
@@ -38,8 +38,8 @@ reply-back debug = refl
 reply-back logged-out = refl
 reply-back end-of-session = refl
 
-values-in-four : (x : Answer) → length (answerWords x .values) < 4
-unfolding answerWords
+values-in-four : (x : Answer) → length (sessionAnswerWords x .values) < 4
+unfolding sessionAnswerWords
 values-in-four case.NeedMore = omega arith
 values-in-four (case.Accepted n) = omega arith
 values-in-four (case.Rejected b) = omega arith
@@ -51,5 +51,5 @@ values-in-four case.LoggedOut = omega arith
 values-in-four case.EndOfSession = omega arith
 values-in-four (case.Refused r) = omega arith
 
-pub answers-apart : AnswersApart
-answers-apart = record { numbers = read-back replyNumber reply-of reply-back; values-fit = values-in-four }
+pub answers-apart : SessionNumbersApart
+answers-apart = record { numbers = read-back sessionAnswerNumber reply-of reply-back; values-fit = values-in-four }

@@ -9,22 +9,22 @@ use Rattle.wire.specs.Bytes.{bytes}
 use Rattle.wire.specs.Output.{put}
 use Rattle.wire.proofs.Numbers.{length-bytes}
 use Rattle.host_answers.specs.States.{Keeps, Lays, frontBytes}
-use Rattle.host_session.specs.Session.{sessionStateSize, SessionFields, sessionFields, sessionBytes, sessionIn}
+use Rattle.host_session.specs.Session.{sessionStateSize, SessionFields, sessionFields, sessionStateBytes, sessionStateIn}
 use Rattle.host_answers.proofs.StateLaws.{front-put, put-next, length-front, keeps-refused, keeps-short, keeps-laid, laid-front, number-past-field, byte-past-field, number-in-front, name-in-front}
 
 module _ (name : List ℕ) (n b : ℕ) (ten : length name ≡ sessionSize) where
-  length-session : length (sessionBytes (sessionFields name n b)) ≡ sessionStateSize
-  unfolding sessionBytes
+  length-session : length (sessionStateBytes (sessionFields name n b)) ≡ sessionStateSize
+  unfolding sessionStateBytes
   length-session = omega (arith, length-front name n ten, length-append (frontBytes name n) (b ∷ []))
 
-  session-parts : (m : List ℕ) → sessionBytes (sessionFields name n b) ++ m ≡ name ++ (bytes 8 n ++ (b ∷ m))
-  unfolding sessionBytes frontBytes
+  session-parts : (m : List ℕ) → sessionStateBytes (sessionFields name n b) ++ m ≡ name ++ (bytes 8 n ++ (b ∷ m))
+  unfolding sessionStateBytes frontBytes
   session-parts m = simp append-assoc
 
   pub session-lays : (l l₀ l₁ l₂ : List ℕ) → sessionStateSize ≤ length l → l₀ ≡ put l 0 name → l₁ ≡ put l₀ 10 (bytes 8 n)
       → l₂ ≡ put l₁ 18 (b ∷ []) → n < 2 ^ 64
-      → Lays l l₂ sessionIn (sessionBytes (sessionFields name n b)) (sessionFields name n b)
-  unfolding sessionBytes sessionIn
+      → Lays l l₂ sessionStateIn (sessionStateBytes (sessionFields name n b)) (sessionFields name n b)
+  unfolding sessionStateBytes sessionStateIn
   session-lays l l₀ l₁ l₂ h o p′ q u =
       let p = front-put l l₀ l₁ name n (omega arith) ten o p′ in
       let laid = put-next l l₁ l₂ (frontBytes name n) (b ∷ []) 18 (length-front name n ten) (omega arith) p q in
@@ -42,19 +42,19 @@ module _ (name : List ℕ) (n b : ℕ) (ten : length name ≡ sessionSize) where
       }
 
   module _ (code : ℕ) (l : List ℕ) where
-    pub session-refused : (code ≡ 0 → ⊥) → Keeps code l l sessionStateSize sessionIn (sessionBytes (sessionFields name n b)) (sessionFields name n b)
-    session-refused z = keeps-refused code l sessionStateSize sessionIn _ _ length-session z
+    pub session-refused : (code ≡ 0 → ⊥) → Keeps code l l sessionStateSize sessionStateIn (sessionStateBytes (sessionFields name n b)) (sessionFields name n b)
+    session-refused z = keeps-refused code l sessionStateSize sessionStateIn _ _ length-session z
 
-    pub session-short : length l < sessionStateSize → Keeps code l l sessionStateSize sessionIn (sessionBytes (sessionFields name n b)) (sessionFields name n b)
-    session-short h = keeps-short code l sessionStateSize sessionIn _ _ length-session h
+    pub session-short : length l < sessionStateSize → Keeps code l l sessionStateSize sessionStateIn (sessionStateBytes (sessionFields name n b)) (sessionFields name n b)
+    session-short h = keeps-short code l sessionStateSize sessionStateIn _ _ length-session h
 
-    pub session-laid : (m : List ℕ) → code ≡ 0 → Lays l m sessionIn (sessionBytes (sessionFields name n b)) (sessionFields name n b)
-        → Keeps code l m sessionStateSize sessionIn (sessionBytes (sessionFields name n b)) (sessionFields name n b)
-    session-laid m z p = keeps-laid code l sessionStateSize sessionIn _ _ length-session m z p
+    pub session-laid : (m : List ℕ) → code ≡ 0 → Lays l m sessionStateIn (sessionStateBytes (sessionFields name n b)) (sessionFields name n b)
+        → Keeps code l m sessionStateSize sessionStateIn (sessionStateBytes (sessionFields name n b)) (sessionFields name n b)
+    session-laid m z p = keeps-laid code l sessionStateSize sessionStateIn _ _ length-session m z p
 
 -- a session of either end, which its three fields make
 pub end-kept : {S : Type 0} (code : ℕ) (l m : List ℕ) (reads : List ℕ → S) (made : SessionFields → S) (f : SessionFields) (x : S)
-    → ((n : List ℕ) → reads n ≡ made (sessionIn n)) → made f ≡ x → Keeps code l m sessionStateSize sessionIn (sessionBytes f) f
-    → Keeps code l m sessionStateSize reads (sessionBytes f) x
+    → ((n : List ℕ) → reads n ≡ made (sessionStateIn n)) → made f ≡ x → Keeps code l m sessionStateSize sessionStateIn (sessionStateBytes f) f
+    → Keeps code l m sessionStateSize reads (sessionStateBytes f) x
 end-kept code l m reads made f x r e k =
     record { fits = k .fits; leaves = k .leaves; reads-back = λ z h. r m ∙ ap made (k .reads-back z h) ∙ e }

@@ -23,9 +23,9 @@ pub record SessionFields : Type 0 where
 abbrev pub sessionFields : List ℕ → ℕ → ℕ → SessionFields
 sessionFields name n b = record { name = name; num = n; state = b }
 
-unfoldable pub sessionBytes : SessionFields → List ℕ
-sessionBytes s = frontBytes (s .name) (s .num) ++ (s .state ∷ [])
+unfoldable pub sessionStateBytes : SessionFields → List ℕ
+sessionStateBytes s = frontBytes (s .name) (s .num) ++ (s .state ∷ [])
 
 -- any bytes have them
-unfoldable pub sessionIn : List ℕ → SessionFields
-sessionIn l = sessionFields (firstBytes sessionSize l) (number l frontNumberAt numberSize) (getD l phaseAt 0)
+unfoldable pub sessionStateIn : List ℕ → SessionFields
+sessionStateIn l = sessionFields (firstBytes sessionSize l) (number l frontNumberAt numberSize) (getD l phaseAt 0)

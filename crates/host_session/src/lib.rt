@@ -8,7 +8,7 @@ use wire::output;
 ghost use Prim.Native.Nat.{_≤_};
 ghost use lib.ListN.{length};
 ghost use Rattle.host_answers.specs.States.{Lays, Keeps};
-ghost use Rattle.host_session.specs.Session.{sessionStateSize, sessionFields, sessionBytes, sessionIn};
+ghost use Rattle.host_session.specs.Session.{sessionStateSize, sessionFields, sessionStateBytes, sessionStateIn};
 
 // Its name stands in front, then its number and its phase.
 const NAME_AT: ByteOffset = ByteOffset(0);
@@ -23,7 +23,7 @@ pub const SIZE: usize = SESSION_SIZE + NUMBER_SIZE + 1;
 // Lays the three fields where there is room for them.
 fn put_fields(state: &mut [u8], name: [u8; SESSION_SIZE], number: u64, phase: u8)
     requires { ⌜ sessionStateSize ≤ length (now state) ⌝ }
-    ensures { λ _. ⌜ Lays (now (state .entry)) (now (state .exit)) sessionIn (sessionBytes (sessionFields name number phase)) (sessionFields name number phase) ⌝ }
+    ensures { λ _. ⌜ Lays (now (state .entry)) (now (state .exit)) sessionStateIn (sessionStateBytes (sessionFields name number phase)) (sessionFields name number phase) ⌝ }
 {
     output::put_bytes(state, NAME_AT, &name);
     output::put64(state, NUMBER_AT, number);
@@ -32,7 +32,7 @@ fn put_fields(state: &mut [u8], name: [u8; SESSION_SIZE], number: u64, phase: u8
 
 // Lays the three fields, where the code is 0.
 pub fn lay(state: &mut [u8], code: u32, name: [u8; SESSION_SIZE], number: u64, phase: u8)
-    ensures { λ _. ⌜ Keeps code (now (state .entry)) (now (state .exit)) sessionStateSize sessionIn (sessionBytes (sessionFields name number phase)) (sessionFields name number phase) ⌝ }
+    ensures { λ _. ⌜ Keeps code (now (state .entry)) (now (state .exit)) sessionStateSize sessionStateIn (sessionStateBytes (sessionFields name number phase)) (sessionFields name number phase) ⌝ }
 {
     if code != 0 {
         return;

@@ -4,9 +4,9 @@ use wire::refusal;
 use wire::refusal::Refusal;
 ghost use mathlib.Core.Path.{_≡_};
 ghost use mathlib.Core.List.{[], _∷_};
-ghost use Rattle.soupbintcp_session.specs.Answer.{answerWords};
+ghost use Rattle.soupbintcp_session.specs.Answer.{sessionAnswerWords};
 ghost use Rattle.host_answers.specs.Answers.{wordsOf};
-ghost use Rattle.host_session.specs.Replies.{replyNumber, sized, AnswersApart};
+ghost use Rattle.host_session.specs.Replies.{sessionAnswerNumber, sized, SessionNumbersApart};
 
 // The words of an answer: which it is, how many bytes the step took, and its three values.
 const ANSWER_WORDS: usize = 5;
@@ -28,8 +28,8 @@ fn says(kind: u64, size: u64, a: u64, b: u64, c: u64) -> SaidAnswer
 
 // An answer to a step that took so many bytes.
 pub fn answer_words(answer: Answer, size: usize) -> SaidAnswer
-    ensures { λ r. ⌜ (r .refusal .number ≡ answerWords answer .refusal) × (r .words ≡ wordsOf replyNumber 5 (sized size (answerWords answer))) ⌝ }
-    ensures tells_apart { λ _. ⌜ AnswersApart ⌝ }
+    ensures { λ r. ⌜ (r .refusal .number ≡ sessionAnswerWords answer .refusal) × (r .words ≡ wordsOf sessionAnswerNumber 5 (sized size (sessionAnswerWords answer))) ⌝ }
+    ensures tells_apart { λ _. ⌜ SessionNumbersApart ⌝ }
 {
     let taken = size as u64;
     match answer {

@@ -15,25 +15,11 @@ use Rattle.wire.specs.Words.{Case, answer, refused, Injective}
 use Rattle.wire.proofs.Same.{same-length, false-or-true}
 use Rattle.wire.proofs.Words.{read-back}
 use Rattle.text_fields.specs.Sound.{soundUsername, soundPassword}
+use Rattle.text_fields.specs.Letters.{lower}
 use Rattle.login.specs.declared.account.Account.{Account}
 use Rattle.login.specs.declared.account.Verdict.{Verdict}
 use Rattle.login.specs.declared.account.Verdict.the-variants.{Known, Unknown, TooMany}
-use Rattle.login.specs.Account.{lower, lowered, sameText, soundAccount, isOf, hasPassword, Knowing, known, unknown, verdictWords, VerdictsApart, verdictOf}
-
--- ---- one byte
-
-module _ (b : ℕ) where
-  pub lower-below : b < 65 → b ≡ lower b
-  unfolding lower
-  lower-below h = simp (lt-ltb _ _ h)
-
-  pub lower-letter : 65 ≤ b → b ≤ 90 → b + 32 ≡ lower b
-  unfolding lower
-  lower-letter h g = simp (le-ltb _ _ h, le-leb _ _ g)
-
-  pub lower-above : 65 ≤ b → 90 < b → b ≡ lower b
-  unfolding lower
-  lower-above h g = simp (le-ltb _ _ h, lt-leb _ _ g)
+use Rattle.login.specs.Account.{lowered, sameText, soundAccount, isOf, hasPassword, VerdictKind, known, unknown, verdictWords, VerdictsApart, verdictOf}
 
 -- ---- two fields: of i bytes same tells whether they agree, and the bytes from i on decide the rest
 
@@ -126,7 +112,7 @@ module _ (a e : Account) (t : Bool) where
 
 -- ---- the words of a verdict read back
 
-verdict-of : Case Knowing → Verdict
+verdict-of : Case VerdictKind → Verdict
 verdict-of (answer known) = Known
 verdict-of (answer unknown) = Unknown
 verdict-of refused = TooMany

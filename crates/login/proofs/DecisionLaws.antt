@@ -17,7 +17,7 @@ use Rattle.login.specs.declared.account.Verdict.the-variants as verdict
 use Rattle.login.specs.declared.decision.Decision.{Decision}
 use Rattle.login.specs.declared.decision.Decision.the-variants.{Accepted, Rejected, Refused}
 use Rattle.login.specs.Account.{verdictWords}
-use Rattle.login.specs.Decision.{sessionHolds, numberHolds, granted, Deciding, accepted, rejected, decisionWords, decisionAt, decisionOf}
+use Rattle.login.specs.Decision.{sessionHolds, numberHolds, granted, DecisionKind, accepted, rejected, decisionWords, decisionAt, decisionOf}
 use Rattle.login.specs.Statements.{DecisionsApart}
 
 -- ---- the session: l is what is asked for, m the server's, t what the comparison gave
@@ -93,7 +93,7 @@ module _ (v : Verdict) (l m : List ℕ) (wanted last : ℕ) where
 
 -- ---- the words of a decision read back
 
-decided : Case Deciding → ℕ → List ℕ → Decision
+decided : Case DecisionKind → ℕ → List ℕ → Decision
 decided (answer accepted) r vs = Accepted (record { 0 = getD vs 0 0 })
 decided (answer rejected) r vs = Rejected (getD vs 0 0)
 decided refused r vs = Refused (record { number = r })

@@ -2,9 +2,9 @@
 use mathlib.Core.Path.{refl}
 use Rattle.wire.specs.Bytes.{sameBytes}
 use Rattle.decimal.specs.Decimal.{isDigit}
-use Rattle.text_fields.specs.Letters.{isLetterOrDigit}
+use Rattle.text_fields.specs.Letters.{isLetterOrDigit, lower}
 use Rattle.text_fields.specs.Sound.{wordLength, areSpaces, sound}
-use Rattle.login.specs.Account.{lower, lowered, sameText, soundAccount, isOf, hasPassword, isKnown, verdictOf, lookupOf}
+use Rattle.login.specs.Account.{lowered, sameText, soundAccount, isOf, hasPassword, isKnown, verdictOf, lookupOf}
 use Rattle.login.specs.Decision.{sessionHolds, numberHolds, granted, decisionAt}
 use Rattle.login.specs.Examples.{LoginExamples}
 use Rattle.login.specs.Promises.{LoginPromises}

@@ -20,7 +20,7 @@ use Rattle.text_fields.specs.Letters.{isLetterOrDigit, space}
 use Rattle.text_fields.specs.Sound.{wordLength, areSpaces, sound}
 use Rattle.login.specs.declared.account.Account.{Account}
 use Rattle.login.specs.Account.{soundAccount, mostAccounts, isKnown, verdictOf, lookupOf}
-use Rattle.login.specs.Decision.{sessionHolds, numberHolds, granted, Deciding, accepted, decisionAt, rejects, Attempt, loginOf}
+use Rattle.login.specs.Decision.{sessionHolds, numberHolds, granted, DecisionKind, accepted, decisionAt, rejects, Attempt, loginOf}
 use Rattle.login.specs.Statements.{AccountRule, SessionRule, asks-blank, asks-ours, NumberRule, NotRefused, Rules, AcceptedExactlyWhen, NoText, has-zero, all-spaces, NeverAccepted}
 use Rattle.login.proofs.KnownLaws.{known-found, found-known, unsound-unknown}
 
@@ -111,7 +111,7 @@ module _ (x : Attempt) where
     where
       over : mostAccounts < length (x .table) → Rules x
       over h =
-          let f : refuses {K = Deciding} badSetting .which ≡ answer accepted = rw (too-many h) at e in
+          let f : refuses {K = DecisionKind} badSetting .which ≡ answer accepted = rw (too-many h) at e in
           let z : _≡_ {A = ℕ} 0 1 = cc in
           absurd (omega arith)
 

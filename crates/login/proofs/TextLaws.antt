@@ -9,7 +9,8 @@ use lib.Dec.{ltb, leb, eqb}
 use borrow.Author.Tests.{le-ltb, le-leb, lt-leb, ltb-false, leb-true, eq-eqb, eqb-true}
 use Rattle.wire.specs.Choice.{if_then_else_}
 use Rattle.wire.specs.Bytes.{sameBytes}
-use Rattle.login.specs.Account.{lower, lowered, sameText}
+use Rattle.text_fields.specs.Letters.{lower}
+use Rattle.login.specs.Account.{lowered, sameText}
 use Rattle.login.specs.Statements.{SameLetter, same, capital, small, SameText}
 
 pub both : (t r : Bool) → if t then r else false ≡ true → (t ≡ true) × (r ≡ true)

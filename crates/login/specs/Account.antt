@@ -1,23 +1,20 @@
 -- Account records: an entry has the same two fields, and the first sound record with its username decides.
-use Prim.Native.Nat.{ℕ, _+_}
+use Prim.Native.Nat.{ℕ}
 use mathlib.Core.List.{List, [], _∷_}
 use mathlib.Core.Bool.{Bool, true, false}
 use lib.ListN.{length}
-use lib.Dec.{ltb, leb}
+use lib.Dec.{ltb}
 use Rattle.wire.specs.Choice.{if_then_else_}
 use Rattle.wire.specs.Refusals.{badSetting}
 use Rattle.wire.specs.Bytes.{sameBytes}
 use Rattle.wire.specs.Words.{Words, says, refuses, Injective}
+use Rattle.text_fields.specs.Letters.{lower}
 use Rattle.text_fields.specs.Sound.{soundUsername, soundPassword}
 use Rattle.login.specs.declared.account.Account.{Account}
 use Rattle.login.specs.declared.account.Verdict.{Verdict}
 use Rattle.login.specs.declared.account.Verdict.the-variants.{Known, Unknown, TooMany}
 
 -- ---- letters compare without case
-
--- `A` to `Z` as `a` to `z`, every other byte as itself
-unfoldable pub lower : ℕ → ℕ
-lower b = if ltb b 65 then b else if leb b 90 then b + 32 else b
 
 unfoldable pub lowered : List ℕ → List ℕ
 lowered [] = []
@@ -53,10 +50,10 @@ isKnown [] e = false
 isKnown (a ∷ t) e = if isOf a e then hasPassword a e else isKnown t e
 
 -- what a table can say of an entry, but for a refusal
-pub data Knowing : Type 0 where
-  known unknown : Knowing
+pub data VerdictKind : Type 0 where
+  known unknown : VerdictKind
 
-unfoldable pub verdictWords : Verdict → Words Knowing
+unfoldable pub verdictWords : Verdict → Words VerdictKind
 verdictWords Known = says known []
 verdictWords Unknown = says unknown []
 verdictWords TooMany = refuses badSetting
@@ -64,10 +61,10 @@ verdictWords TooMany = refuses badSetting
 unfoldable pub VerdictsApart : Type 0
 VerdictsApart = Injective verdictWords
 
-unfoldable pub verdictOf : Bool → Words Knowing
+unfoldable pub verdictOf : Bool → Words VerdictKind
 verdictOf true = says known []
 verdictOf false = says unknown []
 
 -- 19 for a table of too many records
-unfoldable pub lookupOf : List Account → Account → Words Knowing
+unfoldable pub lookupOf : List Account → Account → Words VerdictKind
 lookupOf t e = if ltb mostAccounts (length t) then refuses badSetting else verdictOf (isKnown t e)

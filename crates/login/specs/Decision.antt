@@ -11,7 +11,7 @@ use Rattle.soupbintcp.specs.Fields.{notAuthorized, sessionNotAvailable}
 use Rattle.login.specs.declared.account.Account.{Account}
 use Rattle.login.specs.declared.decision.Decision.{Decision}
 use Rattle.login.specs.declared.decision.Decision.the-variants.{Accepted, Rejected, Refused}
-use Rattle.login.specs.Account.{Knowing, known, unknown, lookupOf}
+use Rattle.login.specs.Account.{VerdictKind, known, unknown, lookupOf}
 
 -- the session rule: blank, or exactly the server's
 unfoldable pub sessionHolds : List ℕ → List ℕ → Bool
@@ -26,20 +26,20 @@ unfoldable pub granted : ℕ → ℕ → ℕ
 granted wanted last = if eqb wanted 0 then max leastNumber last else wanted
 
 -- what can be decided, but for a refusal
-pub data Deciding : Type 0 where
-  accepted rejected : Deciding
+pub data DecisionKind : Type 0 where
+  accepted rejected : DecisionKind
 
-unfoldable pub decisionWords : Decision → Words Deciding
+unfoldable pub decisionWords : Decision → Words DecisionKind
 decisionWords (Accepted n) = says accepted (n .0 ∷ [])
 decisionWords (Rejected reason) = says rejected (reason ∷ [])
 decisionWords (Refused r) = refusedWords r
 
 -- J with a reason
-abbrev pub rejects : ℕ → Words Deciding
+abbrev pub rejects : ℕ → Words DecisionKind
 rejects reason = says rejected (reason ∷ [])
 
 -- by what the table says: the account, then the session, then the number
-unfoldable pub decisionAt : Case Knowing → ℕ → List ℕ → ℕ → List ℕ → ℕ → Words Deciding
+unfoldable pub decisionAt : Case VerdictKind → ℕ → List ℕ → ℕ → List ℕ → ℕ → Words DecisionKind
 decisionAt (answer known) r asked wanted session last =
     if sessionHolds asked session
     then (if numberHolds wanted last then says accepted (granted wanted last ∷ []) else rejects sessionNotAvailable)
@@ -47,7 +47,7 @@ decisionAt (answer known) r asked wanted session last =
 decisionAt (answer unknown) r asked wanted session last = rejects notAuthorized
 decisionAt refused r asked wanted session last = refuses r
 
-abbrev pub decisionOf : Words Knowing → List ℕ → ℕ → List ℕ → ℕ → Words Deciding
+abbrev pub decisionOf : Words VerdictKind → List ℕ → ℕ → List ℕ → ℕ → Words DecisionKind
 decisionOf w asked wanted session last = decisionAt (w .which) (w .refusal) asked wanted session last
 
 -- ---- a login whole
@@ -61,5 +61,5 @@ pub record Attempt : Type 0 where
   pub session : List ℕ
   pub last : ℕ
 
-abbrev pub loginOf : Attempt → Words Deciding
+abbrev pub loginOf : Attempt → Words DecisionKind
 loginOf x = decisionOf (lookupOf (x .table) (x .entry)) (x .asked) (x .wanted) (x .session) (x .last)

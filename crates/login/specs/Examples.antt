@@ -3,6 +3,7 @@ use Prim.Native.Nat.{ℕ, _-_}
 use mathlib.Core.List.{List, [], _∷_, _++_}
 use mathlib.Core.Path.{_≡_}
 use lib.ListN.{length, replicate}
+use Rattle.wire.specs.Text.{ascii}
 use Rattle.wire.specs.Bounds.{blank}
 use Rattle.wire.specs.Words.{says}
 use Rattle.text_fields.specs.Letters.{space}
@@ -20,42 +21,42 @@ account username password = record { username = filled usernameSize username; pa
 
 -- `ann` with the password `pw1`, in small letters and in capitals; with another password; and with none, which isn't sound
 abbrev pub ann : Account
-ann = account (97 ∷ 110 ∷ 110 ∷ []) (112 ∷ 119 ∷ 49 ∷ [])
+ann = account (ascii "ann") (ascii "pw1")
 
 abbrev pub ANN : Account
-ANN = account (65 ∷ 78 ∷ 78 ∷ []) (80 ∷ 87 ∷ 49 ∷ [])
+ANN = account (ascii "ANN") (ascii "PW1")
 
 abbrev pub annOther : Account
-annOther = account (97 ∷ 110 ∷ 110 ∷ []) (112 ∷ 119 ∷ 50 ∷ [])
+annOther = account (ascii "ann") (ascii "pw2")
 
 abbrev pub annNone : Account
-annNone = account (97 ∷ 110 ∷ 110 ∷ []) []
+annNone = account (ascii "ann") []
 
 -- READROOM01, and the same in small letters
 abbrev pub ours : List ℕ
-ours = 82 ∷ 69 ∷ 65 ∷ 68 ∷ 82 ∷ 79 ∷ 79 ∷ 77 ∷ 48 ∷ 49 ∷ []
+ours = ascii "READROOM01"
 
 abbrev pub small : List ℕ
-small = 114 ∷ 101 ∷ 97 ∷ 100 ∷ 114 ∷ 111 ∷ 111 ∷ 109 ∷ 48 ∷ 49 ∷ []
+small = ascii "readroom01"
 
 -- an entry that asks for a session and a number, where the last number is 5
-abbrev pub asks : List Account → Account → List ℕ → ℕ → Attempt
-asks t e asked wanted = record { table = t; entry = e; asked = asked; wanted = wanted; session = ours; last = 5 }
+abbrev pub attempts : List Account → Account → List ℕ → ℕ → Attempt
+attempts t e asked wanted = record { table = t; entry = e; asked = asked; wanted = wanted; session = ours; last = 5 }
 
 pub record LoginExamples : Type 0 where
   -- letters compare without case
-  pub case-differs : loginOf (asks (ann ∷ []) ANN ours 3) ≡ says accepted (3 ∷ [])
+  pub case-differs : loginOf (attempts (ann ∷ []) ANN ours 3) ≡ says accepted (3 ∷ [])
   -- the first sound record with the username decides, and an unsound one doesn't
-  pub first-decides : loginOf (asks (annOther ∷ ann ∷ []) ann ours 3) ≡ rejects notAuthorized
-  pub unsound-is-skipped : loginOf (asks (annNone ∷ ann ∷ []) ann ours 3) ≡ says accepted (3 ∷ [])
-  pub no-record : loginOf (asks [] ann ours 3) ≡ rejects notAuthorized
+  pub first-decides : loginOf (attempts (annOther ∷ ann ∷ []) ann ours 3) ≡ rejects notAuthorized
+  pub unsound-is-skipped : loginOf (attempts (annNone ∷ ann ∷ []) ann ours 3) ≡ says accepted (3 ∷ [])
+  pub no-record : loginOf (attempts [] ann ours 3) ≡ rejects notAuthorized
   -- the session may be blank, and is compared byte for byte
-  pub blank-session : loginOf (asks (ann ∷ []) ann blank 3) ≡ says accepted (3 ∷ [])
-  pub session-in-small : loginOf (asks (ann ∷ []) ann small 3) ≡ rejects sessionNotAvailable
+  pub blank-session : loginOf (attempts (ann ∷ []) ann blank 3) ≡ says accepted (3 ∷ [])
+  pub session-in-small : loginOf (attempts (ann ∷ []) ann small 3) ≡ rejects sessionNotAvailable
   -- J with A comes before J with S
-  pub account-first : loginOf (asks [] ann small 9) ≡ rejects notAuthorized
+  pub account-first : loginOf (attempts [] ann small 9) ≡ rejects notAuthorized
   -- wanted 0, one past the last, and two past it
-  pub wanted-none : loginOf (asks (ann ∷ []) ann ours 0) ≡ says accepted (5 ∷ [])
-  pub wanted-next : loginOf (asks (ann ∷ []) ann ours 6) ≡ says accepted (6 ∷ [])
-  pub wanted-beyond : loginOf (asks (ann ∷ []) ann ours 7) ≡ rejects sessionNotAvailable
+  pub wanted-none : loginOf (attempts (ann ∷ []) ann ours 0) ≡ says accepted (5 ∷ [])
+  pub wanted-next : loginOf (attempts (ann ∷ []) ann ours 6) ≡ says accepted (6 ∷ [])
+  pub wanted-beyond : loginOf (attempts (ann ∷ []) ann ours 7) ≡ rejects sessionNotAvailable
   pub no-message-yet : loginOf (record { table = ann ∷ []; entry = ann; asked = ours; wanted = 0; session = ours; last = 0 }) ≡ says accepted (1 ∷ [])

@@ -7,7 +7,8 @@ use lib.ListN.{length, getD, replicate}
 use Rattle.wire.specs.Bounds.{leastNumber, blank}
 use Rattle.wire.specs.Refusals.{badSetting}
 use Rattle.wire.specs.Words.{answer, says, refuses, Injective}
-use Rattle.text_fields.specs.Letters.{space}
+use Rattle.wire.specs.Text.{letter}
+use Rattle.text_fields.specs.Letters.{space, toSmall}
 use Rattle.soupbintcp.specs.Fields.{notAuthorized, sessionNotAvailable}
 use Rattle.login.specs.declared.account.Account.{Account}
 use Rattle.login.specs.Account.{soundAccount, mostAccounts}
@@ -25,8 +26,8 @@ recordAt t i = getD t i noAccount
 -- the same letter without case, or the same byte
 pub data SameLetter (a b : ℕ) : Type 0 where
   same : a ≡ b → SameLetter a b
-  capital : 65 ≤ a → a ≤ 90 → b ≡ a + 32 → SameLetter a b
-  small : 65 ≤ b → b ≤ 90 → a ≡ b + 32 → SameLetter a b
+  capital : letter "A" ≤ a → a ≤ letter "Z" → b ≡ a + toSmall → SameLetter a b
+  small : letter "A" ≤ b → b ≤ letter "Z" → a ≡ b + toSmall → SameLetter a b
 
 -- all bytes of two fields compared
 pub record SameText (a b : List ℕ) : Type 0 where

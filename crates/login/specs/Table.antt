@@ -6,17 +6,17 @@ use Rattle.text_fields.specs.Sound.{usernameSize, passwordSize}
 use Rattle.login.specs.declared.account.Account.{Account}
 
 -- the bytes of a record: username, then password
-abbrev pub recordSize : ℕ
-recordSize = usernameSize + passwordSize
+abbrev pub accountSize : ℕ
+accountSize = usernameSize + passwordSize
 
-unfoldable pub recordOf : List ℕ → Account
-recordOf l = record { username = take usernameSize l; password = take passwordSize (drop usernameSize l) }
+unfoldable pub accountOf : List ℕ → Account
+accountOf l = record { username = take usernameSize l; password = take passwordSize (drop usernameSize l) }
 
 -- so many records from the front on
-unfoldable pub recordsUpTo : ℕ → List ℕ → List Account
-recordsUpTo zero l = []
-recordsUpTo (suc n) l = recordOf l ∷ recordsUpTo n (drop recordSize l)
+unfoldable pub accountsUpTo : ℕ → List ℕ → List Account
+accountsUpTo zero l = []
+accountsUpTo (suc n) l = accountOf l ∷ accountsUpTo n (drop accountSize l)
 
 -- k bytes hold k / 16 records; bytes left over are no record
-unfoldable pub recordsOf : List ℕ → List Account
-recordsOf l = recordsUpTo (length l / recordSize) l
+unfoldable pub accountsOf : List ℕ → List Account
+accountsOf l = accountsUpTo (length l / accountSize) l

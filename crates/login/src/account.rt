@@ -1,9 +1,10 @@
 // Account records, and what one says of an entry, which is a username and a password like it.
+use text_fields::letters::lower;
 use text_fields::sound;
 use text_fields::sound::PASSWORD_SIZE;
 use text_fields::sound::USERNAME_SIZE;
 ghost use mathlib.Core.Path.{_≡_};
-ghost use Rattle.login.specs.Account.{lower, sameText, soundAccount, isOf, hasPassword, verdictWords, verdictOf, VerdictsApart};
+ghost use Rattle.login.specs.Account.{sameText, soundAccount, isOf, hasPassword, verdictWords, verdictOf, VerdictsApart};
 
 pub struct Account {
     pub username: [u8; USERNAME_SIZE],
@@ -20,19 +21,6 @@ pub enum Verdict {
     Unknown,
     // The table has too many records: 19.
     TooMany,
-}
-
-// A letter as a small letter, so that letters compare without case.
-fn lower(b: u8) -> u8
-    ensures { λ r. ⌜ r ≡ lower b ⌝ }
-{
-    if b < b'A' {
-        b
-    } else if b <= b'Z' {
-        b + 32
-    } else {
-        b
-    }
 }
 
 // Whether two fields have the same text. Every byte is compared, so that neither a zero, a space nor a difference ends it early.

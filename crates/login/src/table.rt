@@ -10,15 +10,15 @@ ghost use mathlib.Core.Path.{_≡_};
 ghost use Prim.Native.Nat.{_≤_};
 ghost use lib.ListN.{length};
 ghost use Rattle.login.specs.Account.{verdictWords, lookupOf};
-ghost use Rattle.login.specs.Table.{recordSize, recordOf, recordsOf};
+ghost use Rattle.login.specs.Table.{accountSize, accountOf, accountsOf};
 
 // Bytes of a record.
 pub const RECORD_SIZE: usize = USERNAME_SIZE + PASSWORD_SIZE;
 
 // The first record of a table.
 fn first(table: &[u8]) -> Account
-    requires { ⌜ recordSize ≤ length (now table) ⌝ }
-    ensures { λ r. ⌜ r ≡ recordOf (now (table .entry)) ⌝ }
+    requires { ⌜ accountSize ≤ length (now table) ⌝ }
+    ensures { λ r. ⌜ r ≡ accountOf (now (table .entry)) ⌝ }
 {
     Account {
         username: parts::six(table),
@@ -28,7 +28,7 @@ fn first(table: &[u8]) -> Account
 
 // What a table says of an entry: the first sound record with its username decides. An unsound entry is not looked for.
 pub fn lookup(table: &[u8], entry: Account) -> Verdict
-    ensures { λ r. ⌜ verdictWords r ≡ lookupOf (recordsOf (now (table .entry))) entry ⌝ }
+    ensures { λ r. ⌜ verdictWords r ≡ lookupOf (accountsOf (now (table .entry))) entry ⌝ }
 {
     if MOST_ACCOUNTS < table.len() / RECORD_SIZE {
         return Verdict::TooMany;

@@ -11,43 +11,43 @@ use borrow.Author.Tests.{le-leb, lt-leb, leb-true, eq-eqb, ne-eqb, eqb-true}
 use Rattle.wire.specs.Choice.{if_then_else_}
 use Rattle.wire.specs.Bytes.{number}
 use Rattle.wire.proofs.Numbers.{part-to-end}
-use Rattle.moldudp64.specs.Blocks.{lengthOf, sizeOf, fits, afterBlock, allFit, afterBlocks, messages, blocksRefusal}
+use Rattle.moldudp64.specs.Blocks.{blockLength, blockSize, fits, afterBlock, allFit, afterBlocks, messages, blocksRefusal}
 
-pub block-size : (l : List ℕ) (r : ℕ) → r ≡ number l 0 2 → r + 2 ≡ sizeOf l
-unfolding lengthOf
+pub block-size : (l : List ℕ) (r : ℕ) → r ≡ number l 0 2 → r + 2 ≡ blockSize l
+unfolding blockLength
 block-size l r e = ap (λ (k : ℕ). k + 2) e
 
-pub fits-so : (l : List ℕ) → sizeOf l ≤ length l → fits l ≡ true
+pub fits-so : (l : List ℕ) → blockSize l ≤ length l → fits l ≡ true
 unfolding fits
 fits-so l h = le-leb _ _ h
 
-pub fits-not : (l : List ℕ) → length l < sizeOf l → fits l ≡ false
+pub fits-not : (l : List ℕ) → length l < blockSize l → fits l ≡ false
 unfolding fits
 fits-not l h = lt-leb _ _ h
 
-pub so-fits : (l : List ℕ) → fits l ≡ true → sizeOf l ≤ length l
+pub so-fits : (l : List ℕ) → fits l ≡ true → blockSize l ≤ length l
 unfolding fits
 so-fits l e = leb-true _ _ e
 
 -- ---- the walk, as code that has k as the size of the block in front; w is what the walk answers from the start
 
-pub walk-step : (n k w : ℕ) (l : List ℕ) → blocksRefusal n l ≡ w → 0 < n → k ≡ sizeOf l → k ≤ length l
+pub walk-step : (n k w : ℕ) (l : List ℕ) → blocksRefusal n l ≡ w → 0 < n → k ≡ blockSize l → k ≤ length l
     → blocksRefusal (n - 1) (take (length l - k) (drop k l)) ≡ w
 unfolding blocksRefusal allFit afterBlocks fits
 walk-step zero k w l v h e f = absurd (omega arith)
 walk-step (suc n) k w l v h e f =
-    let g : sizeOf l ≤ length l = omega arith in
+    let g : blockSize l ≤ length l = omega arith in
     rw (part-to-end k l, sub-one, e) (simp (le-leb _ _ g) at v)
 
-pub walk-short : (n k w : ℕ) (l : List ℕ) → blocksRefusal n l ≡ w → 0 < n → k ≡ sizeOf l → length l < k → 15 ≡ w
+pub walk-short : (n k w : ℕ) (l : List ℕ) → blocksRefusal n l ≡ w → 0 < n → k ≡ blockSize l → length l < k → 15 ≡ w
 unfolding blocksRefusal allFit fits
 walk-short zero k w l v h e f = absurd (omega arith)
 walk-short (suc n) k w l v h e f =
-    let g : length l < sizeOf l = omega arith in
+    let g : length l < blockSize l = omega arith in
     simp (lt-leb _ _ g) at v
 
 pub walk-stub : (n w : ℕ) (l : List ℕ) → blocksRefusal n l ≡ w → 0 < n → length l < 2 → 15 ≡ w
-walk-stub n w l v h f = walk-short n (sizeOf l) w l v h refl (omega arith)
+walk-stub n w l v h f = walk-short n (blockSize l) w l v h refl (omega arith)
 
 pub walk-all : (n w : ℕ) (l : List ℕ) → blocksRefusal n l ≡ w → n ≤ 0 → length l ≡ 0 → 0 ≡ w
 unfolding blocksRefusal allFit afterBlocks
@@ -80,9 +80,9 @@ fit-both true b e = (refl, e)
 fit-both false b e = let z : _≡_ {A = ℕ} 0 1 = cc in absurd (omega arith)
 
 -- the first of them fits, and so do the others
-pub first-fits : (n : ℕ) (l : List ℕ) → allFit (suc n) l ≡ true → sizeOf l ≤ length l
+pub first-fits : (n : ℕ) (l : List ℕ) → allFit (suc n) l ≡ true → blockSize l ≤ length l
 unfolding allFit fits
-first-fits n l e = leb-true _ _ (fit-both (leb (sizeOf l) (length l)) (allFit n (afterBlock l)) e .0)
+first-fits n l e = leb-true _ _ (fit-both (leb (blockSize l) (length l)) (allFit n (afterBlock l)) e .0)
 
 pub rest-fit : (n : ℕ) (l : List ℕ) → allFit (suc n) l ≡ true → allFit n (afterBlock l) ≡ true
 unfolding allFit

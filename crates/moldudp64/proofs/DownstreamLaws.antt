@@ -22,7 +22,7 @@ use Rattle.moldudp64.specs.Header.{numberOf, countOf}
 use Rattle.moldudp64.specs.Blocks.{blocksRefusal, messages}
 use Rattle.moldudp64.specs.declared.downstream.Downstream.{Downstream}
 use Rattle.moldudp64.specs.declared.downstream.Downstream.the-variants.{Data, Heartbeat, EndOfSession, Refused}
-use Rattle.moldudp64.specs.Downstream.{Kind, data-packet, heartbeat, end-of-session, kindOfCount, kindOf, blockCountOf, blockCount, valuesOf, refusalOf, readOf, downstreamWords, sessionOf, messagesOf}
+use Rattle.moldudp64.specs.Downstream.{DownstreamKind, data-packet, heartbeat, end-of-session, kindOfCount, kindOf, blockCountOf, blockCount, valuesOf, refusalOf, downstreamOf, downstreamWords, downstreamSession, messagesOf}
 use Rattle.moldudp64.proofs.BlockLaws.{length-messages}
 
 -- ---- kinds and blocks
@@ -113,28 +113,28 @@ accepted l s =
 
 -- ---- what the reader answers
 
-pub read-refused : (l : List ℕ) (r : Refusal) → r .number ≡ refusalOf l → (r .number ≡ 0 → ⊥) → downstreamWords (Refused r) ≡ readOf l
-unfolding readOf downstreamWords
+pub read-refused : (l : List ℕ) (r : Refusal) → r .number ≡ refusalOf l → (r .number ≡ 0 → ⊥) → downstreamWords (Refused r) ≡ downstreamOf l
+unfolding downstreamOf downstreamWords
 read-refused l r e z = simp (← e, ne-eqb _ _ z)
 
 module _ (l : List ℕ) (r : Refusal) (n : SequenceNumber) (c : MessageCount) where
   pub read-heartbeat : r .number ≡ refusalOf l → r .number ≡ 0 → n .0 ≡ numberOf l → c .0 ≡ countOf l → c .0 ≡ 0
-      → downstreamWords (Heartbeat n) ≡ readOf l
-  unfolding readOf downstreamWords
+      → downstreamWords (Heartbeat n) ≡ downstreamOf l
+  unfolding downstreamOf downstreamWords
   read-heartbeat e z f g h = rw (← e, z, ← g, kind-heartbeat (c .0) h, f)
 
   pub read-end : r .number ≡ refusalOf l → r .number ≡ 0 → n .0 ≡ numberOf l → c .0 ≡ countOf l → c .0 ≡ 65535
-      → downstreamWords (EndOfSession n) ≡ readOf l
-  unfolding readOf downstreamWords
+      → downstreamWords (EndOfSession n) ≡ downstreamOf l
+  unfolding downstreamOf downstreamWords
   read-end e z f g h = rw (← e, z, ← g, kind-end (c .0) h, f)
 
   pub read-data : r .number ≡ refusalOf l → r .number ≡ 0 → n .0 ≡ numberOf l → c .0 ≡ countOf l → (c .0 ≡ 0 → ⊥) → (c .0 ≡ 65535 → ⊥)
-      → downstreamWords (Data n c) ≡ readOf l
-  unfolding readOf downstreamWords
+      → downstreamWords (Data n c) ≡ downstreamOf l
+  unfolding downstreamOf downstreamWords
   read-data e z f g h i = rw (← e, z, ← g, kind-data (c .0) h i, f, g)
 
 -- the words read back
-answered : Case Kind → ℕ → List ℕ → Downstream
+answered : Case DownstreamKind → ℕ → List ℕ → Downstream
 answered (answer data-packet) r vs = Data (record { 0 = getD vs 0 0 }) (record { 0 = getD vs 1 0 })
 answered (answer heartbeat) r vs = Heartbeat (record { 0 = getD vs 0 0 })
 answered (answer end-of-session) r vs = EndOfSession (record { 0 = getD vs 0 0 })
@@ -155,24 +155,24 @@ tells-apart = read-back downstreamWords (λ w. answered (w .which) (w .refusal) 
 pub sound-length : (l : List ℕ) (r : ℕ) → r ≡ refusalOf l → r ≡ 0 → 20 ≤ length l
 sound-length l r e z = sound l (sym e ∙ z) .long
 
-pub session-refused : (l : List ℕ) (r : ℕ) → r ≡ refusalOf l → (r ≡ 0 → ⊥) → [] ≡ sessionOf l
-unfolding sessionOf
+pub session-refused : (l : List ℕ) (r : ℕ) → r ≡ refusalOf l → (r ≡ 0 → ⊥) → [] ≡ downstreamSession l
+unfolding downstreamSession
 session-refused l r e z = simp (← e, ne-eqb _ _ z)
 
-pub session-read : (l : List ℕ) (r : ℕ) → r ≡ refusalOf l → r ≡ 0 → take 10 l ≡ sessionOf l
-unfolding sessionOf
+pub session-read : (l : List ℕ) (r : ℕ) → r ≡ refusalOf l → r ≡ 0 → take 10 l ≡ downstreamSession l
+unfolding downstreamSession
 session-read l r e z = simp (← e, z)
 
 -- a session is at most ten bytes, so its first ten are all of it
-short-session : (l : List ℕ) → length (sessionOf l) ≤ 10
-unfolding sessionOf
+short-session : (l : List ℕ) → length (downstreamSession l) ≤ 10
+unfolding downstreamSession
 short-session l = go (eqb (refusalOf l) 0)
   where
     go : (b : Bool) → length (if b then take 10 l else []) ≤ 10
     go true = omega (arith, length-take 10 l)
     go false = omega arith
 
-pub session-ten : (l s m : List ℕ) (b : Bool) → s ≡ sessionOf l → b ≡ sameBytes (take 10 (drop 0 s)) m → b ≡ sameBytes (sessionOf l) m
+pub session-ten : (l s m : List ℕ) (b : Bool) → s ≡ downstreamSession l → b ≡ sameBytes (take 10 (drop 0 s)) m → b ≡ sameBytes (downstreamSession l) m
 session-ten l s m b e f = f ∙ ap (λ (t : List ℕ). sameBytes t m) (take-all 10 s (let h = short-session l in omega (arith, ap length e)) ∙ e)
 
 pub messages-refused : (l : List ℕ) (r : ℕ) → r ≡ refusalOf l → (r ≡ 0 → ⊥) → messagesOf l ≡ []
@@ -196,8 +196,8 @@ pub record IsData (l : List ℕ) (n c : ℕ) : Type 0 where
   pub blocks : blockCount l ≡ c
 
 -- a refusal says no kind
-pub kind-read : (l : List ℕ) (k : Kind) (vs : List ℕ) → readOf l ≡ says k vs → (refusalOf l ≡ 0) × (kindOf l ≡ k)
-unfolding readOf
+pub kind-read : (l : List ℕ) (k : DownstreamKind) (vs : List ℕ) → downstreamOf l ≡ says k vs → (refusalOf l ≡ 0) × (kindOf l ≡ k)
+unfolding downstreamOf
 kind-read l k vs e = go (eqb (refusalOf l) 0) refl e
   where
     go : (b : Bool) → eqb (refusalOf l) 0 ≡ b → if b then says (kindOf l) (valuesOf (kindOf l) l) else refuses (refusalOf l) ≡ says k vs
@@ -206,50 +206,50 @@ kind-read l k vs e = go (eqb (refusalOf l) 0) refl e
     go false d f = let w = which-of f in let z : _≡_ {A = ℕ} 0 1 = cc in absurd (omega arith)
 
 -- what a datagram that is not refused says
-pub said : (l : List ℕ) → refusalOf l ≡ 0 → readOf l ≡ says (kindOf l) (valuesOf (kindOf l) l)
-unfolding readOf
+pub said : (l : List ℕ) → refusalOf l ≡ 0 → downstreamOf l ≡ says (kindOf l) (valuesOf (kindOf l) l)
+unfolding downstreamOf
 said l e = simp e
 
 -- and a datagram that is not refused says one
-pub refusal-read : (l : List ℕ) (r : ℕ) → readOf l ≡ refuses r → refusalOf l ≡ 0 → ⊥
+pub refusal-read : (l : List ℕ) (r : ℕ) → downstreamOf l ≡ refuses r → refusalOf l ≡ 0 → ⊥
 refusal-read l r e z = let w = which-of (sym (said l z) ∙ e) in let k : _≡_ {A = ℕ} 0 1 = cc in omega arith
 
-pub data-read : (l : List ℕ) (n c : ℕ) → readOf l ≡ says data-packet (n ∷ c ∷ []) → IsData l n c
+pub data-read : (l : List ℕ) (n c : ℕ) → downstreamOf l ≡ says data-packet (n ∷ c ∷ []) → IsData l n c
 unfolding blockCount
 data-read l n c e =
     let s = kind-read l data-packet (n ∷ c ∷ []) e in
     let f = sym (said l (s .0)) ∙ e in
     let k : kindOf l ≡ data-packet = s .1 in
-    let v : numberOf l ∷ countOf l ∷ [] ≡ n ∷ c ∷ [] = ap (λ (x : Kind). valuesOf x l) (sym k) ∙ values-of f in
+    let v : numberOf l ∷ countOf l ∷ [] ≡ n ∷ c ∷ [] = ap (λ (x : DownstreamKind). valuesOf x l) (sym k) ∙ values-of f in
     let p : numberOf l ≡ n = cc in
     let q : countOf l ≡ c = cc in
-    record { well = s .0; kind = k; first = sym p; count = sym q; blocks = ap (λ (x : Kind). blockCountOf x (countOf l)) k ∙ q }
+    record { well = s .0; kind = k; first = sym p; count = sym q; blocks = ap (λ (x : DownstreamKind). blockCountOf x (countOf l)) k ∙ q }
 
 -- the number of a refusal, and the first value of a kind
-pub refused-number : (l : List ℕ) (r : ℕ) → readOf l ≡ refuses r → refusalOf l ≡ r
-unfolding readOf
+pub refused-number : (l : List ℕ) (r : ℕ) → downstreamOf l ≡ refuses r → refusalOf l ≡ r
+unfolding downstreamOf
 refused-number l r e = go (eqb (refusalOf l) 0) refl e
   where
     go : (b : Bool) → eqb (refusalOf l) 0 ≡ b → if b then says (kindOf l) (valuesOf (kindOf l) l) else refuses (refusalOf l) ≡ refuses r → refusalOf l ≡ r
     go true d f = let w = which-of f in let z : _≡_ {A = ℕ} 0 1 = cc in absurd (omega arith)
     go false d f = refusal-of f
 
-first-value : (k : Kind) (l : List ℕ) (n : ℕ) (vs : List ℕ) → valuesOf k l ≡ n ∷ vs → numberOf l ≡ n
+first-value : (k : DownstreamKind) (l : List ℕ) (n : ℕ) (vs : List ℕ) → valuesOf k l ≡ n ∷ vs → numberOf l ≡ n
 first-value data-packet l n vs e = cc
 first-value heartbeat l n vs e = cc
 first-value end-of-session l n vs e = cc
 
-pub number-read : (l : List ℕ) (k : Kind) (n : ℕ) (vs : List ℕ) → readOf l ≡ says k (n ∷ vs) → numberOf l ≡ n
+pub number-read : (l : List ℕ) (k : DownstreamKind) (n : ℕ) (vs : List ℕ) → downstreamOf l ≡ says k (n ∷ vs) → numberOf l ≡ n
 number-read l k n vs e =
     let s = kind-read l k (n ∷ vs) e in
     first-value (kindOf l) l n vs (values-of (sym (said l (s .0)) ∙ e))
 
 -- the blocks of a kind
-pub kind-blocks : (l : List ℕ) (k : Kind) → kindOf l ≡ k → blockCount l ≡ blockCountOf k (countOf l)
+pub kind-blocks : (l : List ℕ) (k : DownstreamKind) → kindOf l ≡ k → blockCount l ≡ blockCountOf k (countOf l)
 unfolding blockCount
-kind-blocks l k e = ap (λ (x : Kind). blockCountOf x (countOf l)) e
+kind-blocks l k e = ap (λ (x : DownstreamKind). blockCountOf x (countOf l)) e
 
-pub no-blocks : (l : List ℕ) (k : Kind) → kindOf l ≡ k → blockCountOf k (countOf l) ≡ 0 → blockCount l ≡ 0
+pub no-blocks : (l : List ℕ) (k : DownstreamKind) → kindOf l ≡ k → blockCountOf k (countOf l) ≡ 0 → blockCount l ≡ 0
 no-blocks l k e f = kind-blocks l k e ∙ f
 
 pub sound-ten : (l : List ℕ) (r : ℕ) → r ≡ refusalOf l → r ≡ 0 → length (take 10 l) ≡ 10

@@ -15,7 +15,7 @@ use Rattle.wire.proofs.Words.{read-back}
 use Rattle.moldudp64.specs.Header.{numberOf, countOf}
 use Rattle.moldudp64.specs.declared.request.Request.{Request}
 use Rattle.moldudp64.specs.declared.request.Request.the-variants.{Wanted, Refused}
-use Rattle.moldudp64.specs.Request.{Asking, wanted, requestGround, requestRefusal, requestOf, requestWords, requestSession}
+use Rattle.moldudp64.specs.Request.{RequestKind, wanted, requestGround, requestRefusal, requestOf, requestWords, requestSession}
 use Rattle.moldudp64.proofs.DownstreamLaws.{past-ground}
 
 -- ---- the grounds
@@ -67,7 +67,7 @@ unfolding requestOf requestWords
 request-wanted l r n c e z f g = rw (← e, z, f, g)
 
 -- the words read back
-asked : Case Asking → ℕ → List ℕ → Request
+asked : Case RequestKind → ℕ → List ℕ → Request
 asked (answer wanted) r vs = Wanted (record { 0 = getD vs 0 0 }) (record { 0 = getD vs 1 0 })
 asked refused r vs = Refused (record { number = r })
 

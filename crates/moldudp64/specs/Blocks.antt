@@ -4,31 +4,28 @@ use mathlib.Core.List.{List, [], _∷_, _++_}
 use mathlib.Core.Bool.{Bool, true, false}
 use lib.ListN.{length, take, drop}
 use lib.Dec.{leb, eqb}
+use Rattle.wire.specs.Bounds.{lengthSize}
 use Rattle.wire.specs.Choice.{if_then_else_}
 use Rattle.wire.specs.Refusals.{blockPastEnd, bytesAfterBlocks}
 use Rattle.wire.specs.Bytes.{number, bytes}
 
--- the bytes of a length field
-abbrev pub lengthSize : ℕ
-lengthSize = 2
-
 -- ---- read: l is what is left of the datagram
 
 -- the data bytes that the first block says it has
-unfoldable pub lengthOf : List ℕ → ℕ
-lengthOf l = number l 0 lengthSize
+unfoldable pub blockLength : List ℕ → ℕ
+blockLength l = number l 0 lengthSize
 
 -- the bytes of the first block, its length field with them
-abbrev pub sizeOf : List ℕ → ℕ
-sizeOf l = lengthOf l + lengthSize
+abbrev pub blockSize : List ℕ → ℕ
+blockSize l = blockLength l + lengthSize
 
 -- the first block ends within the datagram (a length field that isn't all there does not)
 unfoldable pub fits : List ℕ → Bool
-fits l = leb (sizeOf l) (length l)
+fits l = leb (blockSize l) (length l)
 
 -- what is left after the first block
 abbrev pub afterBlock : List ℕ → List ℕ
-afterBlock l = drop (sizeOf l) l
+afterBlock l = drop (blockSize l) l
 
 -- each of n blocks ends within the datagram
 unfoldable pub allFit : ℕ → List ℕ → Bool
@@ -43,7 +40,7 @@ afterBlocks (suc n) l = afterBlocks n (afterBlock l)
 -- the data bytes of n blocks, in order
 unfoldable pub messages : ℕ → List ℕ → List (List ℕ)
 messages zero l = []
-messages (suc n) l = take (lengthOf l) (drop lengthSize l) ∷ messages n (afterBlock l)
+messages (suc n) l = take (blockLength l) (drop lengthSize l) ∷ messages n (afterBlock l)
 
 -- 15 where one of n blocks runs past the end, 16 where bytes stand after the last one
 unfoldable pub blocksRefusal : ℕ → List ℕ → ℕ

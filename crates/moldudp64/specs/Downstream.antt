@@ -14,19 +14,19 @@ use Rattle.moldudp64.specs.declared.downstream.Downstream.{Downstream}
 use Rattle.moldudp64.specs.declared.downstream.Downstream.the-variants.{Data, Heartbeat, EndOfSession, Refused}
 
 -- the kinds of downstream packet
-pub data Kind : Type 0 where
-  data-packet heartbeat end-of-session : Kind
+pub data DownstreamKind : Type 0 where
+  data-packet heartbeat end-of-session : DownstreamKind
 
 -- count 0 is a heartbeat, 65,535 is end of session, any other count is data
-unfoldable pub kindOfCount : ℕ → Kind
+unfoldable pub kindOfCount : ℕ → DownstreamKind
 kindOfCount c = if eqb c 0 then heartbeat else if eqb c endCount then end-of-session else data-packet
 
 -- the kind of a datagram
-abbrev pub kindOf : List ℕ → Kind
+abbrev pub kindOf : List ℕ → DownstreamKind
 kindOf l = kindOfCount (countOf l)
 
 -- how many blocks follow the header: heartbeat and end of session have none
-abbrev pub blockCountOf : Kind → ℕ → ℕ
+abbrev pub blockCountOf : DownstreamKind → ℕ → ℕ
 blockCountOf data-packet c = c
 blockCountOf heartbeat c = 0
 blockCountOf end-of-session c = 0
@@ -54,25 +54,25 @@ abbrev pub wellFormed : List ℕ → Bool
 wellFormed l = eqb (refusalOf l) 0
 
 -- data says its first number and its count; heartbeat and end of session the next expected number
-abbrev pub valuesOf : Kind → List ℕ → List ℕ
+abbrev pub valuesOf : DownstreamKind → List ℕ → List ℕ
 valuesOf data-packet l = numberOf l ∷ countOf l ∷ []
 valuesOf heartbeat l = numberOf l ∷ []
 valuesOf end-of-session l = numberOf l ∷ []
 
 -- what a datagram says
-unfoldable pub readOf : List ℕ → Words Kind
-readOf l = if wellFormed l then says (kindOf l) (valuesOf (kindOf l) l) else refuses (refusalOf l)
+unfoldable pub downstreamOf : List ℕ → Words DownstreamKind
+downstreamOf l = if wellFormed l then says (kindOf l) (valuesOf (kindOf l) l) else refuses (refusalOf l)
 
 -- the reader's answer in these words
-unfoldable pub downstreamWords : Downstream → Words Kind
+unfoldable pub downstreamWords : Downstream → Words DownstreamKind
 downstreamWords (Data first count) = says data-packet (first .0 ∷ count .0 ∷ [])
 downstreamWords (Heartbeat next) = says heartbeat (next .0 ∷ [])
 downstreamWords (EndOfSession next) = says end-of-session (next .0 ∷ [])
 downstreamWords (Refused r) = refusedWords r
 
 -- the session: no bytes where the datagram is refused
-unfoldable pub sessionOf : List ℕ → List ℕ
-sessionOf l = if wellFormed l then take sessionSize l else []
+unfoldable pub downstreamSession : List ℕ → List ℕ
+downstreamSession l = if wellFormed l then take sessionSize l else []
 
 -- the messages in order, one of no bytes included: none where the datagram is refused
 unfoldable pub messagesOf : List ℕ → List (List ℕ)

@@ -27,17 +27,17 @@ requestRefusal l =
     else requestGround (numberOf l) (countOf l)
 
 -- what a request can say, but for a refusal
-pub data Asking : Type 0 where
-  wanted : Asking
+pub data RequestKind : Type 0 where
+  wanted : RequestKind
 
 -- what a request says: its first number and its count
-unfoldable pub requestOf : List ℕ → Words Asking
+unfoldable pub requestOf : List ℕ → Words RequestKind
 requestOf l =
     if eqb (requestRefusal l) 0 then says wanted (numberOf l ∷ countOf l ∷ [])
     else refuses (requestRefusal l)
 
 -- the reader's answer in these words
-unfoldable pub requestWords : Request → Words Asking
+unfoldable pub requestWords : Request → Words RequestKind
 requestWords (Wanted first count) = says wanted (first .0 ∷ count .0 ∷ [])
 requestWords (Refused r) = refusedWords r
 

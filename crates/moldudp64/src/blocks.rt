@@ -1,18 +1,16 @@
 // The message blocks after a header: each a 2-byte length that doesn't count itself, and so many data bytes.
 use wire::kinds::ByteOffset;
+use wire::kinds::LENGTH_SIZE;
 use wire::kinds::MessageCount;
 use wire::number;
 use wire::refusal;
 use wire::refusal::Refusal;
 ghost use mathlib.Core.Path.{_≡_};
-ghost use Rattle.moldudp64.specs.Blocks.{sizeOf, blocksRefusal};
-
-// Bytes of a block's length field.
-pub const LENGTH_SIZE: usize = 2;
+ghost use Rattle.moldudp64.specs.Blocks.{blockSize, blocksRefusal};
 
 // Bytes of the block at the front of what is left, its length field with them.
 pub fn block_size(rest: &[u8]) -> usize
-    ensures { λ r. ⌜ r ≡ sizeOf (now (rest .entry)) ⌝ }
+    ensures { λ r. ⌜ r ≡ blockSize (now (rest .entry)) ⌝ }
 {
     number::be16(rest, ByteOffset(0)) as usize + LENGTH_SIZE
 }

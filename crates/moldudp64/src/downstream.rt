@@ -12,7 +12,7 @@ use wire::refusal::Refusal;
 ghost use mathlib.Core.Path.{_≡_};
 ghost use Rattle.wire.specs.Words.{Injective};
 ghost use Rattle.wire.specs.Bytes.{sameBytes};
-ghost use Rattle.moldudp64.specs.Downstream.{blockCount, refusalOf, downstreamWords, readOf, sessionOf};
+ghost use Rattle.moldudp64.specs.Downstream.{blockCount, refusalOf, downstreamWords, downstreamOf, downstreamSession};
 
 // What a datagram says.
 pub enum Downstream {
@@ -69,7 +69,7 @@ pub(crate) fn refusal_of(datagram: &[u8]) -> Refusal
 
 // Reads a datagram, with one walk over its blocks.
 pub fn read(datagram: &[u8]) -> Downstream
-    ensures { λ r. ⌜ downstreamWords r ≡ readOf (now (datagram .entry)) ⌝ }
+    ensures { λ r. ⌜ downstreamWords r ≡ downstreamOf (now (datagram .entry)) ⌝ }
     ensures tells_apart { λ _. ⌜ Injective downstreamWords ⌝ }
 {
     let refused = refusal_of(datagram);
@@ -93,7 +93,7 @@ pub fn read(datagram: &[u8]) -> Downstream
 
 // The session of a datagram, as a part of it; empty where the datagram is refused.
 pub fn session(datagram: &[u8]) -> &[u8]
-    ensures { λ r. ⌜ now r ≡ sessionOf (now (datagram .entry)) ⌝ }
+    ensures { λ r. ⌜ now r ≡ downstreamSession (now (datagram .entry)) ⌝ }
 {
     let refused = refusal_of(datagram);
     if refused.number != 0 {
@@ -104,7 +104,7 @@ pub fn session(datagram: &[u8]) -> &[u8]
 
 // Whether the session of a datagram is the name; never where the datagram is refused.
 pub fn is_session(datagram: &[u8], name: [u8; SESSION_SIZE]) -> bool
-    ensures { λ r. ⌜ r ≡ sameBytes (sessionOf (now (datagram .entry))) name ⌝ }
+    ensures { λ r. ⌜ r ≡ sameBytes (downstreamSession (now (datagram .entry))) name ⌝ }
 {
     compare::same_ten(session(datagram), ByteOffset(0), name)
 }

@@ -1,6 +1,7 @@
 -- Where a message is: by its place from 0, and by a cursor that moves from block to block.
 use Prim.Native.Nat.{ℕ, zero, suc, _+_, _-_}
 use mathlib.Core.List.{List, [], _∷_}
+use Rattle.wire.specs.Bounds.{lengthSize}
 use Rattle.wire.specs.Words.{says}
 use mathlib.Core.Bool.{true, false}
 use mathlib.Core.Path.{_≡_}
@@ -8,8 +9,8 @@ use lib.ListN.{length, take, drop}
 use lib.Dec.{ltb, eqb}
 use Rattle.wire.specs.Choice.{if_then_else_}
 use Rattle.moldudp64.specs.Header.{headerSize}
-use Rattle.moldudp64.specs.Blocks.{lengthSize, lengthOf, fits, blocksOf}
-use Rattle.moldudp64.specs.Downstream.{data-packet, readOf, messagesOf, messageOf}
+use Rattle.moldudp64.specs.Blocks.{blockLength, fits, blocksOf}
+use Rattle.moldudp64.specs.Downstream.{data-packet, downstreamOf, messagesOf, messageOf}
 use Rattle.moldudp64_messages.specs.declared.cursor.Located.{Located}
 use Rattle.moldudp64_messages.specs.declared.cursor.Cursor.{Cursor}
 
@@ -44,7 +45,7 @@ cursor at left = record { at = record { 0 = at }; left = record { 0 = left } }
 unfoldable pub locatedAt : List ℕ → ℕ → ℕ → Located
 locatedAt l at left =
     if eqb left 0 then nowhere
-    else if fits (drop at l) then there (at + lengthSize) (lengthOf (drop at l))
+    else if fits (drop at l) then there (at + lengthSize) (blockLength (drop at l))
     else nowhere
 
 -- the message at a cursor
@@ -52,16 +53,16 @@ abbrev pub located : List ℕ → Cursor → Located
 located l c = locatedAt l (c .at .0) (c .left .0)
 
 -- past that message, with one less left; where none is there the cursor stays
-unfoldable pub moved : List ℕ → Cursor → Cursor
-moved l c =
+unfoldable pub advanced : List ℕ → Cursor → Cursor
+advanced l c =
     if located l c .exists
     then cursor (located l c .offset .0 + located l c .length) (c .left .0 - 1)
     else c
 
 -- after so many moves
-unfoldable pub movedBy : ℕ → List ℕ → Cursor → Cursor
-movedBy zero l c = c
-movedBy (suc k) l c = movedBy k l (moved l c)
+unfoldable pub advancedBy : ℕ → List ℕ → Cursor → Cursor
+advancedBy zero l c = c
+advancedBy (suc k) l c = advancedBy k l (advanced l c)
 
 -- the first block of a datagram with so many messages
 abbrev pub firstOf : ℕ → Cursor
@@ -75,7 +76,7 @@ startOf l = firstOf (length (messagesOf l))
 
 -- k moves from the start stand at message k
 unfoldable pub WalksTheMessages : Type 0
-WalksTheMessages = (l : List ℕ) (k : ℕ) → located l (movedBy k l (startOf l)) ≡ locateOf l k
+WalksTheMessages = (l : List ℕ) (k : ℕ) → located l (advancedBy k l (startOf l)) ≡ locateOf l k
 
 -- a message is the datagram's bytes from its offset on, as many as its length
 unfoldable pub PartIsMessage : Type 0
@@ -83,4 +84,4 @@ PartIsMessage = (l : List ℕ) (k : ℕ) → part l (locateOf l k) ≡ messageOf
 
 -- the count that the reader gives with data is how many messages there are
 unfoldable pub CountIsMessages : Type 0
-CountIsMessages = (l : List ℕ) (n c : ℕ) → readOf l ≡ says data-packet (n ∷ c ∷ []) → startOf l ≡ firstOf c
+CountIsMessages = (l : List ℕ) (n c : ℕ) → downstreamOf l ≡ says data-packet (n ∷ c ∷ []) → startOf l ≡ firstOf c

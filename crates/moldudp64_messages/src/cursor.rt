@@ -5,9 +5,10 @@ use moldudp64::downstream;
 use moldudp64::downstream::Downstream;
 use moldudp64::header;
 use wire::kinds::ByteOffset;
+use wire::kinds::LENGTH_SIZE;
 use wire::kinds::MessageCount;
 ghost use mathlib.Core.Path.{_≡_};
-ghost use Rattle.moldudp64_messages.specs.Cursor.{located, moved, movedBy, firstOf, startOf, nowhere, part, WalksTheMessages, PartIsMessage, CountIsMessages};
+ghost use Rattle.moldudp64_messages.specs.Cursor.{located, advanced, advancedBy, firstOf, startOf, nowhere, part, WalksTheMessages, PartIsMessage, CountIsMessages};
 
 // Whether a message is there, with the offset of its first data byte in the datagram and its length. Where none is,
 // both numbers are 0.
@@ -72,7 +73,7 @@ impl Cursor {
             return not_there();
         }
         let rest = &datagram[at..];
-        if rest.len() < blocks::LENGTH_SIZE {
+        if rest.len() < LENGTH_SIZE {
             return not_there();
         }
         let size = blocks::block_size(rest);
@@ -81,8 +82,8 @@ impl Cursor {
         }
         Located {
             exists: true,
-            offset: ByteOffset(at + blocks::LENGTH_SIZE),
-            length: size - blocks::LENGTH_SIZE,
+            offset: ByteOffset(at + LENGTH_SIZE),
+            length: size - LENGTH_SIZE,
         }
     }
 
@@ -98,7 +99,7 @@ impl Cursor {
 
     // The cursor at the next block. It stays where no message is there.
     pub fn next(self, datagram: &[u8]) -> Cursor
-        ensures { λ r. ⌜ r ≡ moved (now (datagram .entry)) self ⌝ }
+        ensures { λ r. ⌜ r ≡ advanced (now (datagram .entry)) self ⌝ }
     {
         let found = self.locate(datagram);
         if found.exists {
@@ -112,7 +113,7 @@ impl Cursor {
 
     // The cursor after so many moves. A cursor that stays is not moved on.
     pub fn skip(self, datagram: &[u8], count: MessageCount) -> Cursor
-        ensures { λ r. ⌜ r ≡ movedBy (count .0) (now (datagram .entry)) self ⌝ }
+        ensures { λ r. ⌜ r ≡ advancedBy (count .0) (now (datagram .entry)) self ⌝ }
     {
         let mut cursor = self;
         let mut left = count.0;

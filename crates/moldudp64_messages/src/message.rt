@@ -4,11 +4,11 @@ use crate::cursor::Located;
 use wire::kinds::MessageCount;
 ghost use mathlib.Core.Path.{_≡_};
 ghost use Rattle.moldudp64.specs.Downstream.{messageOf};
-ghost use Rattle.moldudp64_messages.specs.Cursor.{movedBy, startOf, locateOf, PartIsMessage};
+ghost use Rattle.moldudp64_messages.specs.Cursor.{advancedBy, startOf, locateOf, PartIsMessage};
 
 // The cursor at a place.
 fn at(datagram: &[u8], place: MessageCount) -> Cursor
-    ensures { λ r. ⌜ r ≡ movedBy (place .0) (now (datagram .entry)) (startOf (now (datagram .entry))) ⌝ }
+    ensures { λ r. ⌜ r ≡ advancedBy (place .0) (now (datagram .entry)) (startOf (now (datagram .entry))) ⌝ }
 {
     Cursor::start(datagram).skip(datagram, place)
 }

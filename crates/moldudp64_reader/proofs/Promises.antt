@@ -2,7 +2,7 @@
 use mathlib.Core.Path.{_≡_}
 use denote.Ref.{now}
 use denote.Signature.{Slot, plain}
-use Rattle.moldudp64_messages.specs.Cursor.{located, moved, part}
+use Rattle.moldudp64_messages.specs.Cursor.{located, advanced, part}
 use Rattle.moldudp64_messages.proofs.cursor.Located as P
 use Rattle.moldudp64_reader.proofs.Held.{ReaderS, SliceS, CountS, Said}
 
@@ -20,4 +20,4 @@ abbrev pub says-left : Said CountS
 says-left κs c s r = r ≡ c .left
 
 abbrev pub says-next : Said ReaderS
-says-next κs c s r = (r .datagram ≡ s) × (r .cursor ≡ moved (now s) c)
+says-next κs c s r = (r .datagram ≡ s) × (r .cursor ≡ advanced (now s) c)

@@ -7,16 +7,16 @@ use Rattle.wire.specs.Bytes.{AreBytes}
 use Rattle.wire.specs.Words.{says}
 use Rattle.moldudp64.specs.Downstream.{messagesOf, messageNumber, messageOf}
 use Rattle.moldudp64_messages.specs.declared.cursor.Cursor.{Cursor}
-use Rattle.moldudp64_messages.specs.Cursor.{located, moved, movedBy, startOf, locateOf, part}
+use Rattle.moldudp64_messages.specs.Cursor.{located, advanced, advancedBy, startOf, locateOf, part}
 use Rattle.receiver.specs.declared.receiver.Receiver.{Receiver}
 use Rattle.receiver.specs.Table.{deliver}
 use Rattle.receiver.specs.Receiver.{answerOf}
-use Rattle.receiver.specs.Delivery.{deliveryOf}
+use Rattle.receiver.specs.Delivery.{deliveryCursor}
 use Rattle.moldudp64_reader.specs.declared.Shown.{Shown}
 
 -- what a reader at a cursor shows: the message there, how many are left, and the place of the next
 abbrev pub shownAt : List ℕ → Cursor → Shown
-shownAt l c = record { located = located l c; left = c .left; next = moved l c }
+shownAt l c = record { located = located l c; left = c .left; next = advanced l c }
 
 -- at message i of the datagram: its place, its bytes, and how many are left, itself included
 pub record StandsAt (l : List ℕ) (i : ℕ) (c : Cursor) : Type 0 where
@@ -26,9 +26,9 @@ pub record StandsAt (l : List ℕ) (i : ℕ) (c : Cursor) : Type 0 where
 
 -- a reader that is opened, and moved on i times, stands at message i
 unfoldable pub ReadsTheMessages : Type 0
-ReadsTheMessages = (l : List ℕ) (i : ℕ) → StandsAt l i (movedBy i l (startOf l))
+ReadsTheMessages = (l : List ℕ) (i : ℕ) → StandsAt l i (advancedBy i l (startOf l))
 
 -- one that is made from a deliver answer, and moved on i times, stands at message skipped + i, which has the number first + i
 unfoldable pub ReadsTheDelivery : Type 0
 ReadsTheDelivery = (r : Receiver) (l : List ℕ) (first count skipped i : ℕ) → AreBytes l → answerOf r l ≡ says deliver (first ∷ count ∷ skipped ∷ [])
-    → StandsAt l (skipped + i) (movedBy i l (deliveryOf l count skipped)) × (messageNumber l (skipped + i) ≡ first + i)
+    → StandsAt l (skipped + i) (advancedBy i l (deliveryCursor l count skipped)) × (messageNumber l (skipped + i) ≡ first + i)

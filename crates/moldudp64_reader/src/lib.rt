@@ -5,8 +5,8 @@ use moldudp64_messages::cursor::Located;
 use receiver::delivery;
 use wire::kinds::MessageCount;
 ghost use mathlib.Core.Path.{_≡_};
-ghost use Rattle.moldudp64_messages.specs.Cursor.{located, moved, startOf, part};
-ghost use Rattle.receiver.specs.Delivery.{deliveryOf, DeliveryVisits};
+ghost use Rattle.moldudp64_messages.specs.Cursor.{located, advanced, startOf, part};
+ghost use Rattle.receiver.specs.Delivery.{deliveryCursor, DeliveryVisits};
 ghost use Rattle.moldudp64_reader.specs.Reader.{shownAt, ReadsTheMessages, ReadsTheDelivery};
 
 pub struct Reader<'a> {
@@ -31,7 +31,7 @@ pub fn open<'a>(datagram: &'a [u8]) -> Reader<'a>
 
 // A reader at the first message that a deliver answer doesn't skip: count and skipped are the answer's.
 pub fn deliver<'a>(datagram: &'a [u8], count: MessageCount, skipped: MessageCount) -> Reader<'a>
-    ensures { λ r. ⌜ (r .datagram ≡ datagram .entry) × (r .cursor ≡ deliveryOf (now (datagram .entry)) (count .0) (skipped .0)) × DeliveryVisits × ReadsTheDelivery ⌝ }
+    ensures { λ r. ⌜ (r .datagram ≡ datagram .entry) × (r .cursor ≡ deliveryCursor (now (datagram .entry)) (count .0) (skipped .0)) × DeliveryVisits × ReadsTheDelivery ⌝ }
 {
     let cursor = delivery::start(datagram, count, skipped);
     Reader { cursor, datagram }
@@ -60,7 +60,7 @@ pub fn left<'a>(reader: Reader<'a>) -> MessageCount
 
 // The reader at the next message. It stays where none is there.
 pub fn next<'a>(reader: Reader<'a>) -> Reader<'a>
-    ensures { λ r. ⌜ (r .datagram ≡ reader .entry .datagram) × (r .cursor ≡ moved (now (reader .entry .datagram)) (reader .entry .cursor)) ⌝ }
+    ensures { λ r. ⌜ (r .datagram ≡ reader .entry .datagram) × (r .cursor ≡ advanced (now (reader .entry .datagram)) (reader .entry .cursor)) ⌝ }
 {
     let cursor = reader.cursor.next(reader.datagram);
     let datagram = reader.datagram;

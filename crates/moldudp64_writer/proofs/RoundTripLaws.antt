@@ -15,12 +15,12 @@ use Rattle.wire.specs.Output.{writeRefusal, writeAnswer}
 use Rattle.wire.proofs.Numbers.{length-bytes, number-bytes, bytes-number, small-number}
 use Rattle.wire.proofs.Outputs.{wrote-so, wrote-front}
 use Rattle.moldudp64.specs.Header.{numberOf, countOf, header}
-use Rattle.moldudp64.specs.Blocks.{lengthOf, sizeOf, afterBlock, allFit, afterBlocks, messages, blocksRefusal, blocksOf, fits}
-use Rattle.moldudp64.specs.Downstream.{Kind, data-packet, heartbeat, end-of-session, kindOfCount, kindOf, blockCount, valuesOf, refusalOf, readOf, sessionOf, messagesOf}
-use Rattle.moldudp64.specs.Written.{packet, endPacket}
-use Rattle.moldudp64_writer.specs.Writer.{packetOf, cut, lengthsOf, packetGround, endGround}
+use Rattle.moldudp64.specs.Blocks.{blockLength, blockSize, afterBlock, allFit, afterBlocks, messages, blocksRefusal, blocksOf, fits}
+use Rattle.moldudp64.specs.Downstream.{DownstreamKind, data-packet, heartbeat, end-of-session, kindOfCount, kindOf, blockCount, valuesOf, refusalOf, downstreamOf, downstreamSession, messagesOf}
+use Rattle.moldudp64.specs.Written.{encoded, encodedEnd}
+use Rattle.moldudp64_writer.specs.Writer.{encodedCut, cut, lengthsOf, packetGround, endGround}
 use Rattle.moldudp64.specs.Request.{requestGround, requestRefusal, requestOf, requestSession}
-use Rattle.moldudp64_writer.specs.RoundTrips.{ReadsAs, WritesTo, kindOfMessages, valuesOfMessages, AsksFor, PacketReadsBack, PacketWritesBack, EndReadsBack, EndWritesBack, RequestReadsBack, RequestWritesBack, PacketFits, RequestFits, PacketRoundTrip, EndRoundTrip, RequestRoundTrip}
+use Rattle.moldudp64_writer.specs.RoundTrips.{DatagramReadsAs, WritesTo, kindOfMessages, valuesOfMessages, AsksFor, PacketReadsBack, PacketWritesBack, EndReadsBack, EndWritesBack, RequestReadsBack, RequestWritesBack, PacketFits, RequestFits, PacketRoundTrip, EndRoundTrip, RequestRoundTrip}
 use Rattle.moldudp64_writer.proofs.HeaderLaws.{length-header, header-session, header-number, header-count, header-rest, header-again, drop-bytes}
 use Rattle.moldudp64.proofs.BlockLaws.{fits-so, sound-fit, sound-end, first-fits, rest-fit}
 use Rattle.moldudp64.proofs.DownstreamLaws.{kind-heartbeat, kind-end, kind-data, count-end, count-blocks, sound, accepted, said, messages-sound, count-sound, sound-ten}
@@ -31,8 +31,8 @@ use Rattle.moldudp64.proofs.RequestLaws.{request-sound, request-ten}
 -- ---- one block in front of others
 
 module _ (m rest : List ℕ) (small : length m < 2 ^ 16) where
-  laid-length : lengthOf (laid m rest) ≡ length m
-  unfolding lengthOf
+  laid-length : blockLength (laid m rest) ≡ length m
+  unfolding blockLength
   laid-length = rw (append-assoc (bytes 2 (length m)) m rest) (number-bytes 2 (length m) small [] (m ++ rest))
 
   laid-fits : fits (laid m rest) ≡ true
@@ -41,7 +41,7 @@ module _ (m rest : List ℕ) (small : length m < 2 ^ 16) where
   laid-after : afterBlock (laid m rest) ≡ rest
   laid-after = rw laid-length (drop-at (bytes 2 (length m) ++ m) rest (length m + 2) (laid-front m rest))
 
-  laid-message : take (lengthOf (laid m rest)) (drop 2 (laid m rest)) ≡ m
+  laid-message : take (blockLength (laid m rest)) (drop 2 (laid m rest)) ≡ m
   laid-message =
       let b : drop 2 (laid m rest) ≡ m ++ rest =
       rw (append-assoc (bytes 2 (length m)) m rest) (drop-at (bytes 2 (length m)) (m ++ rest) 2 (length-bytes 2 (length m))) in
@@ -82,7 +82,7 @@ blocks-good ms s = rw (blocks-fit ms s, blocks-end ms s)
 -- ---- blocks that were read, written
 
 blocks-again : (n : ℕ) (l : List ℕ) → AreBytes l → allFit n l ≡ true → length (afterBlocks n l) ≡ 0 → blocksOf (messages n l) ≡ l
-unfolding messages blocksOf afterBlocks lengthOf
+unfolding messages blocksOf afterBlocks blockLength
 blocks-again zero [] small f e = refl
 blocks-again zero (x ∷ l) small f e = absurd (omega arith)
 blocks-again (suc n) l small f e =
@@ -90,7 +90,7 @@ blocks-again (suc n) l small f e =
     let k : length (take (number l 0 2) (drop 2 l)) ≡ number l 0 2 = omega (arith, length-take (number l 0 2) (drop 2 l), length-drop 2 l) in
     let b : bytes 2 (number l 0 2) ≡ take 2 l = bytes-number 2 l small (omega arith) in
     let c : 2 + number l 0 2 ≡ number l 0 2 + 2 = omega arith in
-    let r : blocksOf (messages n (afterBlock l)) ≡ afterBlock l = blocks-again n (afterBlock l) (drop-bytes (sizeOf l) l small) (rest-fit n l f) e in
+    let r : blocksOf (messages n (afterBlock l)) ≡ afterBlock l = blocks-again n (afterBlock l) (drop-bytes (blockSize l) l small) (rest-fit n l f) e in
     rw (k, b, ← take-add 2 (number l 0 2) l, c, r) (take-append-drop (number l 0 2 + 2) l)
 
 -- ---- a header with blocks behind it, read: c is its count
@@ -132,15 +132,15 @@ module _ (s : List ℕ) (n c : ℕ) (b : List ℕ) (ten : length s ≡ 10) (fit 
           blocks-good = rw (blocks, whole-rest) good;
         })
 
-    whole-session-read : sessionOf whole ≡ s
-    unfolding sessionOf
+    whole-session-read : downstreamSession whole ≡ s
+    unfolding downstreamSession
     whole-session-read = rw whole-good whole-session
 
     whole-messages : messagesOf whole ≡ messages k b
     whole-messages = messages-sound whole whole-good ∙ rw (blocks, whole-rest)
 
-    whole-says : (kind : Kind) → kindOfCount c ≡ kind → readOf whole ≡ says kind (valuesOf kind whole)
-    whole-says kind e = said whole whole-good ∙ ap (λ (x : Kind). says x (valuesOf x whole)) (ap kindOfCount whole-count ∙ e)
+    whole-says : (kind : DownstreamKind) → kindOfCount c ≡ kind → downstreamOf whole ≡ says kind (valuesOf kind whole)
+    whole-says kind e = said whole whole-good ∙ ap (λ (x : DownstreamKind). says x (valuesOf x whole)) (ap kindOfCount whole-count ∙ e)
 
 -- ---- data and heartbeat, read back
 
@@ -160,15 +160,15 @@ module _ (s : List ℕ) (n : ℕ) (ms : List (List ℕ)) (p : Packable s n ms) w
   packed : List ℕ
   packed = whole s n (length ms) (blocksOf ms) (p .ten) (p .fit) small-count
 
-  as-packed : packet s n ms ≡ packed
-  unfolding packet packed whole
+  as-packed : encoded s n ms ≡ packed
+  unfolding encoded packed whole
   as-packed = refl
 
   packed-blocks : blockCount packed ≡ length ms
   unfolding packed
   packed-blocks = sym (count-blocks (length ms) packed (sym (whole-count s n (length ms) (blocksOf ms) (p .ten) (p .fit) small-count)) (let f = p .few in omega arith))
 
-  packed-session : sessionOf packed ≡ s
+  packed-session : downstreamSession packed ≡ s
   unfolding packed
   packed-session = whole-session-read s n (length ms) (blocksOf ms) (p .ten) (p .fit) small-count (length ms) packed-blocks (p .nonzero) (p .sum) (p .size) (blocks-good ms (p .short))
 
@@ -178,7 +178,7 @@ module _ (s : List ℕ) (n : ℕ) (ms : List (List ℕ)) (p : Packable s n ms) w
       whole-messages s n (length ms) (blocksOf ms) (p .ten) (p .fit) small-count (length ms) packed-blocks (p .nonzero) (p .sum) (p .size) (blocks-good ms (p .short))
       ∙ blocks-read ms (p .short)
 
-  packed-says : (kind : Kind) → kindOfCount (length ms) ≡ kind → readOf packed ≡ says kind (valuesOf kind packed)
+  packed-says : (kind : DownstreamKind) → kindOfCount (length ms) ≡ kind → downstreamOf packed ≡ says kind (valuesOf kind packed)
   unfolding packed
   packed-says = whole-says s n (length ms) (blocksOf ms) (p .ten) (p .fit) small-count (length ms) packed-blocks (p .nonzero) (p .sum) (p .size) (blocks-good ms (p .short))
 
@@ -190,7 +190,7 @@ module _ (s : List ℕ) (n : ℕ) (ms : List (List ℕ)) (p : Packable s n ms) w
   unfolding packed
   packed-count = whole-count s n (length ms) (blocksOf ms) (p .ten) (p .fit) small-count
 
-packet-says : (s : List ℕ) (n : ℕ) (ms : List (List ℕ)) (p : Packable s n ms) → readOf (packed s n ms p) ≡ says (kindOfMessages ms) (valuesOfMessages n ms)
+packet-says : (s : List ℕ) (n : ℕ) (ms : List (List ℕ)) (p : Packable s n ms) → downstreamOf (packed s n ms p) ≡ says (kindOfMessages ms) (valuesOfMessages n ms)
 packet-says s n [] p = packed-says s n [] p heartbeat (kind-heartbeat 0 refl) ∙ ap (λ (v : ℕ). says heartbeat (v ∷ [])) (packed-number s n [] p)
 packet-says s n (m ∷ ms) p =
     let f = p .few in
@@ -198,7 +198,7 @@ packet-says s n (m ∷ ms) p =
     ∙ ap (λ (v : ℕ). says data-packet (v ∷ countOf (packed s n (m ∷ ms) p) ∷ [])) (packed-number s n (m ∷ ms) p)
     ∙ ap (λ (v : ℕ). says data-packet (n ∷ v ∷ [])) (packed-count s n (m ∷ ms) p)
 
-packet-reads : (s : List ℕ) (n : ℕ) (ms : List (List ℕ)) → Packable s n ms → ReadsAs (packet s n ms) s (kindOfMessages ms) (valuesOfMessages n ms) ms
+packet-reads : (s : List ℕ) (n : ℕ) (ms : List (List ℕ)) → Packable s n ms → DatagramReadsAs (encoded s n ms) s (kindOfMessages ms) (valuesOfMessages n ms) ms
 packet-reads s n ms p =
     rw (as-packed s n ms p)
     (record { says-so = packet-says s n ms p; its-session = packed-session s n ms p; its-messages = packed-messages s n ms p })
@@ -206,11 +206,11 @@ packet-reads s n ms p =
 packet-reads-back : PacketReadsBack
 unfolding PacketReadsBack
 packet-reads-back l s n ks d k ten fit short e =
-    let o = wrote-so (packetGround n ks d) l 0 (packetOf s n ks d) k e in
+    let o = wrote-so (packetGround n ks d) l 0 (encodedCut s n ks d) k e in
     let w = writable n ks d (o .no-ground) in
     let c = cut-count ks d in
     let z = cut-size ks d (w .whole) in
-    rw (wrote-front (packetGround n ks d) l (packetOf s n ks d) k e)
+    rw (wrote-front (packetGround n ks d) l (encodedCut s n ks d) k e)
     (packet-reads s n (cut ks d)
     (record {
       ten = ten;
@@ -255,12 +255,12 @@ module _ (l : List ℕ) (bytes-all : AreBytes l) (e : refusalOf l ≡ 0) (not-en
       let s = sound l e in
       ap blocksOf (messages-sound l e) ∙ blocks-again (blockCount l) (drop 20 l) (drop-bytes 20 l bytes-all) (sound-fit _ _ (s .blocks-good)) (sound-end _ _ (s .blocks-good))
 
-  back-session : sessionOf l ≡ take 10 l
-  unfolding sessionOf
+  back-session : downstreamSession l ≡ take 10 l
+  unfolding downstreamSession
   back-session = rw e
 
-  back-same : packetOf (sessionOf l) (numberOf l) (lengthsOf ms) (joined ms) ≡ l
-  unfolding packet
+  back-same : encodedCut (downstreamSession l) (numberOf l) (lengthsOf ms) (joined ms) ≡ l
+  unfolding encoded
   back-same =
       rw (join-again ms, back-session, back-length, back-body, header-again l bytes-all (sound l e .long)) (take-append-drop 20 l)
 
@@ -283,7 +283,7 @@ module _ (l : List ℕ) (bytes-all : AreBytes l) (e : refusalOf l ≡ 0) (not-en
         small = let h = s .short in let i = s .long in omega (arith, joined-size ms, ap length back-body, length-drop 20 l);
       })
 
-  back : WritesTo l (packetGround (numberOf l) (lengthsOf ms) (joined ms)) (packetOf (sessionOf l) (numberOf l) (lengthsOf ms) (joined ms))
+  back : WritesTo l (packetGround (numberOf l) (lengthsOf ms) (joined ms)) (encodedCut (downstreamSession l) (numberOf l) (lengthsOf ms) (joined ms))
   back = writes-to l _ _ back-ground back-same
 
 packet-writes-back : PacketWritesBack
@@ -295,8 +295,8 @@ packet-writes-back l small e n = back l small e n
 end-blocks : (s : List ℕ) (n : ℕ) (ten : length s ≡ 10) (fit : n < 2 ^ 64) (small : 65535 < 2 ^ 16) → blockCount (whole s n 65535 [] ten fit small) ≡ 0
 end-blocks s n ten fit small = sym (count-end 65535 (whole s n 65535 [] ten fit small) (sym (whole-count s n 65535 [] ten fit small)) refl)
 
-end-reads : (s : List ℕ) (n : ℕ) → length s ≡ 10 → n < 2 ^ 64 → (n ≡ 0 → ⊥) → ReadsAs (endPacket s n) s end-of-session (n ∷ []) []
-unfolding endPacket whole blocksRefusal allFit afterBlocks messages
+end-reads : (s : List ℕ) (n : ℕ) → length s ≡ 10 → n < 2 ^ 64 → (n ≡ 0 → ⊥) → DatagramReadsAs (encodedEnd s n) s end-of-session (n ∷ []) []
+unfolding encodedEnd whole blocksRefusal allFit afterBlocks messages
 end-reads s n ten fit z =
     let small : 65535 < 2 ^ 16 = omega arith in
     let k = end-blocks s n ten fit small in
@@ -318,8 +318,8 @@ end-nonzero n e z = let k : _≡_ {A = ℕ} 13 0 = rw z at e in omega arith
 end-reads-back : EndReadsBack
 unfolding EndReadsBack
 end-reads-back l s n k ten fit e =
-    let o = wrote-so (endGround n) l 0 (endPacket s n) k e in
-    rw (wrote-front (endGround n) l (endPacket s n) k e) (end-reads s n ten fit (end-nonzero n (o .no-ground)))
+    let o = wrote-so (endGround n) l 0 (encodedEnd s n) k e in
+    rw (wrote-front (endGround n) l (encodedEnd s n) k e) (end-reads s n ten fit (end-nonzero n (o .no-ground)))
 
 -- 65,535 is the one count of an end of session
 end-count : (c : ℕ) → kindOfCount c ≡ end-of-session → c ≡ 65535
@@ -337,7 +337,7 @@ unfolding afterBlocks
 end-short l e = omega (arith, sound-end 0 (drop 20 l) e, length-drop 20 l)
 
 end-writes-back : EndWritesBack
-unfolding EndWritesBack endPacket sessionOf
+unfolding EndWritesBack encodedEnd downstreamSession
 end-writes-back l small e k =
     let s = sound l e in
     let c = end-count (countOf l) k in
@@ -378,10 +378,10 @@ request-writes-back l small e =
 -- ---- the writers' types hold what was read: ten bytes of session, and numbers no wider than the bytes that they were read from
 
 lengths-fit : (n : ℕ) (l : List ℕ) → AreBytes l → (i : ℕ) → getD (lengthsOf (messages n l)) i 0 < 2 ^ 16
-unfolding messages lengthsOf lengthOf
+unfolding messages lengthsOf blockLength
 lengths-fit zero l small i = omega arith
 lengths-fit (suc n) l small zero = omega (arith, small-number 2 l 0 small, length-take (number l 0 2) (drop 2 l))
-lengths-fit (suc n) l small (suc i) = lengths-fit n (afterBlock l) (drop-bytes (sizeOf l) l small) i
+lengths-fit (suc n) l small (suc i) = lengths-fit n (afterBlock l) (drop-bytes (blockSize l) l small) i
 
 number-fits : (l : List ℕ) → AreBytes l → numberOf l < 2 ^ 64
 unfolding numberOf
@@ -391,8 +391,8 @@ count-fits : (l : List ℕ) → AreBytes l → countOf l < 2 ^ 16
 unfolding countOf
 count-fits l small = small-number 2 l 18 small
 
-session-fits : (l : List ℕ) → refusalOf l ≡ 0 → length (sessionOf l) ≡ 10
-unfolding sessionOf
+session-fits : (l : List ℕ) → refusalOf l ≡ 0 → length (downstreamSession l) ≡ 10
+unfolding downstreamSession
 session-fits l e = rw e (sound-ten l (refusalOf l) refl e)
 
 packet-fits : (l : List ℕ) → AreBytes l → refusalOf l ≡ 0 → PacketFits l

@@ -17,8 +17,8 @@ use Rattle.wire.specs.Output.{put, Writes}
 use Rattle.wire.proofs.Outputs.{writes-ground, writes-short, writes-done, put-put, length-put}
 use Rattle.moldudp64.specs.Header.{header}
 use Rattle.moldudp64.specs.Blocks.{blocksOf}
-use Rattle.moldudp64.specs.Written.{packet, endPacket}
-use Rattle.moldudp64_writer.specs.Writer.{cut, packetOf, total, addUp, packetGround, endGround}
+use Rattle.moldudp64.specs.Written.{encoded, encodedEnd}
+use Rattle.moldudp64_writer.specs.Writer.{cut, encodedCut, total, addUp, packetGround, endGround}
 use Rattle.moldudp64_writer.proofs.HeaderLaws.{length-header}
 use Rattle.moldudp64_writer.proofs.CutLaws.{cut-count, cut-size}
 use Rattle.moldudp64.proofs.DownstreamLaws.{past-ground}
@@ -54,13 +54,13 @@ end-good n z = simp (ne-eqb _ _ z)
 pub end-refused : (l bs : List ℕ) (n : ℕ) → n ≡ 0 → Writes (Refused (record { number = 13 })) l l (endGround n) 0 bs
 end-refused l bs n z = write-ground l bs (endGround n) (record { number = 13 }) (end-13 n z) (omega arith)
 
-pub end-short : (l s : List ℕ) (n : ℕ) → (n ≡ 0 → ⊥) → length s ≡ 10 → length l < 20 → Writes (Refused (record { number = 41 })) l l (endGround n) 0 (endPacket s n)
-unfolding endPacket
+pub end-short : (l s : List ℕ) (n : ℕ) → (n ≡ 0 → ⊥) → length s ≡ 10 → length l < 20 → Writes (Refused (record { number = 41 })) l l (endGround n) 0 (encodedEnd s n)
+unfolding encodedEnd
 end-short l s n z ten h = write-short l (header s n 65535) (endGround n) 0 20 (end-good n z) refl h (header-size s n 65535 ten)
 
 pub end-done : (l m s : List ℕ) (n : ℕ) → (n ≡ 0 → ⊥) → length s ≡ 10 → 20 ≤ length l → m ≡ put l 0 (header s n 65535)
-    → Writes (Wrote 20) l m (endGround n) 0 (endPacket s n)
-unfolding endPacket
+    → Writes (Wrote 20) l m (endGround n) 0 (encodedEnd s n)
+unfolding encodedEnd
 end-done l m s n z ten h p = write-done l m (header s n 65535) (endGround n) 0 20 (end-good n z) refl h (header-size s n 65535 ten) p
 
 -- ---- the lengths add up: v is what they do from the start, left what the lengths from i on have to make
@@ -172,16 +172,16 @@ module _ (n : ℕ) (ks d : List ℕ) (r : ℕ) where
   pub packet-whole : r ≡ packetGround n ks d → r ≡ 0 → total ks ≡ length d
   packet-whole e z = writable n ks d (sym e ∙ z) .whole
 
-  packet-size : (s : List ℕ) → length s ≡ 10 → r ≡ packetGround n ks d → r ≡ 0 → 20 + 2 * length ks + length d ≡ length (packetOf s n ks d)
-  unfolding packet
+  packet-size : (s : List ℕ) → length s ≡ 10 → r ≡ packetGround n ks d → r ≡ 0 → 20 + 2 * length ks + length d ≡ length (encodedCut s n ks d)
+  unfolding encoded
   packet-size s ten e z =
       let c = cut-size ks d (packet-whole e z) in
       let h = length-header s n (length (cut ks d)) ten in
       omega (arith, length-append (header s n (length (cut ks d))) (blocksOf (cut ks d)))
 
   pub packet-short : (l s : List ℕ) → r ≡ packetGround n ks d → r ≡ 0 → length s ≡ 10 → length l < 20 + 2 * length ks + length d
-      → Writes (Refused (record { number = 41 })) l l (packetGround n ks d) 0 (packetOf s n ks d)
-  packet-short l s e z ten h = write-short l (packetOf s n ks d) (packetGround n ks d) r _ e z h (packet-size s ten e z)
+      → Writes (Refused (record { number = 41 })) l l (packetGround n ks d) 0 (encodedCut s n ks d)
+  packet-short l s e z ten h = write-short l (encodedCut s n ks d) (packetGround n ks d) r _ e z h (packet-size s ten e z)
 
   pub packet-room : (l₁ l : List ℕ) (bs : List ℕ) → r ≡ packetGround n ks d → r ≡ 0 → 20 + 2 * length ks + length d ≤ length l → l₁ ≡ put l 0 bs
       → 20 + length (blocksOf (cut ks d)) ≤ length l₁
@@ -191,12 +191,12 @@ module _ (n : ℕ) (ks d : List ℕ) (r : ℕ) where
 
   pub packet-done : (l l₁ l₂ s : List ℕ) → r ≡ packetGround n ks d → r ≡ 0 → length s ≡ 10 → 20 + 2 * length ks + length d ≤ length l
       → l₁ ≡ put l 0 (header s n (length ks)) → l₂ ≡ put l₁ 20 (blocksOf (cut ks d))
-      → Writes (Wrote (20 + 2 * length ks + length d)) l l₂ (packetGround n ks d) 0 (packetOf s n ks d)
-  unfolding packet
+      → Writes (Wrote (20 + 2 * length ks + length d)) l l₂ (packetGround n ks d) 0 (encodedCut s n ks d)
+  unfolding encoded
   packet-done l l₁ l₂ s e z ten h p q =
       let c = cut-size ks d (packet-whole e z) in
       let k = cut-count ks d in
       let t = length-header s n (length ks) ten in
       let a : 0 + length (header s n (length ks)) ≡ 20 = omega arith in
-      let both : l₂ ≡ put l 0 (packetOf s n ks d) = rw (q, p, k) (rw a at (put-put l 0 (header s n (length ks)) (blocksOf (cut ks d)) (omega arith))) in
-      write-done l l₂ (packetOf s n ks d) (packetGround n ks d) r _ e z h (packet-size s ten e z) both
+      let both : l₂ ≡ put l 0 (encodedCut s n ks d) = rw (q, p, k) (rw a at (put-put l 0 (header s n (length ks)) (blocksOf (cut ks d)) (omega arith))) in
+      write-done l l₂ (encodedCut s n ks d) (packetGround n ks d) r _ e z h (packet-size s ten e z) both

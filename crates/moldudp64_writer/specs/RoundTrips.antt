@@ -9,15 +9,15 @@ use Rattle.wire.specs.Words.{says}
 use Rattle.wire.specs.Bytes.{joined, AreBytes}
 use Rattle.wire.specs.Output.{wrote, put, writeAnswer, writeOutput}
 use Rattle.moldudp64.specs.Header.{numberOf, countOf, header}
-use Rattle.moldudp64.specs.Downstream.{Kind, data-packet, heartbeat, end-of-session, kindOf, refusalOf, readOf, sessionOf, messagesOf}
-use Rattle.moldudp64.specs.Written.{endPacket}
-use Rattle.moldudp64_writer.specs.Writer.{packetOf, cut, lengthsOf, packetGround, endGround}
+use Rattle.moldudp64.specs.Downstream.{DownstreamKind, data-packet, heartbeat, end-of-session, kindOf, refusalOf, downstreamOf, downstreamSession, messagesOf}
+use Rattle.moldudp64.specs.Written.{encodedEnd}
+use Rattle.moldudp64_writer.specs.Writer.{encodedCut, cut, lengthsOf, packetGround, endGround}
 use Rattle.moldudp64.specs.Request.{wanted, requestGround, requestRefusal, requestOf, requestSession}
 
 -- the bytes p read as a datagram of this session, kind, values and messages
-pub record ReadsAs (p session : List ℕ) (kind : Kind) (values : List ℕ) (ms : List (List ℕ)) : Type 0 where
-  pub says-so : readOf p ≡ says kind values
-  pub its-session : sessionOf p ≡ session
+pub record DatagramReadsAs (p session : List ℕ) (kind : DownstreamKind) (values : List ℕ) (ms : List (List ℕ)) : Type 0 where
+  pub says-so : downstreamOf p ≡ says kind values
+  pub its-session : downstreamSession p ≡ session
   pub its-messages : messagesOf p ≡ ms
 
 -- a writer with ground g and bytes bs writes the bytes l: into any output with room for them, and nothing else
@@ -28,7 +28,7 @@ pub record WritesTo (l : List ℕ) (g : ℕ) (bs : List ℕ) : Type 0 where
 -- ---- data and heartbeat: ks are the lengths, d the joined data, l any lent output
 
 -- a packet of messages says its first number and how many; one of none is a heartbeat with the next number
-abbrev pub kindOfMessages : List (List ℕ) → Kind
+abbrev pub kindOfMessages : List (List ℕ) → DownstreamKind
 kindOfMessages [] = heartbeat
 kindOfMessages (m ∷ ms) = data-packet
 
@@ -40,19 +40,19 @@ valuesOfMessages n (m ∷ ms) = n ∷ length (m ∷ ms) ∷ []
 unfoldable pub PacketReadsBack : Type 0
 PacketReadsBack = (l session : List ℕ) (n : ℕ) (ks d : List ℕ) (size : ℕ)
     → length session ≡ sessionSize → n < 2 ^ 64 → ((i : ℕ) → getD ks i 0 < 2 ^ 16)
-    → writeAnswer (packetGround n ks d) l 0 (packetOf session n ks d) ≡ says wrote (size ∷ [])
-    → ReadsAs (take size (writeOutput (packetGround n ks d) l 0 (packetOf session n ks d))) session
+    → writeAnswer (packetGround n ks d) l 0 (encodedCut session n ks d) ≡ says wrote (size ∷ [])
+    → DatagramReadsAs (take size (writeOutput (packetGround n ks d) l 0 (encodedCut session n ks d))) session
     (kindOfMessages (cut ks d)) (valuesOfMessages n (cut ks d)) (cut ks d)
 
 -- a datagram that is accepted and is no end of session is what the writer writes of its parts
 unfoldable pub PacketWritesBack : Type 0
 PacketWritesBack = (l : List ℕ) → AreBytes l → refusalOf l ≡ 0 → (kindOf l ≡ end-of-session → ⊥)
     → WritesTo l (packetGround (numberOf l) (lengthsOf (messagesOf l)) (joined (messagesOf l)))
-    (packetOf (sessionOf l) (numberOf l) (lengthsOf (messagesOf l)) (joined (messagesOf l)))
+    (encodedCut (downstreamSession l) (numberOf l) (lengthsOf (messagesOf l)) (joined (messagesOf l)))
 
 -- what was read of data or a heartbeat can be handed to its writer
 pub record PacketFits (l : List ℕ) : Type 0 where
-  pub session-size : length (sessionOf l) ≡ sessionSize
+  pub session-size : length (downstreamSession l) ≡ sessionSize
   pub number-fits : numberOf l < 2 ^ 64
   pub each-length : (i : ℕ) → getD (lengthsOf (messagesOf l)) i 0 < 2 ^ 16
 
@@ -61,17 +61,17 @@ pub record PacketFits (l : List ℕ) : Type 0 where
 -- the bytes that the writer reports are an end of session with that number
 unfoldable pub EndReadsBack : Type 0
 EndReadsBack = (l session : List ℕ) (n size : ℕ) → length session ≡ sessionSize → n < 2 ^ 64
-    → writeAnswer (endGround n) l 0 (endPacket session n) ≡ says wrote (size ∷ [])
-    → ReadsAs (take size (writeOutput (endGround n) l 0 (endPacket session n))) session end-of-session (n ∷ []) []
+    → writeAnswer (endGround n) l 0 (encodedEnd session n) ≡ says wrote (size ∷ [])
+    → DatagramReadsAs (take size (writeOutput (endGround n) l 0 (encodedEnd session n))) session end-of-session (n ∷ []) []
 
 -- an end of session that is accepted is what the writer writes of its parts
 unfoldable pub EndWritesBack : Type 0
 EndWritesBack = (l : List ℕ) → AreBytes l → refusalOf l ≡ 0 → kindOf l ≡ end-of-session
-    → WritesTo l (endGround (numberOf l)) (endPacket (sessionOf l) (numberOf l))
+    → WritesTo l (endGround (numberOf l)) (encodedEnd (downstreamSession l) (numberOf l))
 
 -- what was read of an end of session can be handed to its writer
 pub record EndFits (l : List ℕ) : Type 0 where
-  pub session-size : length (sessionOf l) ≡ sessionSize
+  pub session-size : length (downstreamSession l) ≡ sessionSize
   pub number-fits : numberOf l < 2 ^ 64
 
 -- ---- requests

@@ -4,12 +4,12 @@ use mathlib.Core.List.{List, [], _∷_}
 use mathlib.Core.Bool.{Bool, not}
 use lib.ListN.{length, take, drop}
 use lib.Dec.{ltb, eqb}
+use Rattle.wire.specs.Bounds.{lengthSize}
 use Rattle.wire.specs.Choice.{if_then_else_}
 use Rattle.wire.specs.Refusals.{datagramLong, numberZero, numbersRunOut, tooManyMessages, lengthsDiffer}
 use Rattle.moldudp64.specs.Header.{headerSize, largestDatagram, endCount}
-use Rattle.moldudp64.specs.Blocks.{lengthSize}
 use Rattle.moldudp64.specs.Downstream.{runOut}
-use Rattle.moldudp64.specs.Written.{packet}
+use Rattle.moldudp64.specs.Written.{encoded}
 
 -- ---- data and heartbeat: the writer is given lengths and joined data
 
@@ -19,8 +19,8 @@ cut [] d = []
 cut (k ∷ ks) d = take k d ∷ cut ks (drop k d)
 
 -- the packet of the messages that the writer is given
-abbrev pub packetOf : List ℕ → ℕ → List ℕ → List ℕ → List ℕ
-packetOf session n ks d = packet session n (cut ks d)
+abbrev pub encodedCut : List ℕ → ℕ → List ℕ → List ℕ → List ℕ
+encodedCut session n ks d = encoded session n (cut ks d)
 
 -- the sum of the lengths
 unfoldable pub total : List ℕ → ℕ

@@ -7,6 +7,7 @@ use moldudp64::header::LARGEST_DATAGRAM;
 use moldudp64::header::SIZE;
 use wire::kinds::ByteOffset;
 use wire::kinds::LARGEST_NUMBER;
+use wire::kinds::LENGTH_SIZE;
 use wire::kinds::MessageCount;
 use wire::kinds::SESSION_SIZE;
 use wire::kinds::SequenceNumber;
@@ -20,8 +21,8 @@ ghost use lib.ListN.{length};
 ghost use Rattle.wire.specs.Output.{put, Writes};
 ghost use Rattle.moldudp64.specs.Header.{headerSize};
 ghost use Rattle.moldudp64.specs.Blocks.{blocksOf};
-ghost use Rattle.moldudp64.specs.Written.{endPacket};
-ghost use Rattle.moldudp64_writer.specs.Writer.{total, cut, packetOf, addUp, packetGround, endGround};
+ghost use Rattle.moldudp64.specs.Written.{encodedEnd};
+ghost use Rattle.moldudp64_writer.specs.Writer.{total, cut, encodedCut, addUp, packetGround, endGround};
 ghost use Rattle.moldudp64_writer.specs.RoundTrips.{PacketRoundTrip, EndRoundTrip};
 
 // The most messages of one datagram.
@@ -66,7 +67,7 @@ fn ground(first: SequenceNumber, lengths: &[u16], joined: &[u8]) -> Refusal
     if LARGEST_DATAGRAM < joined.len() {
         return refusal::DATAGRAM_LONG;
     }
-    if LARGEST_DATAGRAM < SIZE + blocks::LENGTH_SIZE * count + joined.len() {
+    if LARGEST_DATAGRAM < SIZE + LENGTH_SIZE * count + joined.len() {
         return refusal::DATAGRAM_LONG;
     }
     refusal::NONE
@@ -84,7 +85,7 @@ fn put_blocks(out: &mut [u8], lengths: &[u16], joined: &[u8])
         let length = lengths[i];
         let size = length as usize;
         output::put16(out, ByteOffset(at), length);
-        at += blocks::LENGTH_SIZE;
+        at += LENGTH_SIZE;
         output::put_bytes(out, ByteOffset(at), &rest[..size]);
         at += size;
         rest = &rest[size..];
@@ -100,7 +101,7 @@ pub fn write_messages(
     lengths: &[u16],
     joined: &[u8],
 ) -> Written
-    ensures { λ r. ⌜ Writes r (now (out .entry)) (now (out .exit)) (packetGround (first .0) (now (lengths .entry)) (now (joined .entry))) 0 (packetOf session (first .0) (now (lengths .entry)) (now (joined .entry))) ⌝ }
+    ensures { λ r. ⌜ Writes r (now (out .entry)) (now (out .exit)) (packetGround (first .0) (now (lengths .entry)) (now (joined .entry))) 0 (encodedCut session (first .0) (now (lengths .entry)) (now (joined .entry))) ⌝ }
     ensures round_trip { λ _. ⌜ PacketRoundTrip ⌝ }
 {
     let refused = ground(first, lengths, joined);
@@ -108,7 +109,7 @@ pub fn write_messages(
         return Written::Refused(refused);
     }
     let count = lengths.len();
-    let size = SIZE + blocks::LENGTH_SIZE * count + joined.len();
+    let size = SIZE + LENGTH_SIZE * count + joined.len();
     if out.len() < size {
         return Written::Refused(refusal::OUTPUT_SHORT);
     }
@@ -123,7 +124,7 @@ pub fn write_end_of_session(
     session: [u8; SESSION_SIZE],
     next: SequenceNumber,
 ) -> Written
-    ensures { λ r. ⌜ Writes r (now (out .entry)) (now (out .exit)) (endGround (next .0)) 0 (endPacket session (next .0)) ⌝ }
+    ensures { λ r. ⌜ Writes r (now (out .entry)) (now (out .exit)) (endGround (next .0)) 0 (encodedEnd session (next .0)) ⌝ }
     ensures round_trip { λ _. ⌜ EndRoundTrip ⌝ }
 {
     if next.0 == 0 {

@@ -10,11 +10,11 @@ use borrow.Author.Tests.{le-ltb, ne-eqb}
 use Rattle.wire.specs.Words.{Words}
 use Rattle.wire.proofs.Cases.{below-or-not}
 use Rattle.moldudp64.specs.Header.{numberOf, countOf}
-use Rattle.moldudp64.specs.Downstream.{Kind, data-packet, heartbeat, end-of-session, kindOf, refusalOf, messagesOf}
+use Rattle.moldudp64.specs.Downstream.{DownstreamKind, data-packet, heartbeat, end-of-session, kindOf, refusalOf, messagesOf}
 use Rattle.receiver.specs.declared.receiver.Receiver.{Receiver}
-use Rattle.receiver.specs.Table.{Reply, Outcome, delivers, olds, quiets, asks, endsNow, table}
-use Rattle.receiver.specs.Receiver.{receiver, otherSession, endBelow, ownRefusal, refusalFor, rowOf, moved, answerOf, receiverAfter}
-use Rattle.receiver.specs.Delivery.{deliveredIn, deliveredBy}
+use Rattle.receiver.specs.Table.{AnswerKind, Outcome, deliverOutcome, oldOutcome, quietOutcome, askOutcome, endedOutcome, table}
+use Rattle.receiver.specs.Receiver.{receiver, otherSession, endBelow, ownRefusal, refusalFor, tableRow, afterRow, answerOf, receiverAfter}
+use Rattle.receiver.specs.Delivery.{messagesDeliveredAt, messagesDelivered}
 use Rattle.receiver.specs.Feed.{Datagram, Session, lastOf, messagesFrom, OfKind}
 use Rattle.receiver.specs.Condition3.{plain, Condition3For, Condition3}
 use Rattle.receiver.proofs.StartLaws.{started}
@@ -28,11 +28,11 @@ use Rattle.receiver.proofs.Sorts.{Named, TrueData, TrueEnd, Sort, is-ba
 -- nothing: it delivers none, and the receiver stays
 record Stays (r : Receiver) (d : Datagram) : Type 0 where
   same : receiverAfter r d ≡ r
-  nothing : deliveredBy (answerOf r d) d ≡ []
+  nothing : messagesDelivered (answerOf r d) d ≡ []
 
 -- a refusal
 refusal-stays : (r : Receiver) (d : Datagram) → (refusalFor r d ≡ 0 → ⊥) → Stays r d
-unfolding deliveredIn
+unfolding messagesDeliveredAt
 refusal-stays r d z = record { same = sym (refused-stays r d (refusalFor r d) refl z); nothing = rw (refused-answers r d z) }
 
 -- the ladder, a rung each
@@ -63,88 +63,88 @@ ladder-open : (r : Receiver) (d : Datagram) → refusalOf d ≡ 0 → take 10 d 
 unfolding refusalFor ownRefusal otherSession
 ladder-open r d w n e b = rw (w, same-name (take 10 d) (r .session) n, e, b)
 
-not-below : (k : Kind) (f n : ℕ) → n ≤ f → endBelow k f n ≡ false
+not-below : (k : DownstreamKind) (f n : ℕ) → n ≤ f → endBelow k f n ≡ false
 unfolding endBelow
 not-below data-packet f n h = refl
 not-below heartbeat f n h = refl
 not-below end-of-session f n h = le-ltb _ _ h
 
-no-end : (k : Kind) (f n : ℕ) → (k ≡ end-of-session → ⊥) → endBelow k f n ≡ false
+no-end : (k : DownstreamKind) (f n : ℕ) → (k ≡ end-of-session → ⊥) → endBelow k f n ≡ false
 unfolding endBelow
 no-end data-packet f n z = refl
 no-end heartbeat f n z = refl
 no-end end-of-session f n z = absurd (z refl)
 
 -- rows that leave the receiver as it is and deliver nothing
-row-stays : (r : Receiver) (d : Datagram) (o : Outcome) → refusalFor r d ≡ 0 → rowOf r d ≡ o → moved r o ≡ r → deliveredBy (o .reply) d ≡ [] → Stays r d
+row-stays : (r : Receiver) (d : Datagram) (o : Outcome) → refusalFor r d ≡ 0 → tableRow r d ≡ o → afterRow r o ≡ r → messagesDelivered (o .reply) d ≡ [] → Stays r d
 row-stays r d o e f m g =
     record {
-      same = row-after r d e ∙ ap (moved r) f ∙ m;
-      nothing = ap (λ (w : Words Reply). deliveredBy w d) (row-answer r d e ∙ ap (λ (x : Outcome). x .reply) f) ∙ g;
+      same = row-after r d e ∙ ap (afterRow r) f ∙ m;
+      nothing = ap (λ (w : Words AnswerKind). messagesDelivered w d) (row-answer r d e ∙ ap (λ (x : Outcome). x .reply) f) ∙ g;
     }
 
 ahead-stays : (r : Receiver) (d : Datagram) → refusalOf d ≡ 0 → take 10 d ≡ r .session → r .ended ≡ false → r .next .0 < numberOf d → Stays r d
-unfolding deliveredIn
+unfolding messagesDeliveredAt
 ahead-stays r d w n o h =
-    row-stays r d (asks (r .limit .0) (r .next .0) (numberOf d)) (ladder-open r d w n o (not-below (kindOf d) _ _ (omega arith)))
+    row-stays r d (askOutcome (r .limit .0) (r .next .0) (numberOf d)) (ladder-open r d w n o (not-below (kindOf d) _ _ (omega arith)))
     (row-above (r .limit .0) (r .next .0) (numberOf d) (countOf d) (kindOf d) h) refl refl
 
-kind-row : (r : Receiver) (d : Datagram) (k : Kind) (o : Outcome) → kindOf d ≡ k → table (r .limit .0) (r .next .0) k (numberOf d) (countOf d) ≡ o → rowOf r d ≡ o
-kind-row r d k o e f = ap (λ (x : Kind). table (r .limit .0) (r .next .0) x (numberOf d) (countOf d)) e ∙ f
+kind-row : (r : Receiver) (d : Datagram) (k : DownstreamKind) (o : Outcome) → kindOf d ≡ k → table (r .limit .0) (r .next .0) k (numberOf d) (countOf d) ≡ o → tableRow r d ≡ o
+kind-row r d k o e f = ap (λ (x : DownstreamKind). table (r .limit .0) (r .next .0) x (numberOf d) (countOf d)) e ∙ f
 
-heartbeat-end : (k : Kind) → k ≡ heartbeat → k ≡ end-of-session → ⊥
+heartbeat-end : (k : DownstreamKind) → k ≡ heartbeat → k ≡ end-of-session → ⊥
 heartbeat-end k e f = let z : _≡_ {A = ℕ} 0 1 = cc in omega arith
 
-data-end-not : (k : Kind) → k ≡ data-packet → k ≡ end-of-session → ⊥
+data-end-not : (k : DownstreamKind) → k ≡ data-packet → k ≡ end-of-session → ⊥
 data-end-not k e f = let z : _≡_ {A = ℕ} 0 1 = cc in omega arith
 
 heartbeat-stays : (r : Receiver) (d : Datagram) → refusalOf d ≡ 0 → take 10 d ≡ r .session → r .ended ≡ false → kindOf d ≡ heartbeat → Stays r d
-unfolding deliveredIn
+unfolding messagesDeliveredAt
 heartbeat-stays r d w n o k =
     let a = ladder-open r d w n o (no-end (kindOf d) _ _ (heartbeat-end (kindOf d) k)) in
     below-or-not _ (r .next .0) (numberOf d) (λ h. ahead-stays r d w n o h)
     (λ h.
     below-or-not _ (numberOf d) (r .next .0)
-    (λ i. row-stays r d (olds (r .next .0)) a (kind-row r d heartbeat _ k (row-beat-below (r .limit .0) (r .next .0) (numberOf d) (countOf d) i)) refl refl)
+    (λ i. row-stays r d (oldOutcome (r .next .0)) a (kind-row r d heartbeat _ k (row-beat-below (r .limit .0) (r .next .0) (numberOf d) (countOf d) i)) refl refl)
     (λ i.
     let e : numberOf d ≡ r .next .0 = omega arith in
-    row-stays r d (quiets (r .next .0)) a (kind-row r d heartbeat _ k (row-beat-at (r .limit .0) (r .next .0) (numberOf d) (countOf d) e)) refl refl))
+    row-stays r d (quietOutcome (r .next .0)) a (kind-row r d heartbeat _ k (row-beat-at (r .limit .0) (r .next .0) (numberOf d) (countOf d) e)) refl refl))
 
 module _ (r : Receiver) (d : Datagram) (w : refusalOf d ≡ 0) (n : take 10 d ≡ r .session) (o : r .ended ≡ false) where
   data-open : kindOf d ≡ data-packet → refusalFor r d ≡ 0
   data-open k = ladder-open r d w n o (no-end (kindOf d) _ _ (data-end-not (kindOf d) k))
 
   old-stays : kindOf d ≡ data-packet → numberOf d + countOf d ≤ r .next .0 → Stays r d
-  unfolding deliveredIn
+  unfolding messagesDeliveredAt
   old-stays k h =
-      row-stays r d (olds (r .next .0)) (data-open k) (kind-row r d data-packet _ k (row-below (r .limit .0) (r .next .0) (numberOf d) (countOf d) h)) refl refl
+      row-stays r d (oldOutcome (r .next .0)) (data-open k) (kind-row r d data-packet _ k (row-below (r .limit .0) (r .next .0) (numberOf d) (countOf d) h)) refl refl
 
   -- data that reaches n
   module _ (k : kindOf d ≡ data-packet) (g : numberOf d ≤ r .next .0) (h : r .next .0 < numberOf d + countOf d) where
-    deliver-row : rowOf r d ≡ delivers (r .next .0) (numberOf d) (countOf d)
+    deliver-row : tableRow r d ≡ deliverOutcome (r .next .0) (numberOf d) (countOf d)
     deliver-row = kind-row r d data-packet _ k (row-reaches (r .limit .0) (r .next .0) (numberOf d) (countOf d) g h)
 
-    take-moves : receiverAfter r d ≡ moved r (delivers (r .next .0) (numberOf d) (countOf d))
-    take-moves = row-after r d (data-open k) ∙ ap (moved r) deliver-row
+    take-moves : receiverAfter r d ≡ afterRow r (deliverOutcome (r .next .0) (numberOf d) (countOf d))
+    take-moves = row-after r d (data-open k) ∙ ap (afterRow r) deliver-row
 
-    take-delivers : deliveredBy (answerOf r d) d ≡ drop (r .next .0 - numberOf d) (messagesOf d)
-    unfolding deliveredIn
-    take-delivers = ap (λ (x : Words Reply). deliveredBy x d) (row-answer r d (data-open k) ∙ ap (λ (x : Outcome). x .reply) deliver-row)
+    take-delivers : messagesDelivered (answerOf r d) d ≡ drop (r .next .0 - numberOf d) (messagesOf d)
+    unfolding messagesDeliveredAt
+    take-delivers = ap (λ (x : Words AnswerKind). messagesDelivered x d) (row-answer r d (data-open k) ∙ ap (λ (x : Outcome). x .reply) deliver-row)
 
   -- an end of session at n
   module _ (k : kindOf d ≡ end-of-session) (e : numberOf d ≡ r .next .0) where
     end-open : refusalFor r d ≡ 0
     end-open = ladder-open r d w n o (not-below (kindOf d) _ _ (omega arith))
 
-    end-row : rowOf r d ≡ endsNow (r .next .0)
+    end-row : tableRow r d ≡ endedOutcome (r .next .0)
     end-row = kind-row r d end-of-session _ k (row-end (r .limit .0) (r .next .0) (numberOf d) (countOf d) (omega arith))
 
-    take-ends : receiverAfter r d ≡ moved r (endsNow (r .next .0))
-    take-ends = row-after r d end-open ∙ ap (moved r) end-row
+    take-ends : receiverAfter r d ≡ afterRow r (endedOutcome (r .next .0))
+    take-ends = row-after r d end-open ∙ ap (afterRow r) end-row
 
-    end-delivers : deliveredBy (answerOf r d) d ≡ []
-    unfolding deliveredIn
-    end-delivers = ap (λ (x : Words Reply). deliveredBy x d) (row-answer r d end-open ∙ ap (λ (x : Outcome). x .reply) end-row)
+    end-delivers : messagesDelivered (answerOf r d) d ≡ []
+    unfolding messagesDeliveredAt
+    end-delivers = ap (λ (x : Words AnswerKind). messagesDelivered x d) (row-answer r d end-open ∙ ap (λ (x : Outcome). x .reply) end-row)
 
 -- ---- every datagram of the kind
 
@@ -182,9 +182,9 @@ module _ (s : Session) where
     data Effect (r : Receiver) : Type 0 where
       nothing : Stays r d → Effect r
       delivers-now : TrueData s d → numberOf d ≤ r .next .0 → r .next .0 < numberOf d + countOf d → r .ended ≡ false
-          → receiverAfter r d ≡ moved r (delivers (r .next .0) (numberOf d) (countOf d))
-          → deliveredBy (answerOf r d) d ≡ drop (r .next .0 - numberOf d) (messagesOf d) → Effect r
-      ends-now : TrueEnd s d → r .next .0 ≡ lastOf s + 1 → receiverAfter r d ≡ moved r (endsNow (r .next .0)) → deliveredBy (answerOf r d) d ≡ [] → Effect r
+          → receiverAfter r d ≡ afterRow r (deliverOutcome (r .next .0) (numberOf d) (countOf d))
+          → messagesDelivered (answerOf r d) d ≡ drop (r .next .0 - numberOf d) (messagesOf d) → Effect r
+      ends-now : TrueEnd s d → r .next .0 ≡ lastOf s + 1 → receiverAfter r d ≡ afterRow r (endedOutcome (r .next .0)) → messagesDelivered (answerOf r d) d ≡ [] → Effect r
 
     module _ (r : Receiver) (i : Inv r) where
       open-or : (n : Named s d) → (r .ended ≡ false → Effect r) → Effect r
@@ -237,7 +237,7 @@ module _ (s : Session) where
       ahead-by (delivers-now t g h o e x) = rw e (record { number = omega arith; ended = λ y. y })
       ahead-by (ends-now t n e x) = rw e (record { number = omega arith; ended = λ y. refl })
 
-      exact-by : Effect r → deliveredBy (answerOf r d) d ≡ messagesFrom s (r .next .0) (receiverAfter r d .next .0)
+      exact-by : Effect r → messagesDelivered (answerOf r d) d ≡ messagesFrom s (r .next .0) (receiverAfter r d .next .0)
       exact-by (nothing z) = rw (z .same) (z .nothing ∙ sym (none-from s (r .next .0)))
       exact-by (delivers-now t g h o e x) = rw e (x ∙ skipped t r i g h)
       exact-by (ends-now t n e x) = rw e (x ∙ sym (none-from s (r .next .0)))

@@ -16,28 +16,28 @@ use Rattle.wire.proofs.Cases.{zero-or-not}
 use Rattle.wire.proofs.Words.{which-of, values-of}
 use Rattle.wire.proofs.Numbers.{small-number}
 use Rattle.moldudp64.specs.Header.{numberOf, countOf}
-use Rattle.moldudp64.specs.Downstream.{Kind, data-packet, kindOf, refusalOf, messagesOf, messageNumber, messageOf}
+use Rattle.moldudp64.specs.Downstream.{DownstreamKind, data-packet, kindOf, refusalOf, messagesOf, messageNumber, messageOf}
 use Rattle.moldudp64.proofs.DownstreamLaws.{count-sound, kind-blocks}
 use Rattle.moldudp64_messages.specs.declared.cursor.Cursor.{Cursor}
 use Rattle.moldudp64_messages.specs.declared.cursor.Located.{Located}
-use Rattle.moldudp64_messages.specs.Cursor.{moved, movedBy, firstOf, startOf, located, part, locateOf, WalksTheMessages, PartIsMessage}
+use Rattle.moldudp64_messages.specs.Cursor.{advanced, advancedBy, firstOf, startOf, located, part, locateOf, WalksTheMessages, PartIsMessage}
 use Rattle.moldudp64_messages.proofs.CursorLaws.{walks-the-messages, part-is-message}
 use Rattle.receiver.specs.declared.receiver.Receiver.{Receiver}
-use Rattle.receiver.specs.Table.{deliver, Outcome, Row, data-reaches, data-below, heartbeat-below, heartbeat-at, any-above, end-at, delivers}
+use Rattle.receiver.specs.Table.{deliver, Outcome, Row, data-reaches, data-below, heartbeat-below, heartbeat-at, any-above, end-at, deliverOutcome}
 use Rattle.receiver.specs.Receiver.{refusalFor, answerOf}
-use Rattle.receiver.specs.Delivery.{deliveredIn, deliveryOf, DeliveryVisits}
+use Rattle.receiver.specs.Delivery.{messagesDeliveredAt, deliveryCursor, DeliveryVisits}
 use Rattle.receiver.proofs.TableLaws.{row-answer}
 use Rattle.receiver.proofs.Promises.{row-of, refused-answers, well-read}
 
 -- ---- only the first row delivers
 
-pub record Reaches (n : ℕ) (k : Kind) (f c : ℕ) (o : Outcome) : Type 0 where
+pub record Reaches (n : ℕ) (k : DownstreamKind) (f c : ℕ) (o : Outcome) : Type 0 where
   pub kind : k ≡ data-packet
   pub begins : f ≤ n
   pub ends : n < f + c
-  pub outcome : o ≡ delivers n f c
+  pub outcome : o ≡ deliverOutcome n f c
 
-reaches : (limit n : ℕ) (k : Kind) (f c : ℕ) (o : Outcome) → Row limit n k f c o → o .reply .which ≡ answer deliver → Reaches n k f c o
+reaches : (limit n : ℕ) (k : DownstreamKind) (f c : ℕ) (o : Outcome) → Row limit n k f c o → o .reply .which ≡ answer deliver → Reaches n k f c o
 reaches limit n k f c o (data-reaches a b d e) w = record { kind = a; begins = b; ends = d; outcome = e }
 reaches limit n k f c o (data-below a b e) w = let x = sym (ap (λ (y : Outcome). y .reply .which) e) ∙ w in let z : _≡_ {A = ℕ} 0 1 = cc in absurd (omega arith)
 reaches limit n k f c o (heartbeat-below a b e) w = let x = sym (ap (λ (y : Outcome). y .reply .which) e) ∙ w in let z : _≡_ {A = ℕ} 0 1 = cc in absurd (omega arith)
@@ -72,10 +72,10 @@ delivering r l first count skipped e = zero-or-not _ (refusalFor r l) good bad
 
 -- ---- the cursor
 
-moves-add : (k i : ℕ) (l : List ℕ) (c : Cursor) → movedBy i l (movedBy k l c) ≡ movedBy (k + i) l c
-unfolding movedBy
+moves-add : (k i : ℕ) (l : List ℕ) (c : Cursor) → advancedBy i l (advancedBy k l c) ≡ advancedBy (k + i) l c
+unfolding advancedBy
 moves-add zero i l c = rw zero-add
-moves-add (suc k) i l c = rw suc-add (moves-add k i l (moved l c))
+moves-add (suc k) i l c = rw suc-add (moves-add k i l (advanced l c))
 
 short-count : (l : List ℕ) → AreBytes l → countOf l ≤ 65535
 unfolding countOf
@@ -95,13 +95,13 @@ message-at l k i = sym (getD-drop k (messagesOf l) i [])
 
 -- ---- as the code of `start` has it: c at the first block, d after the moves
 
-pub delivery-none : (l : List ℕ) (k s : ℕ) (c : Cursor) → 65535 - k < s → c ≡ firstOf 0 → c ≡ deliveryOf l k s
-unfolding deliveryOf
+pub delivery-none : (l : List ℕ) (k s : ℕ) (c : Cursor) → 65535 - k < s → c ≡ firstOf 0 → c ≡ deliveryCursor l k s
+unfolding deliveryCursor
 delivery-none l k s c h e = let g : 65535 < k + s = omega arith in e ∙ rw (lt-ltb _ _ g)
 
-pub delivery-start : (l : List ℕ) (k s : ℕ) (c d : Cursor) → Fits w16 k → s ≤ 65535 - k → c ≡ firstOf (k + s) → d ≡ movedBy s l c → d ≡ deliveryOf l k s
-unfolding deliveryOf
-delivery-start l k s c d i h e f = let g : k + s ≤ 65535 = omega arith in f ∙ ap (movedBy s l) e ∙ rw (le-ltb _ _ g)
+pub delivery-start : (l : List ℕ) (k s : ℕ) (c d : Cursor) → Fits w16 k → s ≤ 65535 - k → c ≡ firstOf (k + s) → d ≡ advancedBy s l c → d ≡ deliveryCursor l k s
+unfolding deliveryCursor
+delivery-start l k s c d i h e f = let g : k + s ≤ 65535 = omega arith in f ∙ ap (advancedBy s l) e ∙ rw (le-ltb _ _ g)
 
 -- i moves from where a delivery starts are skipped + i moves from the first message
 module _ (r : Receiver) (l : List ℕ) (first count skipped : ℕ) (small : AreBytes l) (e : answerOf r l ≡ says deliver (first ∷ count ∷ skipped ∷ [])) where
@@ -111,20 +111,20 @@ module _ (r : Receiver) (l : List ℕ) (first count skipped : ℕ) (small : AreB
       let n : length (messagesOf l) ≡ countOf l = count-sound l (d .well) ∙ kind-blocks l data-packet (d .kind) in
       n ∙ sym (d .all)
 
-  pub delivery-moves : (i : ℕ) → movedBy i l (deliveryOf l count skipped) ≡ movedBy (skipped + i) l (startOf l)
-  unfolding deliveryOf
+  pub delivery-moves : (i : ℕ) → advancedBy i l (deliveryCursor l count skipped) ≡ advancedBy (skipped + i) l (startOf l)
+  unfolding deliveryCursor
   delivery-moves i =
       let d = delivering r l first count skipped e in
       let b : countOf l ≤ 65535 = short-count l small in
       let h : count + skipped ≤ 65535 = omega (arith, d .all) in
       let c : firstOf (count + skipped) ≡ startOf l = ap firstOf (sym all-there) in
-      rw (le-ltb _ _ h) (moves-add skipped i l (firstOf (count + skipped)) ∙ ap (movedBy (skipped + i) l) c)
+      rw (le-ltb _ _ h) (moves-add skipped i l (firstOf (count + skipped)) ∙ ap (advancedBy (skipped + i) l) c)
 
 pub delivery-visits : DeliveryVisits
-unfolding DeliveryVisits deliveredIn WalksTheMessages PartIsMessage
+unfolding DeliveryVisits messagesDeliveredAt WalksTheMessages PartIsMessage
 delivery-visits r l first count skipped small e =
     let n = all-there r l first count skipped small e in
-    let at : (i : ℕ) → located l (movedBy i l (deliveryOf l count skipped)) ≡ locateOf l (skipped + i) =
+    let at : (i : ℕ) → located l (advancedBy i l (deliveryCursor l count skipped)) ≡ locateOf l (skipped + i) =
     λ i. ap (located l) (delivery-moves r l first count skipped small e i) ∙ walks-the-messages l (skipped + i) in
     rw e
     (record {

@@ -13,7 +13,7 @@ use Rattle.wire.specs.declared.kinds.MessageCount.{MessageCount}
 use Rattle.moldudp64.specs.Header.{numberOf}
 use Rattle.moldudp64.specs.declared.downstream.Downstream.{Downstream}
 use Rattle.moldudp64.specs.declared.downstream.Downstream.the-variants.{Data, Heartbeat, EndOfSession, Refused}
-use Rattle.moldudp64.specs.Downstream.{Kind, data-packet, heartbeat, end-of-session, kindOf, refusalOf, readOf, downstreamWords}
+use Rattle.moldudp64.specs.Downstream.{DownstreamKind, data-packet, heartbeat, end-of-session, kindOf, refusalOf, downstreamOf, downstreamWords}
 use Rattle.moldudp64.proofs.DownstreamLaws.{kind-read, refusal-read, refused-number, number-read}
 use Rattle.receiver.specs.declared.receiver.Receiver.{Receiver}
 use Rattle.receiver.specs.Receiver.{otherSession, endBelow, ownRefusal, refusalFor}
@@ -39,11 +39,11 @@ module _ (r : Receiver) (l : List ℕ) (low b : Bool) where
 
 -- ---- the ladder, by what the reader found
 
-past-16 : (r : Receiver) (l : List ℕ) (k : Kind) → refusalOf l ≡ 0 → kindOf l ≡ k → ownRefusal r l (endBelow k (numberOf l) (r .next .0)) ≡ refusalFor r l
+past-16 : (r : Receiver) (l : List ℕ) (k : DownstreamKind) → refusalOf l ≡ 0 → kindOf l ≡ k → ownRefusal r l (endBelow k (numberOf l) (r .next .0)) ≡ refusalFor r l
 unfolding refusalFor
 past-16 r l k e f = rw (e, f)
 
-pub for-refused : (r : Receiver) (l : List ℕ) (p : Downstream) (x : Refusal) → downstreamWords p ≡ readOf l → p ≡ Refused x → x .number ≡ refusalFor r l
+pub for-refused : (r : Receiver) (l : List ℕ) (p : Downstream) (x : Refusal) → downstreamWords p ≡ downstreamOf l → p ≡ Refused x → x .number ≡ refusalFor r l
 unfolding downstreamWords refusalFor
 for-refused r l p x e f =
     let g = sym (rw f at e) in
@@ -51,21 +51,21 @@ for-refused r l p x e f =
     let n = refused-number l (x .number) g in
     rw (ne-eqb _ _ z) (sym n)
 
-pub for-data : (r : Receiver) (l : List ℕ) (p : Downstream) (n : SequenceNumber) (c : MessageCount) (k : ℕ) → downstreamWords p ≡ readOf l → p ≡ Data n c
+pub for-data : (r : Receiver) (l : List ℕ) (p : Downstream) (n : SequenceNumber) (c : MessageCount) (k : ℕ) → downstreamWords p ≡ downstreamOf l → p ≡ Data n c
     → k ≡ ownRefusal r l false → k ≡ refusalFor r l
 unfolding downstreamWords endBelow
 for-data r l p n c k e f g =
     let s = kind-read l data-packet (n .0 ∷ c .0 ∷ []) (sym (rw f at e)) in
     g ∙ past-16 r l data-packet (s .0) (s .1)
 
-pub for-heartbeat : (r : Receiver) (l : List ℕ) (p : Downstream) (n : SequenceNumber) (k : ℕ) → downstreamWords p ≡ readOf l → p ≡ Heartbeat n
+pub for-heartbeat : (r : Receiver) (l : List ℕ) (p : Downstream) (n : SequenceNumber) (k : ℕ) → downstreamWords p ≡ downstreamOf l → p ≡ Heartbeat n
     → k ≡ ownRefusal r l false → k ≡ refusalFor r l
 unfolding downstreamWords endBelow
 for-heartbeat r l p n k e f g =
     let s = kind-read l heartbeat (n .0 ∷ []) (sym (rw f at e)) in
     g ∙ past-16 r l heartbeat (s .0) (s .1)
 
-pub for-end : (r : Receiver) (l : List ℕ) (p : Downstream) (n : SequenceNumber) (k : ℕ) → downstreamWords p ≡ readOf l → p ≡ EndOfSession n
+pub for-end : (r : Receiver) (l : List ℕ) (p : Downstream) (n : SequenceNumber) (k : ℕ) → downstreamWords p ≡ downstreamOf l → p ≡ EndOfSession n
     → k ≡ ownRefusal r l (ltb (n .0) (r .next .0)) → k ≡ refusalFor r l
 unfolding downstreamWords endBelow
 for-end r l p n k e f g =

@@ -12,15 +12,15 @@ use Rattle.wire.specs.Words.{Case, Words, answer, refused, refuses, Injective}
 use Rattle.wire.proofs.Cases.{below-or-not, zero-or-not}
 use Rattle.wire.proofs.Words.{which-of, values-of, read-back}
 use Rattle.moldudp64.specs.Header.{numberOf, countOf}
-use Rattle.moldudp64.specs.Downstream.{Kind, data-packet, heartbeat, end-of-session, kindOf, refusalOf}
+use Rattle.moldudp64.specs.Downstream.{DownstreamKind, data-packet, heartbeat, end-of-session, kindOf, refusalOf}
 use Rattle.moldudp64.specs.Request.{requestGround}
 use Rattle.moldudp64.proofs.DownstreamLaws.{sound, kind-blocks}
 use Rattle.moldudp64.proofs.RequestLaws.{ground-good}
 use Rattle.receiver.specs.declared.receiver.Receiver.{Receiver}
 use Rattle.receiver.specs.declared.receiver.Answer.{Answer}
 use Rattle.receiver.specs.declared.receiver.Answer.the-variants.{Deliver, Old, Quiet, Ask, Ended, Refused}
-use Rattle.receiver.specs.Table.{Reply, deliver, old, quiet, ask, ended, Outcome, Row, data-reaches, data-below, heartbeat-below, heartbeat-at, any-above, end-at, answerWords, askFor, delivers, olds, quiets, asks, endsNow, table}
-use Rattle.receiver.specs.Receiver.{startRefusal, otherSession, endBelow, ownRefusal, refusalFor, rowOf, answerOf, receiverAfter}
+use Rattle.receiver.specs.Table.{AnswerKind, deliver, old, quiet, ask, ended, Outcome, Row, data-reaches, data-below, heartbeat-below, heartbeat-at, any-above, end-at, answerWords, askFor, deliverOutcome, oldOutcome, quietOutcome, askOutcome, endedOutcome, table}
+use Rattle.receiver.specs.Receiver.{receiverStartRefusal, otherSession, endBelow, ownRefusal, refusalFor, tableRow, answerOf, receiverAfter}
 use Rattle.receiver.specs.Statements.{FollowsTheTable, RequestExactlyWhen, NumberNeverFalls, AskIsARequest, StaysGood, KeepsSettings, ReceiverPromises}
 use Rattle.receiver.proofs.StartLaws.{in-bounds, start-good}
 use Rattle.receiver.proofs.TableLaws.{refused-stays, row-answer, row-after}
@@ -28,36 +28,36 @@ use Rattle.receiver.proofs.TableLaws.{refused-stays, row-answer, row-af
 -- ---- the table is its rows; at an end of session n isn't above f
 
 module _ (limit n f c : ℕ) where
-  pub row-above : (k : Kind) → n < f → table limit n k f c ≡ asks limit n f
+  pub row-above : (k : DownstreamKind) → n < f → table limit n k f c ≡ askOutcome limit n f
   unfolding table
   row-above data-packet h = rw (lt-ltb _ _ h)
   row-above heartbeat h = rw (lt-ltb _ _ h)
   row-above end-of-session h = rw (lt-ltb _ _ h)
 
-  pub row-reaches : f ≤ n → n < f + c → table limit n data-packet f c ≡ delivers n f c
+  pub row-reaches : f ≤ n → n < f + c → table limit n data-packet f c ≡ deliverOutcome n f c
   unfolding table
   row-reaches h i = rw (le-ltb _ _ h, lt-ltb _ _ i)
 
-  pub row-below : f + c ≤ n → table limit n data-packet f c ≡ olds n
+  pub row-below : f + c ≤ n → table limit n data-packet f c ≡ oldOutcome n
   unfolding table
   row-below i = let h : f ≤ n = omega arith in rw (le-ltb _ _ h, le-ltb _ _ i)
 
-  pub row-beat-below : f < n → table limit n heartbeat f c ≡ olds n
+  pub row-beat-below : f < n → table limit n heartbeat f c ≡ oldOutcome n
   unfolding table
   row-beat-below i = let h : f ≤ n = omega arith in rw (le-ltb _ _ h, lt-ltb _ _ i)
 
-  pub row-beat-at : f ≡ n → table limit n heartbeat f c ≡ quiets n
+  pub row-beat-at : f ≡ n → table limit n heartbeat f c ≡ quietOutcome n
   unfolding table
   row-beat-at e = let h : f ≤ n = omega arith in let i : n ≤ f = omega arith in rw (le-ltb _ _ h, le-ltb _ _ i)
 
-  pub row-end : f ≤ n → table limit n end-of-session f c ≡ endsNow n
+  pub row-end : f ≤ n → table limit n end-of-session f c ≡ endedOutcome n
   unfolding table
   row-end h = rw (le-ltb _ _ h)
 
-  rows : (k : Kind) → (k ≡ end-of-session → n ≤ f) → Row limit n k f c (table limit n k f c)
+  rows : (k : DownstreamKind) → (k ≡ end-of-session → n ≤ f) → Row limit n k f c (table limit n k f c)
   rows k g = below-or-not _ n f (λ h. any-above h (row-above k h)) (λ h. at-or-below k g h)
     where
-      at-or-below : (k : Kind) → (k ≡ end-of-session → n ≤ f) → f ≤ n → Row limit n k f c (table limit n k f c)
+      at-or-below : (k : DownstreamKind) → (k ≡ end-of-session → n ≤ f) → f ≤ n → Row limit n k f c (table limit n k f c)
       at-or-below data-packet g h = below-or-not _ n (f + c) (λ i. data-reaches refl h i (row-reaches h i)) (λ i. data-below refl i (row-below i))
       at-or-below heartbeat g h =
           below-or-not _ f n (λ i. heartbeat-below refl i (row-beat-below i)) (λ i. let e : f ≡ n = omega arith in heartbeat-at refl e (row-beat-at e))
@@ -95,7 +95,7 @@ not-below : (r : Receiver) (l : List ℕ) → refusalFor r l ≡ 0 → kindOf l 
 unfolding endBelow
 not-below r l e k = ltb-false _ _ (rw k at (own-none r l _ (open-so r l e .own)))
 
-pub row-of : (r : Receiver) (l : List ℕ) → refusalFor r l ≡ 0 → Row (r .limit .0) (r .next .0) (kindOf l) (numberOf l) (countOf l) (rowOf r l)
+pub row-of : (r : Receiver) (l : List ℕ) → refusalFor r l ≡ 0 → Row (r .limit .0) (r .next .0) (kindOf l) (numberOf l) (countOf l) (tableRow r l)
 row-of r l e = rows (r .limit .0) (r .next .0) (numberOf l) (countOf l) (kindOf l) (not-below r l e)
 
 pub refused-answers : (r : Receiver) (l : List ℕ) → (refusalFor r l ≡ 0 → ⊥) → answerOf r l ≡ refuses (refusalFor r l)
@@ -106,12 +106,12 @@ follows-the-table : FollowsTheTable answerOf receiverAfter
 follows-the-table =
     record {
       refused = λ r l z. record { its-number = refused-answers r l z; unchanged = sym (refused-stays r l (refusalFor r l) refl z) };
-      accepts = λ r l e. record { outcome = rowOf r l; its-row = row-of r l e; its-answer = row-answer r l e; its-receiver = row-after r l e };
+      accepts = λ r l e. record { outcome = tableRow r l; its-row = row-of r l e; its-answer = row-answer r l e; its-receiver = row-after r l e };
     }
 
 -- ---- only the row above n asks
 
-asks-above : (limit n : ℕ) (k : Kind) (f c : ℕ) (o : Outcome) → Row limit n k f c o → o .reply .which ≡ answer ask → n < f
+asks-above : (limit n : ℕ) (k : DownstreamKind) (f c : ℕ) (o : Outcome) → Row limit n k f c o → o .reply .which ≡ answer ask → n < f
 asks-above limit n k f c o (data-reaches a b d e) w = let x = sym (ap (λ (y : Outcome). y .reply .which) e) ∙ w in let z : _≡_ {A = ℕ} 0 1 = cc in absurd (omega arith)
 asks-above limit n k f c o (data-below a b e) w = let x = sym (ap (λ (y : Outcome). y .reply .which) e) ∙ w in let z : _≡_ {A = ℕ} 0 1 = cc in absurd (omega arith)
 asks-above limit n k f c o (heartbeat-below a b e) w = let x = sym (ap (λ (y : Outcome). y .reply .which) e) ∙ w in let z : _≡_ {A = ℕ} 0 1 = cc in absurd (omega arith)
@@ -123,7 +123,7 @@ request-exactly-when : RequestExactlyWhen answerOf
 request-exactly-when =
     record {
       when = λ r l e h. row-answer r l e ∙ ap (λ (o : Outcome). o .reply) (row-above (r .limit .0) (r .next .0) (numberOf l) (countOf l) (kindOf l) h);
-      only-when = λ r l e w. asks-above _ _ _ _ _ _ (row-of r l e) (sym (ap (λ (x : Words Reply). x .which) (row-answer r l e)) ∙ w);
+      only-when = λ r l e w. asks-above _ _ _ _ _ _ (row-of r l e) (sym (ap (λ (x : Words AnswerKind). x .which) (row-answer r l e)) ∙ w);
     }
 
 -- an ask is from n, which good settings have at 1 or more, for 1 to the limit
@@ -152,7 +152,7 @@ keeps-settings r l =
 
 -- ---- the number
 
-row-rises : (limit n : ℕ) (k : Kind) (f c : ℕ) (o : Outcome) → Row limit n k f c o → n ≤ o .next
+row-rises : (limit n : ℕ) (k : DownstreamKind) (f c : ℕ) (o : Outcome) → Row limit n k f c o → n ≤ o .next
 row-rises limit n k f c o (data-reaches a b d e) = rw e (omega arith)
 row-rises limit n k f c o (data-below a b e) = rw e (omega arith)
 row-rises limit n k f c o (heartbeat-below a b e) = rw e (omega arith)
@@ -165,7 +165,7 @@ number-never-falls r l =
     zero-or-not _ (refusalFor r l) (λ e. rw (row-after r l e) (row-rises _ _ _ _ _ _ (row-of r l e))) (λ z. rw (← refused-stays r l (refusalFor r l) refl z) (omega arith))
 
 -- and where it moves it moves to f + c, which 14 holds below 2^64
-row-within : (limit n : ℕ) (k : Kind) (f c : ℕ) (o : Outcome) → Row limit n k f c o → n ≤ 18446744073709551615
+row-within : (limit n : ℕ) (k : DownstreamKind) (f c : ℕ) (o : Outcome) → Row limit n k f c o → n ≤ 18446744073709551615
     → (k ≡ data-packet → f + c ≤ 18446744073709551615) → o .next ≤ 18446744073709551615
 row-within limit n k f c o (data-reaches a b d e) h g = rw e (g a)
 row-within limit n k f c o (data-below a b e) h g = rw e h
@@ -180,17 +180,17 @@ data-within l e k = let n = sound l e .numbers-fit in let b = kind-blocks l data
 stays-good : StaysGood receiverAfter
 stays-good r l g = zero-or-not _ (refusalFor r l) good (λ z. rw (← refused-stays r l (refusalFor r l) refl z) g)
   where
-    good : refusalFor r l ≡ 0 → startRefusal (receiverAfter r l .next .0) (receiverAfter r l .limit .0) ≡ 0
+    good : refusalFor r l ≡ 0 → receiverStartRefusal (receiverAfter r l .next .0) (receiverAfter r l .limit .0) ≡ 0
     good e =
         let b = in-bounds (r .next .0) (r .limit .0) g in
         let up = row-rises _ _ _ _ _ _ (row-of r l e) in
         let most = row-within _ _ _ _ _ _ (row-of r l e) (b .number-most) (data-within l (well-read r l e)) in
-        let least : 1 ≤ rowOf r l .next = omega (arith, b .number-least) in
-        rw (row-after r l e) (sym (start-good (rowOf r l .next) (r .limit .0) least most (b .limit-least) (b .limit-most)))
+        let least : 1 ≤ tableRow r l .next = omega (arith, b .number-least) in
+        rw (row-after r l e) (sym (start-good (tableRow r l .next) (r .limit .0) least most (b .limit-least) (b .limit-most)))
 
 -- ---- the words tell all answers apart: they read back
 
-answered : Case Reply → ℕ → List ℕ → Answer
+answered : Case AnswerKind → ℕ → List ℕ → Answer
 answered (answer deliver) r vs = Deliver (record { 0 = getD vs 0 0 }) (record { 0 = getD vs 1 0 }) (record { 0 = getD vs 2 0 })
 answered (answer old) r vs = Old
 answered (answer quiet) r vs = Quiet

@@ -13,14 +13,14 @@ use Rattle.wire.specs.declared.kinds.MessageCount.{MessageCount}
 use Rattle.moldudp64.specs.declared.downstream.Downstream.{Downstream}
 use Rattle.moldudp64.specs.declared.downstream.Downstream.the-variants.{Data, Heartbeat, EndOfSession}
 use Rattle.moldudp64.specs.declared.downstream.Downstream.the-variants as found
-use Rattle.moldudp64.specs.Downstream.{Kind, data-packet, heartbeat, end-of-session, readOf, downstreamWords}
+use Rattle.moldudp64.specs.Downstream.{DownstreamKind, data-packet, heartbeat, end-of-session, downstreamOf, downstreamWords}
 use Rattle.moldudp64.proofs.DownstreamLaws.{sound, kind-read, number-read, refusal-read, refused-number, data-read}
 use Rattle.receiver.specs.declared.receiver.Receiver.{Receiver}
 use Rattle.receiver.specs.declared.receiver.Taken.{Taken}
 use Rattle.receiver.specs.declared.receiver.Answer.{Answer}
 use Rattle.receiver.specs.declared.receiver.Answer.the-variants.{Deliver, Old, Quiet, Ask, Ended, Refused}
-use Rattle.receiver.specs.Table.{answerWords, asks, table}
-use Rattle.receiver.specs.Receiver.{receiver, refusalFor, rowOf, moved, answerOf, receiverAfter, Takes}
+use Rattle.receiver.specs.Table.{answerWords, askOutcome, table}
+use Rattle.receiver.specs.Receiver.{receiver, refusalFor, tableRow, afterRow, answerOf, receiverAfter, TakesRow}
 use Rattle.receiver.proofs.LadderLaws.{for-refused}
 
 abbrev stays : Receiver → Answer → Taken
@@ -32,13 +32,13 @@ pub ask-fits : (r : Receiver) (a k : ℕ) → Fits w16 (r .limit .0) → k ≡ m
 ask-fits r a k f e = record { fits = omega arith }
 
 pub ask-for : (r : Receiver) (a k : ℕ) → k ≡ min (a - r .next .0) (r .limit .0)
-    → Takes (stays r (Ask (r .next) (record { 0 = k }))) r (asks (r .limit .0) (r .next .0) a)
+    → TakesRow (stays r (Ask (r .next) (record { 0 = k }))) r (askOutcome (r .limit .0) (r .next .0) a)
 unfolding answerWords
 ask-for r a k e = rw (← e) (record { answers = refl; leaves = refl })
 
 -- and it is the row of every kind
-pub above-ask : (r : Receiver) (k : Kind) (f c : ℕ) (x : Taken) → r .next .0 < f → Takes x r (asks (r .limit .0) (r .next .0) f)
-    → Takes x r (table (r .limit .0) (r .next .0) k f c)
+pub above-ask : (r : Receiver) (k : DownstreamKind) (f c : ℕ) (x : Taken) → r .next .0 < f → TakesRow x r (askOutcome (r .limit .0) (r .next .0) f)
+    → TakesRow x r (table (r .limit .0) (r .next .0) k f c)
 unfolding table
 above-ask r data-packet f c x h t = rw (lt-ltb _ _ h) t
 above-ask r heartbeat f c x h t = rw (lt-ltb _ _ h) t
@@ -47,29 +47,29 @@ above-ask r end-of-session f c x h t = rw (lt-ltb _ _ h) t
 -- ---- data
 
 pub data-deliver : (r m : Receiver) (f c : ℕ) → f ≤ r .next .0 → r .next .0 < f + c → m ≡ receiver (r .session) (f + c) (r .limit .0) (r .ended)
-    → Takes (record { answer = Deliver (record { 0 = r .next .0 }) (record { 0 = f + c - r .next .0 }) (record { 0 = r .next .0 - f }); receiver = m }) r
+    → TakesRow (record { answer = Deliver (record { 0 = r .next .0 }) (record { 0 = f + c - r .next .0 }) (record { 0 = r .next .0 - f }); receiver = m }) r
     (table (r .limit .0) (r .next .0) data-packet f c)
 unfolding table answerWords
 data-deliver r m f c h i e = rw (le-ltb _ _ h, lt-ltb _ _ i) (record { answers = refl; leaves = e })
 
-pub data-old : (r : Receiver) (f c : ℕ) → f ≤ r .next .0 → f + c ≤ r .next .0 → Takes (stays r Old) r (table (r .limit .0) (r .next .0) data-packet f c)
+pub data-old : (r : Receiver) (f c : ℕ) → f ≤ r .next .0 → f + c ≤ r .next .0 → TakesRow (stays r Old) r (table (r .limit .0) (r .next .0) data-packet f c)
 unfolding table answerWords
 data-old r f c h i = rw (le-ltb _ _ h, le-ltb _ _ i) (record { answers = refl; leaves = refl })
 
 -- ---- heartbeat
 
-pub beat-old : (r : Receiver) (f : ℕ) → f ≤ r .next .0 → f < r .next .0 → Takes (stays r Old) r (table (r .limit .0) (r .next .0) heartbeat f 0)
+pub beat-old : (r : Receiver) (f : ℕ) → f ≤ r .next .0 → f < r .next .0 → TakesRow (stays r Old) r (table (r .limit .0) (r .next .0) heartbeat f 0)
 unfolding table answerWords
 beat-old r f h i = rw (le-ltb _ _ h, lt-ltb _ _ i) (record { answers = refl; leaves = refl })
 
-pub beat-quiet : (r : Receiver) (f : ℕ) → f ≤ r .next .0 → r .next .0 ≤ f → Takes (stays r Quiet) r (table (r .limit .0) (r .next .0) heartbeat f 0)
+pub beat-quiet : (r : Receiver) (f : ℕ) → f ≤ r .next .0 → r .next .0 ≤ f → TakesRow (stays r Quiet) r (table (r .limit .0) (r .next .0) heartbeat f 0)
 unfolding table answerWords
 beat-quiet r f h i = rw (le-ltb _ _ h, le-ltb _ _ i) (record { answers = refl; leaves = refl })
 
 -- ---- end of session
 
 pub end-now : (r m : Receiver) (f : ℕ) → f ≤ r .next .0 → m ≡ receiver (r .session) (r .next .0) (r .limit .0) true
-    → Takes (record { answer = Ended; receiver = m }) r (table (r .limit .0) (r .next .0) end-of-session f 65535)
+    → TakesRow (record { answer = Ended; receiver = m }) r (table (r .limit .0) (r .next .0) end-of-session f 65535)
 unfolding table answerWords
 end-now r m f h e = rw (le-ltb _ _ h) (record { answers = refl; leaves = e })
 
@@ -83,11 +83,11 @@ pub refused-stays : (r : Receiver) (l : List ℕ) (k : ℕ) → k ≡ refusalFor
 unfolding receiverAfter
 refused-stays r l k e z = rw (← e, ne-eqb _ _ z)
 
-pub row-answer : (r : Receiver) (l : List ℕ) → refusalFor r l ≡ 0 → answerOf r l ≡ rowOf r l .reply
+pub row-answer : (r : Receiver) (l : List ℕ) → refusalFor r l ≡ 0 → answerOf r l ≡ tableRow r l .reply
 unfolding answerOf
 row-answer r l e = rw e
 
-pub row-after : (r : Receiver) (l : List ℕ) → refusalFor r l ≡ 0 → receiverAfter r l ≡ moved r (rowOf r l)
+pub row-after : (r : Receiver) (l : List ℕ) → refusalFor r l ≡ 0 → receiverAfter r l ≡ afterRow r (tableRow r l)
 unfolding receiverAfter
 row-after r l e = rw e
 
@@ -96,62 +96,62 @@ pub record Done (r : Receiver) (l : List ℕ) (x : Taken) : Type 0 where
   pub answered : answerWords (x .answer) ≡ answerOf r l
   pub after : x .receiver ≡ receiverAfter r l
 
-done : (r : Receiver) (l : List ℕ) (x : Taken) (k : ℕ) → k ≡ refusalFor r l → k ≡ 0 → Takes x r (rowOf r l) → Done r l x
+done : (r : Receiver) (l : List ℕ) (x : Taken) (k : ℕ) → k ≡ refusalFor r l → k ≡ 0 → TakesRow x r (tableRow r l) → Done r l x
 done r l x k e z t =
     let w = sym e ∙ z in
     record { answered = t .answers ∙ sym (row-answer r l w); after = t .leaves ∙ sym (row-after r l w) }
 
 done-data : (r : Receiver) (l : List ℕ) (p : Downstream) (n : SequenceNumber) (c : MessageCount) (x : Taken) (k : ℕ)
-    → downstreamWords p ≡ readOf l → p ≡ Data n c → k ≡ refusalFor r l → k ≡ 0
-    → Takes x r (table (r .limit .0) (r .next .0) data-packet (n .0) (c .0)) → Done r l x
+    → downstreamWords p ≡ downstreamOf l → p ≡ Data n c → k ≡ refusalFor r l → k ≡ 0
+    → TakesRow x r (table (r .limit .0) (r .next .0) data-packet (n .0) (c .0)) → Done r l x
 unfolding downstreamWords
 done-data r l p n c x k e f g z t =
     let d = data-read l (n .0) (c .0) (sym (rw f at e)) in
     done r l x k g z (rw (d .kind, ← d .first, ← d .count) t)
 
 done-heartbeat : (r : Receiver) (l : List ℕ) (p : Downstream) (n : SequenceNumber) (x : Taken) (k : ℕ)
-    → downstreamWords p ≡ readOf l → p ≡ Heartbeat n → k ≡ refusalFor r l → k ≡ 0
-    → Takes x r (table (r .limit .0) (r .next .0) heartbeat (n .0) 0) → Done r l x
+    → downstreamWords p ≡ downstreamOf l → p ≡ Heartbeat n → k ≡ refusalFor r l → k ≡ 0
+    → TakesRow x r (table (r .limit .0) (r .next .0) heartbeat (n .0) 0) → Done r l x
 unfolding downstreamWords table
 done-heartbeat r l p n x k e f g z t =
     let h = sym (rw f at e) in
     done r l x k g z (rw (kind-read l heartbeat (n .0 ∷ []) h .1, number-read l heartbeat (n .0) [] h) t)
 
 done-end : (r : Receiver) (l : List ℕ) (p : Downstream) (n : SequenceNumber) (x : Taken) (k : ℕ)
-    → downstreamWords p ≡ readOf l → p ≡ EndOfSession n → k ≡ refusalFor r l → k ≡ 0
-    → Takes x r (table (r .limit .0) (r .next .0) end-of-session (n .0) 65535) → Done r l x
+    → downstreamWords p ≡ downstreamOf l → p ≡ EndOfSession n → k ≡ refusalFor r l → k ≡ 0
+    → TakesRow x r (table (r .limit .0) (r .next .0) end-of-session (n .0) 65535) → Done r l x
 unfolding downstreamWords table
 done-end r l p n x k e f g z t =
     let h = sym (rw f at e) in
     done r l x k g z (rw (kind-read l end-of-session (n .0 ∷ []) h .1, number-read l end-of-session (n .0) [] h) t)
 
 module _ (r : Receiver) (l : List ℕ) (p : Downstream) (x : Taken) (k : ℕ) where
-  pub data-answer : (n : SequenceNumber) (c : MessageCount) → downstreamWords p ≡ readOf l → p ≡ Data n c → k ≡ refusalFor r l → k ≡ 0
-      → Takes x r (table (r .limit .0) (r .next .0) data-packet (n .0) (c .0)) → answerWords (x .answer) ≡ answerOf r l
+  pub data-answer : (n : SequenceNumber) (c : MessageCount) → downstreamWords p ≡ downstreamOf l → p ≡ Data n c → k ≡ refusalFor r l → k ≡ 0
+      → TakesRow x r (table (r .limit .0) (r .next .0) data-packet (n .0) (c .0)) → answerWords (x .answer) ≡ answerOf r l
   data-answer n c e f g z t = done-data r l p n c x k e f g z t .answered
 
-  pub data-after : (n : SequenceNumber) (c : MessageCount) → downstreamWords p ≡ readOf l → p ≡ Data n c → k ≡ refusalFor r l → k ≡ 0
-      → Takes x r (table (r .limit .0) (r .next .0) data-packet (n .0) (c .0)) → x .receiver ≡ receiverAfter r l
+  pub data-after : (n : SequenceNumber) (c : MessageCount) → downstreamWords p ≡ downstreamOf l → p ≡ Data n c → k ≡ refusalFor r l → k ≡ 0
+      → TakesRow x r (table (r .limit .0) (r .next .0) data-packet (n .0) (c .0)) → x .receiver ≡ receiverAfter r l
   data-after n c e f g z t = done-data r l p n c x k e f g z t .after
 
-  pub heartbeat-answer : (n : SequenceNumber) → downstreamWords p ≡ readOf l → p ≡ Heartbeat n → k ≡ refusalFor r l → k ≡ 0
-      → Takes x r (table (r .limit .0) (r .next .0) heartbeat (n .0) 0) → answerWords (x .answer) ≡ answerOf r l
+  pub heartbeat-answer : (n : SequenceNumber) → downstreamWords p ≡ downstreamOf l → p ≡ Heartbeat n → k ≡ refusalFor r l → k ≡ 0
+      → TakesRow x r (table (r .limit .0) (r .next .0) heartbeat (n .0) 0) → answerWords (x .answer) ≡ answerOf r l
   heartbeat-answer n e f g z t = done-heartbeat r l p n x k e f g z t .answered
 
-  pub heartbeat-after : (n : SequenceNumber) → downstreamWords p ≡ readOf l → p ≡ Heartbeat n → k ≡ refusalFor r l → k ≡ 0
-      → Takes x r (table (r .limit .0) (r .next .0) heartbeat (n .0) 0) → x .receiver ≡ receiverAfter r l
+  pub heartbeat-after : (n : SequenceNumber) → downstreamWords p ≡ downstreamOf l → p ≡ Heartbeat n → k ≡ refusalFor r l → k ≡ 0
+      → TakesRow x r (table (r .limit .0) (r .next .0) heartbeat (n .0) 0) → x .receiver ≡ receiverAfter r l
   heartbeat-after n e f g z t = done-heartbeat r l p n x k e f g z t .after
 
-  pub end-answer : (n : SequenceNumber) → downstreamWords p ≡ readOf l → p ≡ EndOfSession n → k ≡ refusalFor r l → k ≡ 0
-      → Takes x r (table (r .limit .0) (r .next .0) end-of-session (n .0) 65535) → answerWords (x .answer) ≡ answerOf r l
+  pub end-answer : (n : SequenceNumber) → downstreamWords p ≡ downstreamOf l → p ≡ EndOfSession n → k ≡ refusalFor r l → k ≡ 0
+      → TakesRow x r (table (r .limit .0) (r .next .0) end-of-session (n .0) 65535) → answerWords (x .answer) ≡ answerOf r l
   end-answer n e f g z t = done-end r l p n x k e f g z t .answered
 
-  pub end-after : (n : SequenceNumber) → downstreamWords p ≡ readOf l → p ≡ EndOfSession n → k ≡ refusalFor r l → k ≡ 0
-      → Takes x r (table (r .limit .0) (r .next .0) end-of-session (n .0) 65535) → x .receiver ≡ receiverAfter r l
+  pub end-after : (n : SequenceNumber) → downstreamWords p ≡ downstreamOf l → p ≡ EndOfSession n → k ≡ refusalFor r l → k ≡ 0
+      → TakesRow x r (table (r .limit .0) (r .next .0) end-of-session (n .0) 65535) → x .receiver ≡ receiverAfter r l
   end-after n e f g z t = done-end r l p n x k e f g z t .after
 
 -- what the reader refuses, the ladder does too
-pub never-refused : (r : Receiver) (l : List ℕ) (p : Downstream) (y : Refusal) (k : ℕ) → downstreamWords p ≡ readOf l → p ≡ found.Refused y
+pub never-refused : (r : Receiver) (l : List ℕ) (p : Downstream) (y : Refusal) (k : ℕ) → downstreamWords p ≡ downstreamOf l → p ≡ found.Refused y
     → k ≡ refusalFor r l → k ≡ 0 → ⊥
 unfolding downstreamWords
 never-refused r l p y k e f g z =
@@ -159,7 +159,7 @@ never-refused r l p y k e f g z =
     refusal-read l (y .number) h (refused-number l (y .number) h ∙ for-refused r l p y e f ∙ sym g ∙ z)
 
 -- data's numbers fit
-pub data-fits : (l : List ℕ) (p : Downstream) (n : SequenceNumber) (c : MessageCount) → downstreamWords p ≡ readOf l → p ≡ Data n c
+pub data-fits : (l : List ℕ) (p : Downstream) (n : SequenceNumber) (c : MessageCount) → downstreamWords p ≡ downstreamOf l → p ≡ Data n c
     → n .0 + c .0 ≤ 18446744073709551615
 unfolding downstreamWords
 data-fits l p n c e f =

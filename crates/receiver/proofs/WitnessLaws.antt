@@ -9,19 +9,19 @@ use lib.ListN.{length, getD, replicate}
 use Rattle.wire.specs.Bytes.{number, bytes, sameBytes}
 use Rattle.wire.proofs.Words.{which-of}
 use Rattle.moldudp64.specs.Header.{numberOf, countOf, header}
-use Rattle.moldudp64.specs.Blocks.{lengthOf, fits, allFit, afterBlocks, messages, blocksRefusal, blocksOf}
-use Rattle.moldudp64.specs.Downstream.{Kind, data-packet, kindOfCount, kindOf, blockCount, refusalOf, messagesOf}
-use Rattle.moldudp64.specs.Written.{packet, endPacket}
+use Rattle.moldudp64.specs.Blocks.{blockLength, fits, allFit, afterBlocks, messages, blocksRefusal, blocksOf}
+use Rattle.moldudp64.specs.Downstream.{DownstreamKind, data-packet, kindOfCount, kindOf, blockCount, refusalOf, messagesOf}
+use Rattle.moldudp64.specs.Written.{encoded, encodedEnd}
 use Rattle.receiver.specs.declared.receiver.Receiver.{Receiver}
-use Rattle.receiver.specs.Table.{Outcome, Row, data-reaches, data-below, heartbeat-below, heartbeat-at, any-above, end-at, delivers, table}
+use Rattle.receiver.specs.Table.{Outcome, Row, data-reaches, data-below, heartbeat-below, heartbeat-at, any-above, end-at, deliverOutcome, table}
 use Rattle.wire.specs.Bounds.{blank}
-use Rattle.receiver.specs.Receiver.{receiver, otherSession, endBelow, ownRefusal, refusalFor, moved, startRefusal, startReceiver, answerOf, receiverAfter}
+use Rattle.receiver.specs.Receiver.{receiver, otherSession, endBelow, ownRefusal, refusalFor, afterRow, receiverStartRefusal, startReceiver, answerOf, receiverAfter}
 use Rattle.receiver.proofs.StartLaws.{started}
-use Rattle.receiver.specs.Statements.{Answers, Steps}
-use Rattle.receiver.specs.Delivery.{deliveredIn, deliveredBy}
+use Rattle.receiver.specs.Statements.{AnswerRule, StepRule}
+use Rattle.receiver.specs.Delivery.{messagesDeliveredAt, messagesDelivered}
 use Rattle.receiver.specs.Feed.{Datagram, Message, Session, lastOf, IsMessage, messagesFrom, OfKind, not-well-formed, another-name, any-heartbeat, true-data, true-end, AllOfKind, after, delivered, Faithful}
 use Rattle.receiver.specs.Condition3.{machineOf, Condition3For}
-use Rattle.receiver.specs.Witnesses.{a, b, c, session, dataAt, heartbeatAt, endAt, fresh, feed, NotVacuous, stays, refusesAll, oldToAll, asksAlways, allAtOnce, movesPastAll, overlapOld, overlapStays, jumpDelivers, jumps, FollowsAtFirst, NotWeak}
+use Rattle.receiver.specs.Witnesses.{a, b, c, session, dataAt, heartbeatAt, endAt, fresh, feed, NotVacuous, staysPut, refusesAll, oldToAll, asksAlways, allAtOnce, movesPastAll, overlapOld, overlapStays, jumpDelivers, jumps, FollowsAtFirst, NotWeak}
 use Rattle.receiver.proofs.FeedLaws.{none-from, Keeps, faithful}
 
 -- ---- datagrams of the session
@@ -32,7 +32,7 @@ pub data-true : (f : ℕ) (ms : List Message) → kindOf (dataAt f ms) ≡ data-
 data-true f ms k m n t = true-data k (λ i h. rw (n, m) (t i (rw m at h)))
 
 two-true : OfKind session (dataAt 1 (a ∷ b ∷ []))
-unfolding number bytes header blocksOf packet numberOf countOf kindOfCount blockCount lengthOf fits allFit afterBlocks messages blocksRefusal refusalOf messagesOf
+unfolding number bytes header blocksOf encoded numberOf countOf kindOfCount blockCount blockLength fits allFit afterBlocks messages blocksRefusal refusalOf messagesOf
 two-true = data-true 1 (a ∷ b ∷ []) refl refl refl go
   where
     go : (i : ℕ) → i < 2 → IsMessage session (1 + i) (getD (a ∷ b ∷ []) i [])
@@ -41,7 +41,7 @@ two-true = data-true 1 (a ∷ b ∷ []) refl refl refl go
     go (suc (suc i)) h = absurd (omega arith)
 
 three-true : OfKind session (dataAt 1 (a ∷ b ∷ c ∷ []))
-unfolding number bytes header blocksOf packet numberOf countOf kindOfCount blockCount lengthOf fits allFit afterBlocks messages blocksRefusal refusalOf messagesOf
+unfolding number bytes header blocksOf encoded numberOf countOf kindOfCount blockCount blockLength fits allFit afterBlocks messages blocksRefusal refusalOf messagesOf
 three-true = data-true 1 (a ∷ b ∷ c ∷ []) refl refl refl go
   where
     go : (i : ℕ) → i < 3 → IsMessage session (1 + i) (getD (a ∷ b ∷ c ∷ []) i [])
@@ -51,7 +51,7 @@ three-true = data-true 1 (a ∷ b ∷ c ∷ []) refl refl refl go
     go (suc (suc (suc i))) h = absurd (omega arith)
 
 overlap-true : OfKind session (dataAt 2 (b ∷ c ∷ []))
-unfolding number bytes header blocksOf packet numberOf countOf kindOfCount blockCount lengthOf fits allFit afterBlocks messages blocksRefusal refusalOf messagesOf
+unfolding number bytes header blocksOf encoded numberOf countOf kindOfCount blockCount blockLength fits allFit afterBlocks messages blocksRefusal refusalOf messagesOf
 overlap-true = data-true 2 (b ∷ c ∷ []) refl refl refl go
   where
     go : (i : ℕ) → i < 2 → IsMessage session (2 + i) (getD (b ∷ c ∷ []) i [])
@@ -60,7 +60,7 @@ overlap-true = data-true 2 (b ∷ c ∷ []) refl refl refl go
     go (suc (suc i)) h = absurd (omega arith)
 
 last-true : OfKind session (dataAt 3 (c ∷ []))
-unfolding number bytes header blocksOf packet numberOf countOf kindOfCount blockCount lengthOf fits allFit afterBlocks messages blocksRefusal refusalOf messagesOf
+unfolding number bytes header blocksOf encoded numberOf countOf kindOfCount blockCount blockLength fits allFit afterBlocks messages blocksRefusal refusalOf messagesOf
 last-true = data-true 3 (c ∷ []) refl refl refl go
   where
     go : (i : ℕ) → i < 1 → IsMessage session (3 + i) (getD (c ∷ []) i [])
@@ -68,19 +68,19 @@ last-true = data-true 3 (c ∷ []) refl refl refl go
     go (suc i) h = absurd (omega arith)
 
 end-true : OfKind session (endAt 4)
-unfolding number bytes header endPacket numberOf countOf kindOfCount
+unfolding number bytes header encodedEnd numberOf countOf kindOfCount
 end-true = true-end refl refl
 
 heartbeat-true : OfKind session (heartbeatAt 9)
-unfolding number bytes header blocksOf packet countOf kindOfCount
+unfolding number bytes header blocksOf encoded countOf kindOfCount
 heartbeat-true = any-heartbeat refl
 
 broken-true : OfKind session (replicate 19 0)
 unfolding refusalOf
 broken-true = not-well-formed (λ e. let z : _≡_ {A = ℕ} 11 0 = e in omega arith)
 
-other-true : OfKind session (packet blank 1 (c ∷ []))
-unfolding header bytes blocksOf packet
+other-true : OfKind session (encoded blank 1 (c ∷ []))
+unfolding header bytes blocksOf encoded
 other-true = another-name (λ e. let z : _≡_ {A = ℕ} 32 82 = ap (λ (l : List ℕ). getD l 0 0) e in omega arith)
 
 -- ---- the feed
@@ -96,12 +96,12 @@ feed-true d m =
     in-front last-true (in-front two-true (in-front other-true (in-front heartbeat-true (in-front broken-true (in-front two-true (in-front end-true (in-front overlap-true (in-front end-true none)))))))) m
 
 pub not-vacuous : NotVacuous
-unfolding number bytes header blocksOf packet endPacket numberOf countOf kindOfCount blockCount lengthOf fits allFit afterBlocks messages blocksRefusal refusalOf messagesOf sameBytes otherSession endBelow ownRefusal refusalFor table answerOf receiverAfter deliveredIn after delivered startRefusal startReceiver
-not-vacuous = record { not-refused = refl; starts = refl; of-kind = feed-true; delivers = refl; ends = refl }
+unfolding number bytes header blocksOf encoded encodedEnd numberOf countOf kindOfCount blockCount blockLength fits allFit afterBlocks messages blocksRefusal refusalOf messagesOf sameBytes otherSession endBelow ownRefusal refusalFor table answerOf receiverAfter messagesDeliveredAt after delivered receiverStartRefusal startReceiver
+not-vacuous = record { not-refused = refl; starts = refl; of-kind = feed-true; deliverOutcome = refl; ends = refl }
 
 -- ---- idle receivers: the receiver stays, and nothing is delivered
 
-module _ (answers : Answers) (nothing : (r : Receiver) (d : Datagram) → deliveredBy (answers r d) d ≡ []) (s : Session) where
+module _ (answers : AnswerRule) (nothing : (r : Receiver) (d : Datagram) → messagesDelivered (answers r d) d ≡ []) (s : Session) where
   record InRange (r : Receiver) : Type 0 where
     from-one : 1 ≤ r .next .0
     to-last : r .next .0 ≤ lastOf s + 1
@@ -110,7 +110,7 @@ module _ (answers : Answers) (nothing : (r : Receiver) (d : Datagram) → delive
     number-too : r .next .0 ≤ q .next .0
     ended-too : r .ended ≡ true → q .ended ≡ true
 
-  keeps : Keeps (machineOf answers stays) s (OfKind s) InRange NotAhead
+  keeps : Keeps (machineOf answers staysPut) s (OfKind s) InRange NotAhead
   keeps =
       record {
         in-range = λ r i. (i .from-one, i .to-last);
@@ -123,16 +123,16 @@ module _ (answers : Answers) (nothing : (r : Receiver) (d : Datagram) → delive
         behind-ended = λ r q x. x .ended-too;
       }
 
-idle : (answers : Answers) → ((r : Receiver) (d : Datagram) → deliveredBy (answers r d) d ≡ []) → Condition3For answers stays
+idle : (answers : AnswerRule) → ((r : Receiver) (d : Datagram) → messagesDelivered (answers r d) d ≡ []) → Condition3For answers staysPut
 unfolding Condition3For
 idle answers nothing s start limit e h l =
     rw (started (s .name) start limit e)
-    (faithful (machineOf answers stays) s (InRange answers nothing s) (NotAhead answers nothing s) (keeps answers nothing s) (receiver (s .name) start limit false)
+    (faithful (machineOf answers staysPut) s (InRange answers nothing s) (NotAhead answers nothing s) (keeps answers nothing s) (receiver (s .name) start limit false)
     (record { from-one = h; to-last = l }))
 
 -- ---- the table at a fresh receiver and the first message
 
-one-delivered : (limit n : ℕ) (k : Kind) (f x : ℕ) (o : Outcome) → Row limit n k f x o → k ≡ data-packet → f ≤ n → n < f + x → o ≡ delivers n f x
+one-delivered : (limit n : ℕ) (k : DownstreamKind) (f x : ℕ) (o : Outcome) → Row limit n k f x o → k ≡ data-packet → f ≤ n → n < f + x → o ≡ deliverOutcome n f x
 one-delivered limit n k f x o (data-reaches p q r e) g h i = e
 one-delivered limit n k f x o (data-below p q e) g h i = absurd (omega arith)
 one-delivered limit n k f x o (heartbeat-below p q e) g h i = let z : _≡_ {A = ℕ} 0 1 = cc in absurd (omega arith)
@@ -140,52 +140,52 @@ one-delivered limit n k f x o (heartbeat-at p q e) g h i = let z : _≡_ {A = �
 one-delivered limit n k f x o (any-above q e) g h i = absurd (omega arith)
 one-delivered limit n k f x o (end-at p q e) g h i = let z : _≡_ {A = ℕ} 0 1 = cc in absurd (omega arith)
 
-first-row : (answers : Answers) (step : Steps) → FollowsAtFirst answers step
-    → (answers fresh (dataAt 1 (a ∷ [])) ≡ delivers 1 1 1 .reply) × (step fresh (dataAt 1 (a ∷ [])) ≡ moved fresh (delivers 1 1 1))
-unfolding number bytes header blocksOf packet numberOf countOf kindOfCount
+first-row : (answers : AnswerRule) (step : StepRule) → FollowsAtFirst answers step
+    → (answers fresh (dataAt 1 (a ∷ [])) ≡ deliverOutcome 1 1 1 .reply) × (step fresh (dataAt 1 (a ∷ [])) ≡ afterRow fresh (deliverOutcome 1 1 1))
+unfolding number bytes header blocksOf encoded numberOf countOf kindOfCount
 first-row answers step f =
     let e = one-delivered 100 1 data-packet 1 1 (f .outcome) (f .its-row) refl (omega arith) (omega arith) in
-    (f .its-answer ∙ ap (λ (o : Outcome). o .reply) e, f .its-receiver ∙ ap (moved fresh) e)
+    (f .its-answer ∙ ap (λ (o : Outcome). o .reply) e, f .its-receiver ∙ ap (afterRow fresh) e)
 
 -- ---- receivers that double or lose messages: what condition 3 says of them at the session
 
 one-of : (x : Datagram) → OfKind session x → AllOfKind session (x ∷ [])
 one-of x o d m = in-front o none m
 
-at-session : (answers : Answers) (step : Steps) → Condition3For answers step → Faithful (machineOf answers step) session 1 fresh
-unfolding Condition3For startRefusal startReceiver
+at-session : (answers : AnswerRule) (step : StepRule) → Condition3For answers step → Faithful (machineOf answers step) session 1 fresh
+unfolding Condition3For receiverStartRefusal startReceiver
 at-session answers step f = f session 1 100 refl (omega arith) (omega arith)
 
-never-moves-breaks : Condition3For answerOf stays → ⊥
-unfolding number bytes header blocksOf packet numberOf countOf kindOfCount blockCount lengthOf fits allFit afterBlocks messages blocksRefusal refusalOf messagesOf sameBytes otherSession endBelow ownRefusal refusalFor table answerOf deliveredIn after delivered messagesFrom
+never-moves-breaks : Condition3For answerOf staysPut → ⊥
+unfolding number bytes header blocksOf encoded numberOf countOf kindOfCount blockCount blockLength fits allFit afterBlocks messages blocksRefusal refusalOf messagesOf sameBytes otherSession endBelow ownRefusal refusalFor table answerOf messagesDeliveredAt after delivered messagesFrom
 never-moves-breaks f =
-    let e : a ∷ b ∷ [] ≡ [] = at-session answerOf stays f .delivers-true (dataAt 1 (a ∷ b ∷ []) ∷ []) (one-of _ two-true) .exactly in
+    let e : a ∷ b ∷ [] ≡ [] = at-session answerOf staysPut f .delivers-true (dataAt 1 (a ∷ b ∷ []) ∷ []) (one-of _ two-true) .exactly in
     let w : _≡_ {A = ℕ} 2 0 = ap length e in
     omega arith
 
 overlap-breaks : Condition3For overlapOld overlapStays → ⊥
-unfolding number bytes header blocksOf packet numberOf countOf kindOfCount blockCount lengthOf fits allFit afterBlocks messages blocksRefusal refusalOf messagesOf sameBytes otherSession endBelow ownRefusal refusalFor table answerOf receiverAfter deliveredIn after delivered
+unfolding number bytes header blocksOf encoded numberOf countOf kindOfCount blockCount blockLength fits allFit afterBlocks messages blocksRefusal refusalOf messagesOf sameBytes otherSession endBelow ownRefusal refusalFor table answerOf receiverAfter messagesDeliveredAt after delivered
 overlap-breaks f =
     let w : 3 ≤ 2 = at-session overlapOld overlapStays f .one-more [] (dataAt 1 (a ∷ b ∷ c ∷ []) ∷ []) (dataAt 1 (a ∷ b ∷ [])) (one-of _ three-true) two-true .as-many in
     omega arith
 
 jump-breaks : Condition3For jumpDelivers jumps → ⊥
-unfolding number bytes header blocksOf packet numberOf countOf kindOfCount blockCount lengthOf fits allFit afterBlocks messages blocksRefusal refusalOf messagesOf sameBytes otherSession endBelow ownRefusal refusalFor table answerOf receiverAfter deliveredIn after delivered messagesFrom
+unfolding number bytes header blocksOf encoded numberOf countOf kindOfCount blockCount blockLength fits allFit afterBlocks messages blocksRefusal refusalOf messagesOf sameBytes otherSession endBelow ownRefusal refusalFor table answerOf receiverAfter messagesDeliveredAt after delivered messagesFrom
 jump-breaks f =
     let e : c ∷ [] ≡ a ∷ b ∷ c ∷ [] = at-session jumpDelivers jumps f .delivers-true (dataAt 3 (c ∷ []) ∷ []) (one-of _ last-true) .exactly in
     let w : _≡_ {A = ℕ} 1 3 = ap length e in
     omega arith
 
 pub not-weak : NotWeak
-unfolding deliveredIn
+unfolding messagesDeliveredAt
 not-weak =
     record {
       refuses-all = idle refusesAll (λ r d. refl);
-      refuses-all-breaks = λ t. let w = which-of (first-row refusesAll stays t .0) in let z : _≡_ {A = ℕ} 0 1 = cc in omega arith;
+      refuses-all-breaks = λ t. let w = which-of (first-row refusesAll staysPut t .0) in let z : _≡_ {A = ℕ} 0 1 = cc in omega arith;
       old-to-all = idle oldToAll (λ r d. refl);
-      old-to-all-breaks = λ t. let w = which-of (first-row oldToAll stays t .0) in let z : _≡_ {A = ℕ} 0 1 = cc in omega arith;
+      old-to-all-breaks = λ t. let w = which-of (first-row oldToAll staysPut t .0) in let z : _≡_ {A = ℕ} 0 1 = cc in omega arith;
       asks-always = idle asksAlways (λ r d. refl);
-      asks-always-breaks = λ t. let w = which-of (first-row asksAlways stays t .0) in let z : _≡_ {A = ℕ} 0 1 = cc in omega arith;
+      asks-always-breaks = λ t. let w = which-of (first-row asksAlways staysPut t .0) in let z : _≡_ {A = ℕ} 0 1 = cc in omega arith;
       all-at-once-breaks = λ t. let n : _≡_ {A = ℕ} 4 2 = ap (λ (r : Receiver). r .next .0) (first-row allAtOnce movesPastAll t .1) in omega arith;
       never-moves-breaks = never-moves-breaks;
       overlap-old-breaks = overlap-breaks;

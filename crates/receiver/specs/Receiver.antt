@@ -11,10 +11,10 @@ use Rattle.wire.specs.Bounds.{leastNumber, largestNumber, leastLimit, largestLi
 use Rattle.wire.specs.Words.{Words, refuses}
 use Rattle.wire.specs.Bytes.{sameBytes}
 use Rattle.moldudp64.specs.Header.{numberOf, countOf}
-use Rattle.moldudp64.specs.Downstream.{Kind, data-packet, heartbeat, end-of-session, kindOf, wellFormed, refusalOf}
+use Rattle.moldudp64.specs.Downstream.{DownstreamKind, data-packet, heartbeat, end-of-session, kindOf, wellFormed, refusalOf}
 use Rattle.receiver.specs.declared.receiver.Receiver.{Receiver}
 use Rattle.receiver.specs.declared.receiver.Taken.{Taken}
-use Rattle.receiver.specs.Table.{Reply, Outcome, table, answerWords}
+use Rattle.receiver.specs.Table.{AnswerKind, Outcome, table, answerWords}
 
 -- a receiver of this name, number, limit, ended or not
 abbrev pub receiver : List ℕ → ℕ → ℕ → Bool → Receiver
@@ -23,8 +23,8 @@ receiver name n limit over = record { session = name; next = record { 0 = n }; l
 -- ---- the start
 
 -- 19 where the number or the limit is out of its bounds
-unfoldable pub startRefusal : ℕ → ℕ → ℕ
-startRefusal n limit =
+unfoldable pub receiverStartRefusal : ℕ → ℕ → ℕ
+receiverStartRefusal n limit =
     if ltb n leastNumber then badSetting
     else if ltb largestNumber n then badSetting
     else if ltb limit leastLimit then badSetting
@@ -37,7 +37,7 @@ refusedReceiver = receiver blank 1 1 true
 
 -- a fresh receiver, or the refused one
 unfoldable pub startReceiver : List ℕ → ℕ → ℕ → Receiver
-startReceiver name n limit = if eqb (startRefusal n limit) 0 then receiver name n limit false else refusedReceiver
+startReceiver name n limit = if eqb (receiverStartRefusal n limit) 0 then receiver name n limit false else refusedReceiver
 
 -- ---- a datagram l
 
@@ -46,7 +46,7 @@ unfoldable pub otherSession : Receiver → List ℕ → Bool
 otherSession r l = not (sameBytes (take sessionSize l) (r .session))
 
 -- the ground of 20: an end of session below the expected number
-unfoldable pub endBelow : Kind → ℕ → ℕ → Bool
+unfoldable pub endBelow : DownstreamKind → ℕ → ℕ → Bool
 endBelow end-of-session f n = ltb f n
 endBelow data-packet f n = false
 endBelow heartbeat f n = false
@@ -70,24 +70,24 @@ abbrev pub accepted : Receiver → List ℕ → Bool
 accepted r l = eqb (refusalFor r l) 0
 
 -- the row of the table
-abbrev pub rowOf : Receiver → List ℕ → Outcome
-rowOf r l = table (r .limit .0) (r .next .0) (kindOf l) (numberOf l) (countOf l)
+abbrev pub tableRow : Receiver → List ℕ → Outcome
+tableRow r l = table (r .limit .0) (r .next .0) (kindOf l) (numberOf l) (countOf l)
 
 -- the receiver after a row: its number moved, and ended where the row ends it
-abbrev pub moved : Receiver → Outcome → Receiver
-moved r o = receiver (r .session) (o .next) (r .limit .0) (if o .ends then true else r .ended)
+abbrev pub afterRow : Receiver → Outcome → Receiver
+afterRow r o = receiver (r .session) (o .next) (r .limit .0) (if o .ends then true else r .ended)
 
 -- what it answers
-unfoldable pub answerOf : Receiver → List ℕ → Words Reply
-answerOf r l = if accepted r l then rowOf r l .reply else refuses (refusalFor r l)
+unfoldable pub answerOf : Receiver → List ℕ → Words AnswerKind
+answerOf r l = if accepted r l then tableRow r l .reply else refuses (refusalFor r l)
 
 -- what it is then: a refusal leaves it as it was
 unfoldable pub receiverAfter : Receiver → List ℕ → Receiver
-receiverAfter r l = if accepted r l then moved r (rowOf r l) else r
+receiverAfter r l = if accepted r l then afterRow r (tableRow r l) else r
 
 -- ---- for private helpers alone; no public promise uses it
 
 -- a row taken: x is the answer with the next receiver
-pub record Takes (x : Taken) (r : Receiver) (o : Outcome) : Type 0 where
+pub record TakesRow (x : Taken) (r : Receiver) (o : Outcome) : Type 0 where
   pub answers : answerWords (x .answer) ≡ o .reply
-  pub leaves : x .receiver ≡ moved r o
+  pub leaves : x .receiver ≡ afterRow r o

@@ -7,57 +7,57 @@ use Rattle.moldudp64.specs.Header.{numberOf, countOf}
 use Rattle.moldudp64.specs.Downstream.{kindOf}
 use Rattle.moldudp64.specs.Request.{requestGround}
 use Rattle.receiver.specs.declared.receiver.Receiver.{Receiver}
-use Rattle.receiver.specs.Table.{Reply, ask, askFor, Outcome, Row, answerWords}
-use Rattle.receiver.specs.Receiver.{startRefusal, refusalFor, moved, answerOf, receiverAfter}
+use Rattle.receiver.specs.Table.{AnswerKind, ask, askFor, Outcome, Row, answerWords}
+use Rattle.receiver.specs.Receiver.{receiverStartRefusal, refusalFor, afterRow, answerOf, receiverAfter}
 
 -- how a receiver answers
-abbrev pub Answers : Type 0
-Answers = Receiver → List ℕ → Words Reply
+abbrev pub AnswerRule : Type 0
+AnswerRule = Receiver → List ℕ → Words AnswerKind
 
 -- what a receiver is then
-abbrev pub Steps : Type 0
-Steps = Receiver → List ℕ → Receiver
+abbrev pub StepRule : Type 0
+StepRule = Receiver → List ℕ → Receiver
 
 -- a refusal: its number, and nothing changed
-pub record Refuses (answers : Answers) (step : Steps) (r : Receiver) (l : List ℕ) : Type 0 where
+pub record Refuses (answers : AnswerRule) (step : StepRule) (r : Receiver) (l : List ℕ) : Type 0 where
   pub its-number : answers r l ≡ refuses (refusalFor r l)
   pub unchanged : step r l ≡ r
 
 -- a row of the table
-pub record Follows (answers : Answers) (step : Steps) (r : Receiver) (l : List ℕ) : Type 0 where
+pub record Follows (answers : AnswerRule) (step : StepRule) (r : Receiver) (l : List ℕ) : Type 0 where
   pub outcome : Outcome
   pub its-row : Row (r .limit .0) (r .next .0) (kindOf l) (numberOf l) (countOf l) outcome
   pub its-answer : answers r l ≡ outcome .reply
-  pub its-receiver : step r l ≡ moved r outcome
+  pub its-receiver : step r l ≡ afterRow r outcome
 
 -- at every receiver and datagram: the ladder's refusal with nothing changed, or the table's row
-pub record FollowsTheTable (answers : Answers) (step : Steps) : Type 0 where
+pub record FollowsTheTable (answers : AnswerRule) (step : StepRule) : Type 0 where
   pub refused : (r : Receiver) (l : List ℕ) → (refusalFor r l ≡ 0 → ⊥) → Refuses answers step r l
   pub accepts : (r : Receiver) (l : List ℕ) → refusalFor r l ≡ 0 → Follows answers step r l
 
 -- an accepted datagram draws a request exactly when its number lies above the expected one: then from that one, for the smaller
 -- of the distance and the limit
-pub record RequestExactlyWhen (answers : Answers) : Type 0 where
+pub record RequestExactlyWhen (answers : AnswerRule) : Type 0 where
   pub when : (r : Receiver) (l : List ℕ) → refusalFor r l ≡ 0 → r .next .0 < numberOf l
       → answers r l ≡ says ask (r .next .0 ∷ askFor (r .limit .0) (r .next .0) (numberOf l) ∷ [])
   pub only-when : (r : Receiver) (l : List ℕ) → refusalFor r l ≡ 0 → answers r l .which ≡ answer ask → r .next .0 < numberOf l
 
 -- the number never falls
-abbrev pub NumberNeverFalls : Steps → Type 0
+abbrev pub NumberNeverFalls : StepRule → Type 0
 NumberNeverFalls step = (r : Receiver) (l : List ℕ) → r .next .0 ≤ step r l .next .0
 
 -- the request for an ask of a receiver whose settings are good is never refused
-abbrev pub AskIsARequest : Answers → Type 0
-AskIsARequest answers = (r : Receiver) (l : List ℕ) (from count : ℕ) → startRefusal (r .next .0) (r .limit .0) ≡ 0
+abbrev pub AskIsARequest : AnswerRule → Type 0
+AskIsARequest answers = (r : Receiver) (l : List ℕ) (from count : ℕ) → receiverStartRefusal (r .next .0) (r .limit .0) ≡ 0
     → answers r l ≡ says ask (from ∷ count ∷ []) → requestGround from count ≡ 0
 
 -- settings that are good stay good, so that this holds after any list
-abbrev pub StaysGood : Steps → Type 0
-StaysGood step = (r : Receiver) (l : List ℕ) → startRefusal (r .next .0) (r .limit .0) ≡ 0
-    → startRefusal (step r l .next .0) (step r l .limit .0) ≡ 0
+abbrev pub StaysGood : StepRule → Type 0
+StaysGood step = (r : Receiver) (l : List ℕ) → receiverStartRefusal (r .next .0) (r .limit .0) ≡ 0
+    → receiverStartRefusal (step r l .next .0) (step r l .limit .0) ≡ 0
 
 -- no step changes the name or the limit
-abbrev pub KeepsSettings : Steps → Type 0
+abbrev pub KeepsSettings : StepRule → Type 0
 KeepsSettings step = (r : Receiver) (l : List ℕ) → (step r l .session ≡ r .session) × (step r l .limit ≡ r .limit)
 
 -- what taking a datagram promises beside its answer

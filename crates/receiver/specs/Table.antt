@@ -6,16 +6,16 @@ use mathlib.Core.Path.{_≡_}
 use lib.Dec.{ltb}
 use Rattle.wire.specs.Choice.{if_then_else_}
 use Rattle.wire.specs.Words.{Words, says, refusedWords}
-use Rattle.moldudp64.specs.Downstream.{Kind, data-packet, heartbeat, end-of-session}
+use Rattle.moldudp64.specs.Downstream.{DownstreamKind, data-packet, heartbeat, end-of-session}
 use Rattle.receiver.specs.declared.receiver.Answer.{Answer}
 use Rattle.receiver.specs.declared.receiver.Answer.the-variants.{Deliver, Old, Quiet, Ask, Ended, Refused}
 
 -- the answers of the table
-pub data Reply : Type 0 where
-  deliver old quiet ask ended : Reply
+pub data AnswerKind : Type 0 where
+  deliver old quiet ask ended : AnswerKind
 
 -- the receiver's answer in document 01's words
-unfoldable pub answerWords : Answer → Words Reply
+unfoldable pub answerWords : Answer → Words AnswerKind
 answerWords (Deliver first count skipped) = says deliver (first .0 ∷ count .0 ∷ skipped .0 ∷ [])
 answerWords Old = says old []
 answerWords Quiet = says quiet []
@@ -29,42 +29,42 @@ askFor limit n f = min (f - n) limit
 
 -- what a row gives: the answer, n after it, and whether the session ends
 pub record Outcome : Type 0 where
-  pub reply : Words Reply
+  pub reply : Words AnswerKind
   pub next : ℕ
   pub ends : Bool
 
 -- deliver messages n to f + c - 1, skipping the first n - f
-abbrev pub delivers : ℕ → ℕ → ℕ → Outcome
-delivers n f c = record { reply = says deliver (n ∷ (f + c - n) ∷ (n - f) ∷ []); next = f + c; ends = false }
+abbrev pub deliverOutcome : ℕ → ℕ → ℕ → Outcome
+deliverOutcome n f c = record { reply = says deliver (n ∷ (f + c - n) ∷ (n - f) ∷ []); next = f + c; ends = false }
 
 -- document 01's "old"
-abbrev pub olds : ℕ → Outcome
-olds n = record { reply = says old []; next = n; ends = false }
+abbrev pub oldOutcome : ℕ → Outcome
+oldOutcome n = record { reply = says old []; next = n; ends = false }
 
 -- document 01's "quiet"
-abbrev pub quiets : ℕ → Outcome
-quiets n = record { reply = says quiet []; next = n; ends = false }
+abbrev pub quietOutcome : ℕ → Outcome
+quietOutcome n = record { reply = says quiet []; next = n; ends = false }
 
 -- ask from n
-abbrev pub asks : ℕ → ℕ → ℕ → Outcome
-asks limit n f = record { reply = says ask (n ∷ askFor limit n f ∷ []); next = n; ends = false }
+abbrev pub askOutcome : ℕ → ℕ → ℕ → Outcome
+askOutcome limit n f = record { reply = says ask (n ∷ askFor limit n f ∷ []); next = n; ends = false }
 
 -- the session ends
-abbrev pub endsNow : ℕ → Outcome
-endsNow n = record { reply = says ended []; next = n; ends = true }
+abbrev pub endedOutcome : ℕ → Outcome
+endedOutcome n = record { reply = says ended []; next = n; ends = true }
 
 -- the table; an end of session below n is refused and does not reach it
-unfoldable pub table : ℕ → ℕ → Kind → ℕ → ℕ → Outcome
-table limit n data-packet f c = if ltb n f then asks limit n f else if ltb n (f + c) then delivers n f c else olds n
-table limit n heartbeat f c = if ltb n f then asks limit n f else if ltb f n then olds n else quiets n
-table limit n end-of-session f c = if ltb n f then asks limit n f else endsNow n
+unfoldable pub table : ℕ → ℕ → DownstreamKind → ℕ → ℕ → Outcome
+table limit n data-packet f c = if ltb n f then askOutcome limit n f else if ltb n (f + c) then deliverOutcome n f c else oldOutcome n
+table limit n heartbeat f c = if ltb n f then askOutcome limit n f else if ltb f n then oldOutcome n else quietOutcome n
+table limit n end-of-session f c = if ltb n f then askOutcome limit n f else endedOutcome n
 
 -- ---- the same, a row each, as document 01 prints it
 
-pub data Row (limit n : ℕ) (kind : Kind) (f c : ℕ) (o : Outcome) : Type 0 where
-  data-reaches : kind ≡ data-packet → f ≤ n → n < f + c → o ≡ delivers n f c → Row limit n kind f c o
-  data-below : kind ≡ data-packet → f + c ≤ n → o ≡ olds n → Row limit n kind f c o
-  heartbeat-below : kind ≡ heartbeat → f < n → o ≡ olds n → Row limit n kind f c o
-  heartbeat-at : kind ≡ heartbeat → f ≡ n → o ≡ quiets n → Row limit n kind f c o
-  any-above : n < f → o ≡ asks limit n f → Row limit n kind f c o
-  end-at : kind ≡ end-of-session → f ≡ n → o ≡ endsNow n → Row limit n kind f c o
+pub data Row (limit n : ℕ) (kind : DownstreamKind) (f c : ℕ) (o : Outcome) : Type 0 where
+  data-reaches : kind ≡ data-packet → f ≤ n → n < f + c → o ≡ deliverOutcome n f c → Row limit n kind f c o
+  data-below : kind ≡ data-packet → f + c ≤ n → o ≡ oldOutcome n → Row limit n kind f c o
+  heartbeat-below : kind ≡ heartbeat → f < n → o ≡ oldOutcome n → Row limit n kind f c o
+  heartbeat-at : kind ≡ heartbeat → f ≡ n → o ≡ quietOutcome n → Row limit n kind f c o
+  any-above : n < f → o ≡ askOutcome limit n f → Row limit n kind f c o
+  end-at : kind ≡ end-of-session → f ≡ n → o ≡ endedOutcome n → Row limit n kind f c o

@@ -9,13 +9,14 @@ use Rattle.wire.specs.Choice.{if_then_else_}
 use Rattle.wire.specs.Refusals.{datagramShort}
 use Rattle.wire.specs.Words.{says, refuses}
 use Rattle.moldudp64.specs.Header.{numberOf, countOf}
-use Rattle.moldudp64.specs.Downstream.{Kind, data-packet, heartbeat, end-of-session, kindOf}
-use Rattle.moldudp64.specs.Written.{packet, endPacket}
+use Rattle.moldudp64.specs.Downstream.{DownstreamKind, data-packet, heartbeat, end-of-session, kindOf}
+use Rattle.moldudp64.specs.Written.{encoded, encodedEnd}
 use Rattle.receiver.specs.declared.receiver.Receiver.{Receiver}
-use Rattle.receiver.specs.Table.{deliver, old, ask, delivers}
+use Rattle.receiver.specs.Table.{deliver, old, ask, deliverOutcome}
+use Rattle.wire.specs.Text.{ascii}
 use Rattle.wire.specs.Bounds.{blank}
-use Rattle.receiver.specs.Receiver.{receiver, accepted, moved, startRefusal, startReceiver, answerOf, receiverAfter}
-use Rattle.receiver.specs.Statements.{Answers, Steps, Follows}
+use Rattle.receiver.specs.Receiver.{receiver, accepted, afterRow, receiverStartRefusal, startReceiver, answerOf, receiverAfter}
+use Rattle.receiver.specs.Statements.{AnswerRule, StepRule, Follows}
 use Rattle.receiver.specs.Feed.{Datagram, Message, Session, AllOfKind, after, delivered}
 use Rattle.receiver.specs.Condition3.{plain, Condition3For}
 
@@ -23,28 +24,28 @@ use Rattle.receiver.specs.Condition3.{plain, Condition3For}
 
 -- READROOM01
 abbrev pub name : List ℕ
-name = 82 ∷ 69 ∷ 65 ∷ 68 ∷ 82 ∷ 79 ∷ 79 ∷ 77 ∷ 48 ∷ 49 ∷ []
+name = ascii "READROOM01"
 
 abbrev pub a : Message
-a = 97 ∷ []
+a = ascii "a"
 
 abbrev pub b : Message
 b = []
 
 abbrev pub c : Message
-c = 99 ∷ 100 ∷ []
+c = ascii "cd"
 
 abbrev pub session : Session
 session = record { name = name; messages = a ∷ b ∷ c ∷ [] }
 
 abbrev pub dataAt : ℕ → List Message → Datagram
-dataAt f ms = packet name f ms
+dataAt f ms = encoded name f ms
 
 abbrev pub heartbeatAt : ℕ → Datagram
-heartbeatAt f = packet name f []
+heartbeatAt f = encoded name f []
 
 abbrev pub endAt : ℕ → Datagram
-endAt f = endPacket name f
+endAt f = encodedEnd name f
 
 abbrev pub fresh : Receiver
 fresh = receiver name 1 100 false
@@ -56,7 +57,7 @@ abbrev pub feed : List Datagram
 feed =
     dataAt 3 (c ∷ [])
     ∷ dataAt 1 (a ∷ b ∷ [])
-    ∷ packet blank 1 (c ∷ [])
+    ∷ encoded blank 1 (c ∷ [])
     ∷ heartbeatAt 9
     ∷ replicate 19 0
     ∷ dataAt 1 (a ∷ b ∷ [])
@@ -66,27 +67,27 @@ feed =
     ∷ []
 
 pub record NotVacuous : Type 0 where
-  pub not-refused : startRefusal 1 100 ≡ 0
+  pub not-refused : receiverStartRefusal 1 100 ≡ 0
   pub starts : startReceiver name 1 100 ≡ fresh
   pub of-kind : AllOfKind session feed
-  pub delivers : delivered plain fresh feed ≡ a ∷ b ∷ c ∷ []
+  pub deliverOutcome : delivered plain fresh feed ≡ a ∷ b ∷ c ∷ []
   pub ends : after plain fresh feed ≡ receiver name 4 100 true
 
 -- ---- receivers that idle: they stay as they are, and deliver nothing
 
-abbrev pub stays : Steps
-stays r d = r
+abbrev pub staysPut : StepRule
+staysPut r d = r
 
 -- refuses everything
-abbrev pub refusesAll : Answers
+abbrev pub refusesAll : AnswerRule
 refusesAll r d = refuses datagramShort
 
 -- says old to everything
-abbrev pub oldToAll : Answers
+abbrev pub oldToAll : AnswerRule
 oldToAll r d = says old []
 
 -- asks at everything, and never moves its number
-abbrev pub asksAlways : Answers
+abbrev pub asksAlways : AnswerRule
 asksAlways r d = says ask (r .next .0 ∷ r .limit .0 ∷ [])
 
 -- ---- receivers that do too much or too little
@@ -94,21 +95,21 @@ asksAlways r d = says ask (r .next .0 ∷ r .limit .0 ∷ [])
 -- answers at the first datagram that it delivers all three messages, as a receiver that gives everything at once would; its number is
 -- then past them, and from there it goes by the table (what an answer delivers is the datagram's own messages, so this one claims
 -- more than it gives)
-abbrev pub allAtOnce : Answers
+abbrev pub allAtOnce : AnswerRule
 allAtOnce r d = if eqb (r .next .0) 1 then says deliver (1 ∷ 3 ∷ 0 ∷ []) else answerOf r d
 
-abbrev pub movesPastAll : Steps
+abbrev pub movesPastAll : StepRule
 movesPastAll r d = if eqb (r .next .0) 1 then receiver (r .session) 4 (r .limit .0) (r .ended) else receiverAfter r d
 
 -- treats a datagram that begins before n as wholly old
-abbrev pub overlapOld : Answers
+abbrev pub overlapOld : AnswerRule
 overlapOld r d = if ltb (numberOf d) (r .next .0) then says old [] else answerOf r d
 
-abbrev pub overlapStays : Steps
+abbrev pub overlapStays : StepRule
 overlapStays r d = if ltb (numberOf d) (r .next .0) then r else receiverAfter r d
 
 -- whether a kind is data
-abbrev pub isData : Kind → Bool
+abbrev pub isData : DownstreamKind → Bool
 isData data-packet = true
 isData heartbeat = false
 isData end-of-session = false
@@ -118,29 +119,29 @@ abbrev pub ahead : Receiver → Datagram → Bool
 ahead r d = if accepted r d then (if isData (kindOf d) then ltb (r .next .0) (numberOf d) else false) else false
 
 -- delivers data ahead, and jumps over the gap before it
-abbrev pub jumpDelivers : Answers
+abbrev pub jumpDelivers : AnswerRule
 jumpDelivers r d = if ahead r d then says deliver (numberOf d ∷ countOf d ∷ 0 ∷ []) else answerOf r d
 
-abbrev pub jumps : Steps
-jumps r d = if ahead r d then moved r (delivers (numberOf d) (numberOf d) (countOf d)) else receiverAfter r d
+abbrev pub jumps : StepRule
+jumps r d = if ahead r d then afterRow r (deliverOutcome (numberOf d) (numberOf d) (countOf d)) else receiverAfter r d
 
 -- ---- what condition 3 lets through and what it stops
 
 -- the table's row at a fresh receiver and the first message
-abbrev pub FollowsAtFirst : Answers → Steps → Type 0
+abbrev pub FollowsAtFirst : AnswerRule → StepRule → Type 0
 FollowsAtFirst answers step = Follows answers step fresh (dataAt 1 (a ∷ []))
 
 -- the idle receivers meet condition 3 and break the table's row at the first message; the one that claims everything there breaks
 -- that row; the one that delivers and never moves its number, the one that calls an overlap old and the one that jumps break
 -- condition 3
 pub record NotWeak : Type 0 where
-  pub refuses-all : Condition3For refusesAll stays
-  pub refuses-all-breaks : FollowsAtFirst refusesAll stays → ⊥
-  pub old-to-all : Condition3For oldToAll stays
-  pub old-to-all-breaks : FollowsAtFirst oldToAll stays → ⊥
-  pub asks-always : Condition3For asksAlways stays
-  pub asks-always-breaks : FollowsAtFirst asksAlways stays → ⊥
+  pub refuses-all : Condition3For refusesAll staysPut
+  pub refuses-all-breaks : FollowsAtFirst refusesAll staysPut → ⊥
+  pub old-to-all : Condition3For oldToAll staysPut
+  pub old-to-all-breaks : FollowsAtFirst oldToAll staysPut → ⊥
+  pub asks-always : Condition3For asksAlways staysPut
+  pub asks-always-breaks : FollowsAtFirst asksAlways staysPut → ⊥
   pub all-at-once-breaks : FollowsAtFirst allAtOnce movesPastAll → ⊥
-  pub never-moves-breaks : Condition3For answerOf stays → ⊥
+  pub never-moves-breaks : Condition3For answerOf staysPut → ⊥
   pub overlap-old-breaks : Condition3For overlapOld overlapStays → ⊥
   pub jumps-breaks : Condition3For jumpDelivers jumps → ⊥

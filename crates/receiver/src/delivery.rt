@@ -2,7 +2,7 @@
 use moldudp64_messages::cursor::Cursor;
 use wire::kinds::MessageCount;
 ghost use mathlib.Core.Path.{_≡_};
-ghost use Rattle.receiver.specs.Delivery.{deliveryOf, DeliveryVisits};
+ghost use Rattle.receiver.specs.Delivery.{deliveryCursor, DeliveryVisits};
 
 // The largest count of 16 bits.
 const LARGEST_COUNT: u16 = 65535;
@@ -10,7 +10,7 @@ const LARGEST_COUNT: u16 = 65535;
 // The cursor at the first message that a deliver answer delivers: count and skipped are the answer's, and the datagram is the
 // one that was taken.
 pub fn start(datagram: &[u8], count: MessageCount, skipped: MessageCount) -> Cursor
-    ensures { λ r. ⌜ r ≡ deliveryOf (now (datagram .entry)) (count .0) (skipped .0) ⌝ }
+    ensures { λ r. ⌜ r ≡ deliveryCursor (now (datagram .entry)) (count .0) (skipped .0) ⌝ }
     ensures visits { λ _. ⌜ DeliveryVisits ⌝ }
 {
     let c = count.0;

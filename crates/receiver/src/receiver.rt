@@ -13,9 +13,9 @@ ghost use Prim.Native.Nat.{_+_, _≤_, _<_, min};
 ghost use Rattle.wire.specs.Bounds.{largestNumber};
 ghost use Rattle.wire.specs.Refusals.{badSetting};
 ghost use Rattle.moldudp64.specs.Header.{endCount};
-ghost use Rattle.moldudp64.specs.Downstream.{data-packet, heartbeat, end-of-session, readOf, downstreamWords};
-ghost use Rattle.receiver.specs.Table.{asks, table, answerWords};
-ghost use Rattle.receiver.specs.Receiver.{receiver, refusedReceiver, startRefusal, startReceiver, ownRefusal, refusalFor, answerOf, receiverAfter, Takes};
+ghost use Rattle.moldudp64.specs.Downstream.{data-packet, heartbeat, end-of-session, downstreamOf, downstreamWords};
+ghost use Rattle.receiver.specs.Table.{askOutcome, table, answerWords};
+ghost use Rattle.receiver.specs.Receiver.{receiver, refusedReceiver, receiverStartRefusal, startReceiver, ownRefusal, refusalFor, answerOf, receiverAfter, TakesRow};
 ghost use Rattle.receiver.specs.Statements.{ReceiverPromises};
 ghost use Rattle.receiver.specs.Condition3.{Condition3};
 ghost use Rattle.receiver.specs.Witnesses.{NotVacuous, NotWeak};
@@ -94,7 +94,7 @@ impl Receiver {
 
     // A fresh receiver, or the refusal 19.
     pub fn new(session: [u8; SESSION_SIZE], next: SequenceNumber, limit: MessageCount) -> Started
-        ensures { λ r. ⌜ (r .refusal .number ≡ startRefusal (next .0) (limit .0)) × (r .receiver ≡ startReceiver session (next .0) (limit .0)) ⌝ }
+        ensures { λ r. ⌜ (r .refusal .number ≡ receiverStartRefusal (next .0) (limit .0)) × (r .receiver ≡ startReceiver session (next .0) (limit .0)) ⌝ }
         ensures condition_3 { λ _. ⌜ Condition3 ⌝ }
         ensures not_vacuous { λ _. ⌜ NotVacuous ⌝ }
         ensures not_weak { λ _. ⌜ NotWeak ⌝ }
@@ -150,7 +150,7 @@ impl Receiver {
 
     // The lowest of 11 to 16, 17, 18 and 20 that applies to a datagram that was read, or 0.
     fn refusal_for(self, datagram: &[u8], packet: Downstream) -> Refusal
-        requires { ⌜ downstreamWords packet ≡ readOf (now datagram) ⌝ }
+        requires { ⌜ downstreamWords packet ≡ downstreamOf (now datagram) ⌝ }
         ensures { λ r. ⌜ r .number ≡ refusalFor self (now (datagram .entry)) ⌝ }
     {
         match packet {
@@ -195,7 +195,7 @@ impl Receiver {
     // The row for a number above n: ask from n, for the smaller of the distance and the limit.
     fn ask(self, above: SequenceNumber) -> Taken
         requires { ⌜ self .next .0 < above .0 ⌝ }
-        ensures { λ r. ⌜ Takes r self (asks (self .limit .0) (self .next .0) (above .0)) ⌝ }
+        ensures { λ r. ⌜ TakesRow r self (askOutcome (self .limit .0) (self .next .0) (above .0)) ⌝ }
     {
         let next = self.next;
         let gap = above.0 - next.0;
@@ -213,7 +213,7 @@ impl Receiver {
     // The rows for data.
     fn take_data(self, first: SequenceNumber, count: MessageCount) -> Taken
         requires { ⌜ first .0 + count .0 ≤ largestNumber ⌝ }
-        ensures { λ r. ⌜ Takes r self (table (self .limit .0) (self .next .0) data-packet (first .0) (count .0)) ⌝ }
+        ensures { λ r. ⌜ TakesRow r self (table (self .limit .0) (self .next .0) data-packet (first .0) (count .0)) ⌝ }
     {
         let n = self.next.0;
         let f = first.0;
@@ -239,7 +239,7 @@ impl Receiver {
 
     // The rows for a heartbeat.
     fn take_heartbeat(self, at: SequenceNumber) -> Taken
-        ensures { λ r. ⌜ Takes r self (table (self .limit .0) (self .next .0) heartbeat (at .0) 0) ⌝ }
+        ensures { λ r. ⌜ TakesRow r self (table (self .limit .0) (self .next .0) heartbeat (at .0) 0) ⌝ }
     {
         let n = self.next.0;
         let f = at.0;
@@ -260,7 +260,7 @@ impl Receiver {
 
     // The rows for an end of session that isn't below n.
     fn take_end(self, at: SequenceNumber) -> Taken
-        ensures { λ r. ⌜ Takes r self (table (self .limit .0) (self .next .0) end-of-session (at .0) endCount) ⌝ }
+        ensures { λ r. ⌜ TakesRow r self (table (self .limit .0) (self .next .0) end-of-session (at .0) endCount) ⌝ }
     {
         let next = self.next;
         if next.0 < at.0 {

@@ -12,7 +12,7 @@ use Rattle.wire.specs.declared.refusal.Refusal.{Refusal}
 use Rattle.wire.specs.declared.kinds.SequenceNumber.{SequenceNumber}
 use Rattle.wire.proofs.Words.{which-of, values-of, read-back}
 use Rattle.text_fields.specs.Session.{goodSession}
-use Rattle.text_fields.specs.Number.{numberWords, numberOf}
+use Rattle.text_fields.specs.Number.{numberWords, readNumber}
 use Rattle.text_fields.specs.declared.number.Number.{Number}
 use Rattle.soupbintcp.specs.declared.packet.Sender.{Sender}
 use Rattle.soupbintcp.specs.declared.packet.Packet.{Packet}
@@ -24,16 +24,16 @@ use Rattle.soupbintcp.specs.declared.fields.Fields.the-variants.{Good, B
 use Rattle.soupbintcp.specs.declared.front.Front.{Front}
 use Rattle.soupbintcp.specs.declared.front.Front.the-variants.{Whole, NeedMore, Refused}
 use Rattle.soupbintcp.specs.Letters.{PacketKind, debug, accepted, rejected, sequenced, server-heartbeat, end-of-session, login, unsequenced, client-heartbeat, logout, packetKind, packetValues}
-use Rattle.soupbintcp.specs.Head.{Heading, whole, need-more, headWords, headOf, lengthOf, letterOf}
-use Rattle.soupbintcp.specs.Fields.{Fielding, good, bad-field, sessionBytes, numberBytes, blankAllowed, leastNumberOf, fieldsWords, fieldsAt, fieldsOf}
-use Rattle.soupbintcp.specs.Front.{Fronting, packet, wants-more, frontWords, packetOf, frontAt, frontOf, packetAt, packetBytes, payloadOf, sessionOf, loginPart, usernameOf, passwordOf}
+use Rattle.soupbintcp.specs.Head.{HeadKind, whole, need-more, headWords, headOf, packetLength, letterOf}
+use Rattle.soupbintcp.specs.Fields.{FieldsKind, good, bad-field, sessionBytes, numberBytes, blankAllowed, leastNumberOf, fieldsWords, fieldsAt, fieldsOf}
+use Rattle.soupbintcp.specs.Front.{FrontKind, packet, wants-more, frontWords, frontPacket, frontAt, frontOf, packetAt, packetBytes, payloadOf, sessionOf, loginPart, usernameOf, passwordOf}
 use Rattle.soupbintcp.proofs.HeadLaws.{IsWhole, whole-so, head-cases, head-in-whole}
 
 -- ---- the fields, as they are read
 
 pub fields-read : (l y z : List ℕ) (c : ℕ) (blank ok : Bool) (n : Number) (least : SequenceNumber) (r : Fields) → c ≡ letterOf l
     → y ≡ sessionBytes c l → blank ≡ blankAllowed c → ok ≡ goodSession blank y
-    → z ≡ numberBytes c l → least .0 ≡ leastNumberOf c → numberWords n ≡ numberOf (least .0) z
+    → z ≡ numberBytes c l → least .0 ≡ leastNumberOf c → numberWords n ≡ readNumber (least .0) z
     → fieldsWords r ≡ fieldsAt c (getD l 3 0) ok (numberWords n) → fieldsWords r ≡ fieldsOf l
 unfolding fieldsOf
 fields-read l y z c blank ok n least r e f g h i j k m = rw (← e, ← f, ← g, ← h, ← i, ← j, ← k) m
@@ -51,12 +51,12 @@ module _ (s : Sender) (l : List ℕ) (h : Head) where
 
   pub front-packet : (k : ℕ) (f : Fields) (p : Packet) → headWords h ≡ headOf s l → h ≡ head.Whole k → fieldsWords f ≡ fieldsOf l → f ≡ Good p
       → frontWords (Whole p k) ≡ frontOf s l
-  unfolding frontWords frontOf headWords frontAt fieldsWords packetOf
+  unfolding frontWords frontOf headWords frontAt fieldsWords frontPacket
   front-packet k f p e g i j = rw (← e, g, ← i, j)
 
   pub front-bad : (k : ℕ) (f : Fields) → headWords h ≡ headOf s l → h ≡ head.Whole k → fieldsWords f ≡ fieldsOf l → f ≡ Bad
       → frontWords (Refused (record { number = 25 })) ≡ frontOf s l
-  unfolding frontWords frontOf headWords frontAt fieldsWords packetOf
+  unfolding frontWords frontOf headWords frontAt fieldsWords frontPacket
   front-bad k f e g i j = rw (← e, g, ← i, j)
 
 -- ---- the front by the head's words: need more and a refusal are handed on, and a whole packet is by its fields
@@ -70,13 +70,13 @@ module _ (s : Sender) (l : List ℕ) where
   unfolding frontOf frontAt
   said-refused-front r e = rw e refl
 
-  pub said-whole-front : (k : ℕ) → headOf s l ≡ says whole (k ∷ []) → frontOf s l ≡ packetOf k (fieldsOf l .which) (fieldsOf l .values)
+  pub said-whole-front : (k : ℕ) → headOf s l ≡ says whole (k ∷ []) → frontOf s l ≡ frontPacket k (fieldsOf l .which) (fieldsOf l .values)
   unfolding frontOf frontAt
   said-whole-front k e = rw e refl
 
   -- a packet that is there whole, with good fields
   pub packet-so : (t : PacketKind) (k : ℕ) (vs : List ℕ) → IsWhole s l k → fieldsOf l ≡ says (good t) vs → frontOf s l ≡ says (packet t) (k ∷ vs)
-  unfolding packetOf
+  unfolding frontPacket
   packet-so t k vs o e = said-whole-front k (whole-so s l k o) ∙ rw e refl
 
 -- ---- the words of a front read back
@@ -106,7 +106,7 @@ packet-back Unsequenced = refl
 packet-back ClientHeartbeat = refl
 packet-back Logout = refl
 
-front-of : Case Fronting → ℕ → List ℕ → Front
+front-of : Case FrontKind → ℕ → List ℕ → Front
 front-of (answer (packet k)) r vs = Whole (packet-of k (getD vs 1 0)) (getD vs 0 0)
 front-of (answer wants-more) r vs = NeedMore
 front-of refused r vs = Refused (record { number = r })
@@ -127,7 +127,7 @@ pub record IsPacket (s : Sender) (l : List ℕ) (t : PacketKind) (k : ℕ) (vs :
   pub kind : fieldsOf l .which ≡ answer (good t)
   pub values : fieldsOf l .values ≡ vs
 
-Packets : Sender → List ℕ → PacketKind → ℕ → List ℕ → Words Heading → Type 0
+Packets : Sender → List ℕ → PacketKind → ℕ → List ℕ → Words HeadKind → Type 0
 Packets s l t k vs w = frontAt l (w .which) (w .refusal) (w .values) ≡ says (packet t) (k ∷ vs) → IsPacket s l t k vs
 
 module _ (s : Sender) (l : List ℕ) (t : PacketKind) (k : ℕ) (vs : List ℕ) where
@@ -139,9 +139,9 @@ module _ (s : Sender) (l : List ℕ) (t : PacketKind) (k : ℕ) (vs : List ℕ) 
   unfolding Packets frontAt
   refused-no-packet r e = let w = which-of e in let z : _≡_ {A = ℕ} 0 1 = cc in absurd (omega arith)
 
-  whole-packet : (n : ℕ) (c : Case Fielding) (ws : List ℕ) → IsWhole s l n → fieldsOf l .which ≡ c → fieldsOf l .values ≡ ws
-      → packetOf n c ws ≡ says (packet t) (k ∷ vs) → IsPacket s l t k vs
-  unfolding packetOf
+  whole-packet : (n : ℕ) (c : Case FieldsKind) (ws : List ℕ) → IsWhole s l n → fieldsOf l .which ≡ c → fieldsOf l .values ≡ ws
+      → frontPacket n c ws ≡ says (packet t) (k ∷ vs) → IsPacket s l t k vs
+  unfolding frontPacket
   whole-packet n (answer (good u)) ws o f g e =
       let w = which-of e in
       let v = values-of e in
@@ -157,7 +157,7 @@ module _ (s : Sender) (l : List ℕ) (t : PacketKind) (k : ℕ) (vs : List ℕ) 
   said-packet =
       head-cases s l (Packets s l t k vs) (λ a. more-no-packet) (λ a b. refused-no-packet 21) (λ a b c. refused-no-packet 22)
       (λ a b. more-no-packet) (λ a b c d. refused-no-packet 23) (λ a b c d e. refused-no-packet 24) (λ h f. more-no-packet)
-      (λ h f. whole-packet (lengthOf l + 2) (fieldsOf l .which) (fieldsOf l .values) (head-in-whole s l (lengthOf l + 2) h f refl) refl refl)
+      (λ h f. whole-packet (packetLength l + 2) (fieldsOf l .which) (fieldsOf l .values) (head-in-whole s l (packetLength l + 2) h f refl) refl refl)
 
 -- ---- its payload
 

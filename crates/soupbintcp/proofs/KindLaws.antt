@@ -10,11 +10,11 @@ use lib.Dec.{eqb}
 use borrow.Author.Tests.{eqb-true}
 use Rattle.wire.specs.Choice.{if_then_else_}
 use Rattle.wire.specs.Words.{Words, Case, answer, refused, says}
-use Rattle.text_fields.specs.Number.{Reading, value, bad}
+use Rattle.text_fields.specs.Number.{NumberKind, value, bad}
 use Rattle.soupbintcp.specs.declared.packet.Sender.{Sender}
 use Rattle.soupbintcp.specs.declared.packet.Sender.the-variants.{Server, Client}
 use Rattle.soupbintcp.specs.declared.letters.Row.{Row}
-use Rattle.soupbintcp.specs.Letters.{PacketKind, debug, accepted, rejected, sequenced, server-heartbeat, end-of-session, login, unsequenced, client-heartbeat, logout, letterDebug, letterAccepted, letterRejected, letterSequenced, letterServerHeartbeat, letterEnd, letterLogin, letterUnsequenced, letterClientHeartbeat, letterLogout, letterFor, row, rowOf, sends, plainOf}
+use Rattle.soupbintcp.specs.Letters.{PacketKind, debug, accepted, rejected, sequenced, server-heartbeat, end-of-session, login, unsequenced, client-heartbeat, logout, letterDebug, letterAccepted, letterRejected, letterSequenced, letterServerHeartbeat, letterEnd, letterLogin, letterUnsequenced, letterClientHeartbeat, letterLogout, letterFor, row, letterRow, sends, plainOf}
 use Rattle.soupbintcp.specs.Head.{letterOf}
 use Rattle.soupbintcp.specs.Fields.{good, bad-field, hasFields, numberedOf, numberFields, withNumber, goodReason, reasonFields, fieldsAt, fieldsOf}
 use Rattle.soupbintcp.specs.Front.{packet, frontOf, KindOfLetter}
@@ -50,8 +50,8 @@ nobody : (s : Sender) → SentBy s (row false false 0 0) → ⊥
 nobody Server e = let z : _≡_ {A = ℕ} 0 1 = cc in omega arith
 nobody Client e = let z : _≡_ {A = ℕ} 0 1 = cc in omega arith
 
-row-listed : (s : Sender) (c : ℕ) → SentBy s (rowOf c) → Listed c
-unfolding rowOf
+row-listed : (s : Sender) (c : ℕ) → SentBy s (letterRow c) → Listed c
+unfolding letterRow
 row-listed s c h =
     one-row (SentBy s) c letterDebug _ _ h in-debug (λ h.
     one-row (SentBy s) c letterAccepted _ _ h in-accepted (λ h.
@@ -78,20 +78,20 @@ pub bad-never : (p : PacketKind) → answer bad-field ≡ answer (good p) → �
 bad-never p e = let z : _≡_ {A = ℕ} 0 1 = cc in omega arith
 
 -- a session and a number that make a packet: c is the letter, ok whether the session is good, w the number as it was read
-pub record Numbered (c : ℕ) (ok : Bool) (w : Words Reading) (p : PacketKind) : Type 0 where
+pub record Numbered (c : ℕ) (ok : Bool) (w : Words NumberKind) (p : PacketKind) : Type 0 where
   pub session-good : ok ≡ true
   pub number-good : w .which ≡ answer value
   pub its-number : withNumber c ok w .values ≡ getD (w .values) 0 0 ∷ []
   pub letter : letterFor (numberedOf c) ≡ letterFor p
 
-number-kind : (c : ℕ) (w : Case Reading) (vs : List ℕ) (p : PacketKind) → numberFields c w vs .which ≡ answer (good p)
+number-kind : (c : ℕ) (w : Case NumberKind) (vs : List ℕ) (p : PacketKind) → numberFields c w vs .which ≡ answer (good p)
     → (w ≡ answer value) × (numberFields c w vs .values ≡ getD vs 0 0 ∷ []) × (letterFor (numberedOf c) ≡ letterFor p)
 unfolding numberFields
 number-kind c (answer value) vs p e = (refl, refl, same-letter (numberedOf c) p e)
 number-kind c (answer bad) vs p e = absurd (bad-never p e)
 number-kind c refused vs p e = absurd (bad-never p e)
 
-pub numbered : (c : ℕ) (ok : Bool) (w : Words Reading) (p : PacketKind) → withNumber c ok w .which ≡ answer (good p) → Numbered c ok w p
+pub numbered : (c : ℕ) (ok : Bool) (w : Words NumberKind) (p : PacketKind) → withNumber c ok w .which ≡ answer (good p) → Numbered c ok w p
 unfolding withNumber
 numbered c true w p e =
     let n = number-kind c (w .which) (w .values) p e in
@@ -103,7 +103,7 @@ reason-read : (b : ℕ) (t : Bool) (p : PacketKind) → (if t then says (good re
 reason-read b true p e = same-letter rejected p e
 reason-read b false p e = absurd (bad-never p e)
 
-kind-letter : (c reason : ℕ) (ok : Bool) (w : Words Reading) (p : PacketKind) → Listed c → fieldsAt c reason ok w .which ≡ answer (good p)
+kind-letter : (c reason : ℕ) (ok : Bool) (w : Words NumberKind) (p : PacketKind) → Listed c → fieldsAt c reason ok w .which ≡ answer (good p)
     → c ≡ letterFor p
 unfolding fieldsAt hasFields plainOf reasonFields numberedOf letterFor
 kind-letter c reason ok w p in-debug e = same-letter debug p e
@@ -129,7 +129,7 @@ kind-of-letter s l p k vs e = its-letter s l p k vs e
 
 -- ---- A and L have one value, the number
 
-one-value : (c reason : ℕ) (ok : Bool) (w : Words Reading) → hasFields c ≡ true → (p : PacketKind) → fieldsAt c reason ok w .which ≡ answer (good p)
+one-value : (c reason : ℕ) (ok : Bool) (w : Words NumberKind) → hasFields c ≡ true → (p : PacketKind) → fieldsAt c reason ok w .which ≡ answer (good p)
     → fieldsAt c reason ok w .values ≡ getD (fieldsAt c reason ok w .values) 0 0 ∷ []
 unfolding fieldsAt
 one-value c reason ok w e p f = let n = numbered c ok w p (rw e at f) .its-number in rw (e, n) refl

@@ -9,55 +9,55 @@ use Rattle.wire.specs.Choice.{if_then_else_}
 use Rattle.soupbintcp.specs.declared.packet.Sender.{Sender}
 use Rattle.soupbintcp.specs.declared.packet.Sender.the-variants.{Server, Client}
 use Rattle.soupbintcp.specs.declared.letters.Row.{Row}
-use Rattle.soupbintcp.specs.Letters.{mostPayload, row, rowOf, sends, allows}
+use Rattle.soupbintcp.specs.Letters.{mostPayload, row, letterRow, sends, allows}
 
 -- ---- the rows
 
 module _ (c : ℕ) (r : Row) where
-  pub row-plus : r ≡ row true true 0 mostPayload → c ≡ 43 → r ≡ rowOf c
-  unfolding rowOf
+  pub row-plus : r ≡ row true true 0 mostPayload → c ≡ 43 → r ≡ letterRow c
+  unfolding letterRow
   row-plus f e = simp e f
 
-  pub row-A : r ≡ row true false 30 30 → c ≡ 65 → r ≡ rowOf c
-  unfolding rowOf
+  pub row-A : r ≡ row true false 30 30 → c ≡ 65 → r ≡ letterRow c
+  unfolding letterRow
   row-A f e = simp e f
 
-  pub row-J : r ≡ row true false 1 1 → c ≡ 74 → r ≡ rowOf c
-  unfolding rowOf
+  pub row-J : r ≡ row true false 1 1 → c ≡ 74 → r ≡ letterRow c
+  unfolding letterRow
   row-J f e = simp e f
 
-  pub row-S : r ≡ row true false 0 mostPayload → c ≡ 83 → r ≡ rowOf c
-  unfolding rowOf
+  pub row-S : r ≡ row true false 0 mostPayload → c ≡ 83 → r ≡ letterRow c
+  unfolding letterRow
   row-S f e = simp e f
 
-  pub row-H : r ≡ row true false 0 0 → c ≡ 72 → r ≡ rowOf c
-  unfolding rowOf
+  pub row-H : r ≡ row true false 0 0 → c ≡ 72 → r ≡ letterRow c
+  unfolding letterRow
   row-H f e = simp e f
 
-  pub row-Z : r ≡ row true false 0 0 → c ≡ 90 → r ≡ rowOf c
-  unfolding rowOf
+  pub row-Z : r ≡ row true false 0 0 → c ≡ 90 → r ≡ letterRow c
+  unfolding letterRow
   row-Z f e = simp e f
 
-  pub row-L : r ≡ row false true 46 46 → c ≡ 76 → r ≡ rowOf c
-  unfolding rowOf
+  pub row-L : r ≡ row false true 46 46 → c ≡ 76 → r ≡ letterRow c
+  unfolding letterRow
   row-L f e = simp e f
 
-  pub row-U : r ≡ row false true 0 mostPayload → c ≡ 85 → r ≡ rowOf c
-  unfolding rowOf
+  pub row-U : r ≡ row false true 0 mostPayload → c ≡ 85 → r ≡ letterRow c
+  unfolding letterRow
   row-U f e = simp e f
 
-  pub row-R : r ≡ row false true 0 0 → c ≡ 82 → r ≡ rowOf c
-  unfolding rowOf
+  pub row-R : r ≡ row false true 0 0 → c ≡ 82 → r ≡ letterRow c
+  unfolding letterRow
   row-R f e = simp e f
 
-  pub row-O : r ≡ row false true 0 0 → c ≡ 79 → r ≡ rowOf c
-  unfolding rowOf
+  pub row-O : r ≡ row false true 0 0 → c ≡ 79 → r ≡ letterRow c
+  unfolding letterRow
   row-O f e = simp e f
 
   pub row-none : r ≡ row false false 0 0
       → (c ≡ 43 → ⊥) → (c ≡ 65 → ⊥) → (c ≡ 74 → ⊥) → (c ≡ 83 → ⊥) → (c ≡ 72 → ⊥)
-      → (c ≡ 90 → ⊥) → (c ≡ 76 → ⊥) → (c ≡ 85 → ⊥) → (c ≡ 82 → ⊥) → (c ≡ 79 → ⊥) → r ≡ rowOf c
-  unfolding rowOf
+      → (c ≡ 90 → ⊥) → (c ≡ 76 → ⊥) → (c ≡ 85 → ⊥) → (c ≡ 82 → ⊥) → (c ≡ 79 → ⊥) → r ≡ letterRow c
+  unfolding letterRow
   row-none f e0 e1 e2 e3 e4 e5 e6 e7 e8 e9 =
       simp (
         ne-eqb _ _ e0,
@@ -75,19 +75,19 @@ module _ (c : ℕ) (r : Row) where
 -- ---- who sends it, and how long it may be
 
 module _ (c : ℕ) (r : Row) where
-  pub sent-server : (s : Sender) → r ≡ rowOf c → s ≡ Server → r .server ≡ sends s c
+  pub sent-server : (s : Sender) → r ≡ letterRow c → s ≡ Server → r .server ≡ sends s c
   unfolding sends
   sent-server s e f = simp (f, e)
 
-  pub sent-client : (s : Sender) → r ≡ rowOf c → s ≡ Client → r .client ≡ sends s c
+  pub sent-client : (s : Sender) → r ≡ letterRow c → s ≡ Client → r .client ≡ sends s c
   unfolding sends
   sent-client s e f = simp (f, e)
 
-  pub allowed-under : (k : ℕ) → r ≡ rowOf c → k < r .least → false ≡ allows c k
+  pub allowed-under : (k : ℕ) → r ≡ letterRow c → k < r .least → false ≡ allows c k
   unfolding allows
   allowed-under k e h = simp (← e, lt-ltb _ _ h)
 
-  pub allowed-up : (k : ℕ) → r ≡ rowOf c → r .least ≤ k → leb k (r .most) ≡ allows c k
+  pub allowed-up : (k : ℕ) → r ≡ letterRow c → r .least ≤ k → leb k (r .most) ≡ allows c k
   unfolding allows
   allowed-up k e h = simp (← e, le-ltb _ _ h)
 
@@ -100,8 +100,8 @@ choice P false f g = g refl
 Small : Row → Type 0
 Small r = r .most ≤ mostPayload
 
-row-small : (c : ℕ) → Small (rowOf c)
-unfolding rowOf Small
+row-small : (c : ℕ) → Small (letterRow c)
+unfolding letterRow Small
 row-small c =
     choice Small (eqb c 43) (λ e. omega arith) (λ e.
     choice Small (eqb c 65) (λ e. omega arith) (λ e.
@@ -124,26 +124,26 @@ keeps k n false false e h = let z : _≡_ {A = ℕ} 0 1 = cc in absurd (omega ar
 keeps k n true b e h = let z : _≡_ {A = ℕ} 0 1 = cc in absurd (omega arith)
 
 module _ (c k : ℕ) (h : allows c k ≡ true) where
-  pub allowed-most : k ≤ rowOf c .most
+  pub allowed-most : k ≤ letterRow c .most
   unfolding allows
-  allowed-most = keeps k (rowOf c .most) (ltb k (rowOf c .least)) (leb k (rowOf c .most)) refl h
+  allowed-most = keeps k (letterRow c .most) (ltb k (letterRow c .least)) (leb k (letterRow c .most)) refl h
 
   pub allowed-small : k ≤ mostPayload
   unfolding Small
   allowed-small = let a = allowed-most in let b = row-small c in omega arith
 
-  pub allowed-least : rowOf c .least ≤ k
+  pub allowed-least : letterRow c .least ≤ k
   unfolding allows
-  allowed-least = reaches k (rowOf c .least) (leb k (rowOf c .most)) (ltb k (rowOf c .least)) refl h
+  allowed-least = reaches k (letterRow c .least) (leb k (letterRow c .most)) (ltb k (letterRow c .least)) refl h
 
   pub least-A : c ≡ 65 → 30 ≤ k
-  unfolding rowOf
+  unfolding letterRow
   least-A e = rw e at allowed-least
 
   pub least-L : c ≡ 76 → 46 ≤ k
-  unfolding rowOf
+  unfolding letterRow
   least-L e = rw e at allowed-least
 
   pub least-J : c ≡ 74 → 1 ≤ k
-  unfolding rowOf
+  unfolding letterRow
   least-J e = rw e at allowed-least

@@ -24,7 +24,7 @@ use Rattle.text_fields.specs.declared.number.NumberState.the-variants as counti
 use Rattle.text_fields.specs.declared.number.Number.{Number}
 use Rattle.text_fields.specs.Letters.{areLettersOrDigits, leadingSpaces}
 use Rattle.text_fields.specs.Session.{sessionStep, sessionFrom, sessionGood, goodSession}
-use Rattle.text_fields.specs.Number.{bad, numberStep, numberFrom, numberGood, numberWords, numberOf}
+use Rattle.text_fields.specs.Number.{bad, numberStep, numberFrom, numberGood, numberWords, readNumber}
 use Rattle.text_fields.proofs.FoldLaws.{session-fold, number-fold}
 use Rattle.soupbintcp.specs.declared.packet.Sender.{Sender}
 use Rattle.soupbintcp.specs.declared.packet.Packet.{Packet}
@@ -36,17 +36,17 @@ use Rattle.soupbintcp.specs.declared.fields.Fields.the-variants as made
 use Rattle.soupbintcp.specs.declared.scan.Stop.{Stop}
 use Rattle.soupbintcp.specs.declared.scan.Stop.the-variants as stopped
 use Rattle.soupbintcp.specs.Letters.{PacketKind, packetKind, packetValues, mostPayload, sends, allows}
-use Rattle.soupbintcp.specs.Head.{lengthOf, letterOf, whole, need-more, headWords, headOf}
-use Rattle.soupbintcp.specs.Fields.{hasFields, sessionBytes, numberBytes, blankAllowed, leastNumberOf, Fielding, good, bad-field, fieldsWords, numberFields, withNumber, fieldsAt, fieldsOf}
-use Rattle.soupbintcp.specs.Front.{packet, wants-more, packetOf, frontAt, frontOf}
-use Rattle.soupbintcp.specs.Scan.{Stopping, stopped-short, stopWords, Scan, stops, behind, scanAt, scanUpTo, scanOf, Scans, StopsApart, StopsBy, by-short, by-refusal, ScanPromises}
+use Rattle.soupbintcp.specs.Head.{packetLength, letterOf, whole, need-more, headWords, headOf}
+use Rattle.soupbintcp.specs.Fields.{hasFields, sessionBytes, numberBytes, blankAllowed, leastNumberOf, FieldsKind, good, bad-field, fieldsWords, numberFields, withNumber, fieldsAt, fieldsOf}
+use Rattle.soupbintcp.specs.Front.{packet, wants-more, frontPacket, frontAt, frontOf}
+use Rattle.soupbintcp.specs.Scan.{StopKind, stopped-short, stopWords, Scan, stops, behind, scanAt, scanUpTo, scanOf, Scans, StopsApart, StopsBy, by-short, by-refusal, ScanPromises}
 
 -- ---- what the head is
 
 pub data HeadIs (s : Sender) (l : List ℕ) : Type 0 where
   short : headOf s l ≡ says need-more [] → HeadIs s l
   fault : (r : ℕ) → headOf s l ≡ refuses r → HeadIs s l
-  all : headOf s l ≡ says whole ((lengthOf l + 2) ∷ []) → 3 ≤ lengthOf l + 2 → lengthOf l + 2 ≤ length l → HeadIs s l
+  all : headOf s l ≡ says whole ((packetLength l + 2) ∷ []) → 3 ≤ packetLength l + 2 → packetLength l + 2 ≤ length l → HeadIs s l
 
 above : (n : ℕ) → (n ≡ 0 → ⊥) → 3 ≤ n + 2
 above zero z = absurd (z refl)
@@ -55,22 +55,22 @@ above (suc n) z = omega arith
 unfolded : (s : Sender) (l : List ℕ)
     → headOf s l
     ≡ (if ltb (length l) 2 then says need-more []
-    else if eqb (lengthOf l) 0 then refuses lengthZero
-    else if ltb mostPayload (lengthOf l - 1) then refuses payloadLong
+    else if eqb (packetLength l) 0 then refuses lengthZero
+    else if ltb mostPayload (packetLength l - 1) then refuses payloadLong
     else if ltb (length l) 3 then says need-more []
     else if not (sends s (letterOf l)) then refuses letterNotSent
-    else if not (allows (letterOf l) (lengthOf l - 1)) then refuses lengthWrong
-    else if ltb (length l) (lengthOf l + 2) then says need-more []
-    else says whole ((lengthOf l + 2) ∷ []))
+    else if not (allows (letterOf l) (packetLength l - 1)) then refuses lengthWrong
+    else if ltb (length l) (packetLength l + 2) then says need-more []
+    else says whole ((packetLength l + 2) ∷ []))
 unfolding headOf
 unfolded s l = refl
 
 pub head-is : (s : Sender) (l : List ℕ) → HeadIs s l
 head-is s l =
-    go (ltb (length l) 2) (eqb (lengthOf l) 0) (ltb mostPayload (lengthOf l - 1)) (ltb (length l) 3) (not (sends s (letterOf l)))
-    (not (allows (letterOf l) (lengthOf l - 1))) (ltb (length l) (lengthOf l + 2)) refl refl (unfolded s l)
+    go (ltb (length l) 2) (eqb (packetLength l) 0) (ltb mostPayload (packetLength l - 1)) (ltb (length l) 3) (not (sends s (letterOf l)))
+    (not (allows (letterOf l) (packetLength l - 1))) (ltb (length l) (packetLength l + 2)) refl refl (unfolded s l)
   where
-    go : (a b c d e f g : Bool) → eqb (lengthOf l) 0 ≡ b → ltb (length l) (lengthOf l + 2) ≡ g
+    go : (a b c d e f g : Bool) → eqb (packetLength l) 0 ≡ b → ltb (length l) (packetLength l + 2) ≡ g
         → headOf s l
         ≡ (if a then says need-more []
         else if b then refuses lengthZero
@@ -79,7 +79,7 @@ head-is s l =
         else if e then refuses letterNotSent
         else if f then refuses lengthWrong
         else if g then says need-more []
-        else says whole ((lengthOf l + 2) ∷ []))
+        else says whole ((packetLength l + 2) ∷ []))
         → HeadIs s l
     go true b c d e f g p q h = short h
     go false true c d e f g p q h = fault lengthZero h
@@ -88,7 +88,7 @@ head-is s l =
     go false false false false true f g p q h = fault letterNotSent h
     go false false false false false true g p q h = fault lengthWrong h
     go false false false false false false true p q h = short h
-    go false false false false false false false p q h = all h (above (lengthOf l) (eqb-false _ _ p)) (ltb-false _ _ q)
+    go false false false false false false false p q h = all h (above (packetLength l) (eqb-false _ _ p)) (ltb-false _ _ q)
 
 -- ---- what the front is
 
@@ -101,17 +101,17 @@ module _ (s : Sender) (l : List ℕ) where
   unfolding frontOf frontAt
   front-fault r e = rw e
 
-  whole-front : (k : ℕ) → headOf s l ≡ says whole (k ∷ []) → frontOf s l ≡ packetOf k (fieldsOf l .which) (fieldsOf l .values)
+  whole-front : (k : ℕ) → headOf s l ≡ says whole (k ∷ []) → frontOf s l ≡ frontPacket k (fieldsOf l .which) (fieldsOf l .values)
   unfolding frontOf frontAt
   whole-front k e = rw e
 
   pub front-packet : (k : ℕ) (p : PacketKind) (vs : List ℕ) → headOf s l ≡ says whole (k ∷ []) → fieldsOf l ≡ says (good p) vs
       → frontOf s l ≡ says (packet p) (k ∷ vs)
-  unfolding packetOf
+  unfolding frontPacket
   front-packet k p vs e f = whole-front k e ∙ rw f
 
   pub front-bad : (k : ℕ) → headOf s l ≡ says whole (k ∷ []) → fieldsOf l ≡ says bad-field [] → frontOf s l ≡ refuses fieldBad
-  unfolding packetOf
+  unfolding frontPacket
   front-bad k e f = whole-front k e ∙ rw f
 
 pub data FrontIs (s : Sender) (l : List ℕ) : Type 0 where
@@ -119,8 +119,8 @@ pub data FrontIs (s : Sender) (l : List ℕ) : Type 0 where
   stops-at : (r : ℕ) → frontOf s l ≡ refuses r → FrontIs s l
   passes : (p : PacketKind) (k : ℕ) (vs : List ℕ) → frontOf s l ≡ says (packet p) (k ∷ vs) → 3 ≤ k → k ≤ length l → FrontIs s l
 
-whole-is : (s : Sender) (l : List ℕ) (k : ℕ) (w : Case Fielding) (vs : List ℕ) → frontOf s l ≡ packetOf k w vs → 3 ≤ k → k ≤ length l → FrontIs s l
-unfolding packetOf
+whole-is : (s : Sender) (l : List ℕ) (k : ℕ) (w : Case FieldsKind) (vs : List ℕ) → frontOf s l ≡ frontPacket k w vs → 3 ≤ k → k ≤ length l → FrontIs s l
+unfolding frontPacket
 whole-is s l k (answer (good p)) vs e f g = passes p k vs e f g
 whole-is s l k (answer bad-field) vs e f g = stops-at fieldBad e
 whole-is s l k refused vs e f g = stops-at fieldBad e
@@ -131,7 +131,7 @@ front-is s l = go (head-is s l)
     go : HeadIs s l → FrontIs s l
     go (short e) = stops-short (front-short s l e)
     go (fault r e) = stops-at r (front-fault s l r e)
-    go (all e f g) = whole-is s l (lengthOf l + 2) (fieldsOf l .which) (fieldsOf l .values) (whole-front s l (lengthOf l + 2) e) f g
+    go (all e f g) = whole-is s l (packetLength l + 2) (fieldsOf l .which) (fieldsOf l .values) (whole-front s l (packetLength l + 2) e) f g
 
 -- a whole head's size
 whole-size : (s : Sender) (l : List ℕ) (k : ℕ) → headOf s l ≡ says whole (k ∷ []) → (3 ≤ k) × (k ≤ length l)
@@ -141,7 +141,7 @@ whole-size s l k e = go (head-is s l)
     go (short f) = let w = which-of (sym f ∙ e) in let z : _≡_ {A = ℕ} 0 1 = cc in absurd (omega arith)
     go (fault r f) = let w = which-of (sym f ∙ e) in let z : _≡_ {A = ℕ} 0 1 = cc in absurd (omega arith)
     go (all f a b) =
-        let v : lengthOf l + 2 ≡ k = ap (λ (vs : List ℕ). getD vs 0 0) (values-of (sym f ∙ e)) in
+        let v : packetLength l + 2 ≡ k = ap (λ (vs : List ℕ). getD vs 0 0) (values-of (sym f ∙ e)) in
         (omega arith, omega arith)
 
 -- ---- the scan's definition, one packet on: the limit by which it recurses plays no part
@@ -209,7 +209,7 @@ pub record Going (s : Sender) (l₀ l : List ℕ) (p b : ℕ) : Type 0 where
 pub going-start : (s : Sender) (l₀ : List ℕ) → Going s l₀ l₀ 0 0
 going-start s l₀ = record { bound = omega arith; few = omega arith; packets = omega arith; bytes = omega arith; stop = refl }
 
-stop-so : {s : Sender} {l₀ l : List ℕ} {p b : ℕ} (x : Stop) (w : Words Stopping) → Going s l₀ l p b → scanOf s l ≡ stops w → stopWords x ≡ w
+stop-so : {s : Sender} {l₀ l : List ℕ} {p b : ℕ} (x : Stop) (w : Words StopKind) → Going s l₀ l p b → scanOf s l ≡ stops w → stopWords x ≡ w
     → Scans (record { packets = p; bytes = b; stop = x }) s l₀
 stop-so {s} {l₀} {l} {p} {b} x w g e f =
     let a : scanOf s l .packets ≡ 0 = ap (λ (y : Scan). y .packets) e in
@@ -310,7 +310,7 @@ module _ (l : List ℕ) where
   unfolding fieldsOf fieldsAt withNumber
   bad-session e = by-fields _ (letterOf l) (λ h. rw (h, e)) (λ h. let z : _≡_ {A = ℕ} 0 1 = cc (none-good l (letterOf l) h) in absurd (omega arith))
 
-  bad-number : hasFields (letterOf l) ≡ true → numberOf (leastNumberOf (letterOf l)) (numberBytes (letterOf l) l) ≡ says bad [] → fieldsOf l ≡ says bad-field []
+  bad-number : hasFields (letterOf l) ≡ true → readNumber (leastNumberOf (letterOf l)) (numberBytes (letterOf l) l) ≡ says bad [] → fieldsOf l ≡ says bad-field []
   unfolding fieldsOf fieldsAt withNumber numberFields
   bad-number h e = rw (h, e) (go (goodSession (blankAllowed (letterOf l)) (sessionBytes (letterOf l) l)))
     where
@@ -371,7 +371,7 @@ module _ {s : Sender} {l₀ l : List ℕ} {p b : ℕ} where
   scan-bad-number h k c i n x y g e f j q v w t u =
       let z : numberFrom counting.Blank n ≡ counting.Bad = number-bad n i x y (v .1) w t u in
       let a : n ≡ numberBytes (letterOf l) l = q ∙ ap (λ (o : ℕ). numberBytes o l) j in
-      let d : numberOf (leastNumberOf (letterOf l)) n ≡ says bad [] = sym (number-fold .same (leastNumberOf (letterOf l)) n) ∙ rw z in
+      let d : readNumber (leastNumberOf (letterOf l)) n ≡ says bad [] = sym (number-fold .same (leastNumberOf (letterOf l)) n) ∙ rw z in
       stop-bad h k g e f (bad-number l (has-number l i (rw a at w)) (rw a at d))
 
   -- all bytes of both were looked at: r is what they make
@@ -386,7 +386,7 @@ module _ {s : Sender} {l₀ l : List ℕ} {p b : ℕ} where
         let z : x ≡ sessionFrom Blank n = session-end n i x (f₃ .1) f₄ in
         let u : y ≡ numberFrom counting.Blank m = number-end m j y (e₃ .1) e₄ in
         let d : goodSession (blankAllowed c) n ≡ true = sym (session-fold .same (blankAllowed c) n) ∙ rw (← z, ← f₅) (sym f₆ ∙ not-false o f₇) in
-        let q : numberWords w ≡ numberOf (leastNumberOf c) m = e₆ ∙ rw (e₅, u) (number-fold .same (leastNumberOf c) m) in
+        let q : numberWords w ≡ readNumber (leastNumberOf c) m = e₆ ∙ rw (e₅, u) (number-fold .same (leastNumberOf c) m) in
         e₇ ∙ rw (← f₁, ← f₂, ← e₂, d, q)
 
     pub scan-bad-packet : r ≡ made.Bad → Scans (record { packets = p; bytes = b; stop = stopped.Refused (record { number = fieldBad }) }) s l₀
@@ -431,7 +431,7 @@ module _ (s : Sender) (l : List ℕ) (h : Head) (k : ℕ) (e : headWords h ≡ h
 
 -- ---- the words tell all stops apart
 
-stoppedBy : Case Stopping → ℕ → Stop
+stoppedBy : Case StopKind → ℕ → Stop
 stoppedBy (answer stopped-short) r = stopped.NeedMore
 stoppedBy refused r = stopped.Refused (record { number = r })
 

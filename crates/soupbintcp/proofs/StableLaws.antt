@@ -10,10 +10,10 @@ use lib.Dec.{eqb}
 use borrow.Author.Tests.{eqb-true}
 use Rattle.wire.specs.Choice.{if_then_else_}
 use Rattle.wire.specs.Words.{Words, Case, says}
-use Rattle.text_fields.specs.Number.{Reading}
+use Rattle.text_fields.specs.Number.{NumberKind}
 use Rattle.soupbintcp.specs.declared.packet.Sender.{Sender}
 use Rattle.soupbintcp.specs.Letters.{PacketKind, allows}
-use Rattle.soupbintcp.specs.Head.{Heading, lengthOf, letterOf, headOf}
+use Rattle.soupbintcp.specs.Head.{HeadKind, packetLength, letterOf, headOf}
 use Rattle.soupbintcp.specs.Fields.{hasFields, sessionAt, sessionBytes, numberBytes, reasonFields, fieldsAt, fieldsOf}
 use Rattle.soupbintcp.specs.Front.{packet, frontAt, frontOf, packetAt, packetBytes, payloadOf, sessionOf, loginPart, Stable, StableBytes, FrontPromises}
 use Rattle.soupbintcp.proofs.LetterLaws.{least-A, least-L, least-J}
@@ -44,20 +44,20 @@ reach c k h e = reach-go (eqb c 65) (eqb c 76) k (λ f. least-A c k h (eqb-true 
 module _ {s : Sender} {l : List ℕ} {k : ℕ} (o : IsWhole s l k) where
   pub fields-reach : hasFields (letterOf l) ≡ true → sessionAt (letterOf l) + 30 ≤ k
   fields-reach e =
-      let h = reach (letterOf l) (lengthOf l - 1) (o .allowed) e in
+      let h = reach (letterOf l) (packetLength l - 1) (o .allowed) e in
       let a = o .size in
       let b = o .head in
       omega arith
 
   pub login-reach : letterOf l ≡ 76 → 49 ≤ k
   login-reach e =
-      let h = least-L (letterOf l) (lengthOf l - 1) (o .allowed) e in
+      let h = least-L (letterOf l) (packetLength l - 1) (o .allowed) e in
       let a = o .size in
       omega arith
 
   pub reason-reach : letterOf l ≡ 74 → 4 ≤ k
   reason-reach e =
-      let h = least-J (letterOf l) (lengthOf l - 1) (o .allowed) e in
+      let h = least-J (letterOf l) (packetLength l - 1) (o .allowed) e in
       let a = o .size in
       omega arith
 
@@ -82,7 +82,7 @@ module _ (c : ℕ) (l m : List ℕ) (h : hasFields c ≡ true → sessionAt c + 
   unfolding numberBytes
   number-stays = same-choice (hasFields c) (λ e. let f = h e in part-stays l m (sessionAt c + 10) 20 (omega arith)) (λ e. refl)
 
-reason-stays : (c a b : ℕ) (ok : Bool) (w : Words Reading) → (c ≡ 74 → a ≡ b) → fieldsAt c a ok w ≡ fieldsAt c b ok w
+reason-stays : (c a b : ℕ) (ok : Bool) (w : Words NumberKind) → (c ≡ 74 → a ≡ b) → fieldsAt c a ok w ≡ fieldsAt c b ok w
 unfolding fieldsAt
 reason-stays c a b ok w f =
     same-choice (hasFields c) (λ e. refl) (λ e. same-choice (eqb c 74) (λ g. ap reasonFields (f (eqb-true _ _ g))) (λ g. refl))
@@ -145,19 +145,19 @@ module _ (s : Sender) (l : List ℕ) (t : PacketKind) (k : ℕ) (vs : List ℕ) 
 
 -- ---- the front
 
-Same : List ℕ → List ℕ → Words Heading → Type 0
+Same : List ℕ → List ℕ → Words HeadKind → Type 0
 Same l m w = frontAt (l ++ m) (w .which) (w .refusal) (w .values) ≡ frontAt l (w .which) (w .refusal) (w .values)
 
 front-same : (s : Sender) (l m : List ℕ) → Same l m (headOf s l)
 unfolding Same frontAt
 front-same s l m =
     head-cases s l (Same l m) (λ a. refl) (λ a b. refl) (λ a b c. refl) (λ a b. refl) (λ a b c d. refl) (λ a b c d e. refl) (λ h f. refl)
-    (λ h f. rw (fields-stay s l m (lengthOf l + 2) (head-in-whole s l (lengthOf l + 2) h f refl)) refl)
+    (λ h f. rw (fields-stay s l m (packetLength l + 2) (head-in-whole s l (packetLength l + 2) h f refl)) refl)
 
 pub stable : Stable
 unfolding Stable frontOf Same frontAt
 stable s l m z =
-    rw (head-stays s l m (λ e. z (ap (λ (c : Case Heading). frontAt l c (headOf s l .refusal) (headOf s l .values) .which) e)))
+    rw (head-stays s l m (λ e. z (ap (λ (c : Case HeadKind). frontAt l c (headOf s l .refusal) (headOf s l .values) .which) e)))
     (front-same s l m)
 
 stable-bytes : StableBytes

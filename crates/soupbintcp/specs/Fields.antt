@@ -4,12 +4,13 @@ use mathlib.Core.List.{List, [], _∷_}
 use mathlib.Core.Bool.{Bool, true, not}
 use lib.ListN.{getD, take, drop}
 use lib.Dec.{eqb}
+use Rattle.wire.specs.Text.{letter}
 use Rattle.wire.specs.Choice.{if_then_else_}
 use Rattle.wire.specs.Bounds.{leastNumber, sessionSize}
 use Rattle.wire.specs.Words.{Words, Case, answer, refused, says}
 use Rattle.text_fields.specs.Session.{goodSession}
 use Rattle.text_fields.specs.Sound.{usernameSize, passwordSize}
-use Rattle.text_fields.specs.Number.{Reading, value, bad, numberFieldSize, numberOf}
+use Rattle.text_fields.specs.Number.{NumberKind, value, bad, numberFieldSize, readNumber}
 use Rattle.soupbintcp.specs.declared.fields.Fields.{Fields}
 use Rattle.soupbintcp.specs.declared.fields.Fields.the-variants.{Good, Bad}
 use Rattle.soupbintcp.specs.Letters.{PacketKind, accepted, rejected, login, packetKind, packetValues, letterAccepted, letterRejected, letterLogin, plainOf}
@@ -43,11 +44,11 @@ unfoldable pub leastNumberOf : ℕ → ℕ
 leastNumberOf c = if eqb c letterAccepted then leastNumber else 0
 
 -- what the fields make: a packet of a kind, or one of them is bad
-pub data Fielding : Type 0 where
-  good : PacketKind → Fielding
-  bad-field : Fielding
+pub data FieldsKind : Type 0 where
+  good : PacketKind → FieldsKind
+  bad-field : FieldsKind
 
-unfoldable pub fieldsWords : Fields → Words Fielding
+unfoldable pub fieldsWords : Fields → Words FieldsKind
 fieldsWords (Good p) = says (good (packetKind p)) (packetValues p)
 fieldsWords Bad = says bad-field []
 
@@ -55,38 +56,38 @@ unfoldable pub numberedOf : ℕ → PacketKind
 numberedOf c = if eqb c letterAccepted then accepted else login
 
 -- a number that was read
-unfoldable pub numberFields : ℕ → Case Reading → List ℕ → Words Fielding
+unfoldable pub numberFields : ℕ → Case NumberKind → List ℕ → Words FieldsKind
 numberFields c (answer value) vs = says (good (numberedOf c)) (getD vs 0 0 ∷ [])
 numberFields c (answer bad) vs = says bad-field []
 numberFields c refused vs = says bad-field []
 
 -- A and L: the session is good, and so is the number; the session is looked at first
-unfoldable pub withNumber : ℕ → Bool → Words Reading → Words Fielding
+unfoldable pub withNumber : ℕ → Bool → Words NumberKind → Words FieldsKind
 withNumber c ok w = if ok then numberFields c (w .which) (w .values) else says bad-field []
 
 -- the reasons of J: `A` for the account, `S` for the session or the number
 abbrev pub notAuthorized : ℕ
-notAuthorized = 65
+notAuthorized = letter "A"
 
 abbrev pub sessionNotAvailable : ℕ
-sessionNotAvailable = 83
+sessionNotAvailable = letter "S"
 
 unfoldable pub goodReason : ℕ → Bool
 goodReason b = if eqb b notAuthorized then true else eqb b sessionNotAvailable
 
 -- J: the reason is good
-unfoldable pub reasonFields : ℕ → Words Fielding
+unfoldable pub reasonFields : ℕ → Words FieldsKind
 reasonFields b = if goodReason b then says (good rejected) (b ∷ []) else says bad-field []
 
 -- by the letter
-unfoldable pub fieldsAt : ℕ → ℕ → Bool → Words Reading → Words Fielding
+unfoldable pub fieldsAt : ℕ → ℕ → Bool → Words NumberKind → Words FieldsKind
 fieldsAt c reason ok w =
     if hasFields c then withNumber c ok w
     else if eqb c letterRejected then reasonFields reason
     else says (good (plainOf c)) []
 
 -- those of the packet in front of l
-unfoldable pub fieldsOf : List ℕ → Words Fielding
+unfoldable pub fieldsOf : List ℕ → Words FieldsKind
 fieldsOf l =
     fieldsAt (letterOf l) (getD l headSize 0) (goodSession (blankAllowed (letterOf l)) (sessionBytes (letterOf l) l))
-    (numberOf (leastNumberOf (letterOf l)) (numberBytes (letterOf l) l))
+    (readNumber (leastNumberOf (letterOf l)) (numberBytes (letterOf l) l))

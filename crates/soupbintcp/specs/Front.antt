@@ -11,40 +11,40 @@ use Rattle.soupbintcp.specs.declared.packet.Sender.{Sender}
 use Rattle.soupbintcp.specs.declared.front.Front.{Front}
 use Rattle.soupbintcp.specs.declared.front.Front.the-variants.{Whole, NeedMore, Refused}
 use Rattle.soupbintcp.specs.Letters.{PacketKind, packetKind, packetValues, letterLogin, letterFor}
-use Rattle.soupbintcp.specs.Head.{headSize, Heading, whole, need-more, headOf, letterOf}
-use Rattle.soupbintcp.specs.Fields.{Fielding, good, bad-field, fieldsOf, sessionBytes}
+use Rattle.soupbintcp.specs.Head.{headSize, HeadKind, whole, need-more, headOf, letterOf}
+use Rattle.soupbintcp.specs.Fields.{FieldsKind, good, bad-field, fieldsOf, sessionBytes}
 use Rattle.text_fields.specs.Sound.{usernameSize, passwordSize}
 
 -- what it can be, but for a refusal
-pub data Fronting : Type 0 where
-  packet : PacketKind → Fronting
-  wants-more : Fronting
+pub data FrontKind : Type 0 where
+  packet : PacketKind → FrontKind
+  wants-more : FrontKind
 
 -- a packet says its size, and then its values
-unfoldable pub frontWords : Front → Words Fronting
+unfoldable pub frontWords : Front → Words FrontKind
 frontWords (Whole p size) = says (packet (packetKind p)) (size ∷ packetValues p)
 frontWords NeedMore = says wants-more []
 frontWords (Refused r) = refusedWords r
 
 -- a whole packet of this size, by its fields
-unfoldable pub packetOf : ℕ → Case Fielding → List ℕ → Words Fronting
-packetOf size (answer (good k)) vs = says (packet k) (size ∷ vs)
-packetOf size (answer bad-field) vs = refuses fieldBad
-packetOf size refused vs = refuses fieldBad
+unfoldable pub frontPacket : ℕ → Case FieldsKind → List ℕ → Words FrontKind
+frontPacket size (answer (good k)) vs = says (packet k) (size ∷ vs)
+frontPacket size (answer bad-field) vs = refuses fieldBad
+frontPacket size refused vs = refuses fieldBad
 
 -- the head, and where it is whole the fields
-unfoldable pub frontAt : List ℕ → Case Heading → ℕ → List ℕ → Words Fronting
-frontAt l (answer whole) r vs = packetOf (getD vs 0 0) (fieldsOf l .which) (fieldsOf l .values)
+unfoldable pub frontAt : List ℕ → Case HeadKind → ℕ → List ℕ → Words FrontKind
+frontAt l (answer whole) r vs = frontPacket (getD vs 0 0) (fieldsOf l .which) (fieldsOf l .values)
 frontAt l (answer need-more) r vs = says wants-more []
 frontAt l refused r vs = refuses r
 
-unfoldable pub frontOf : Sender → List ℕ → Words Fronting
+unfoldable pub frontOf : Sender → List ℕ → Words FrontKind
 frontOf s l = frontAt l (headOf s l .which) (headOf s l .refusal) (headOf s l .values)
 
 -- ---- parts
 
 -- the bytes of the packet in front: none where there is no packet
-unfoldable pub packetAt : Case Fronting → List ℕ → List ℕ → List ℕ
+unfoldable pub packetAt : Case FrontKind → List ℕ → List ℕ → List ℕ
 packetAt (answer (packet k)) vs l = take (getD vs 0 0) l
 packetAt (answer wants-more) vs l = []
 packetAt refused vs l = []

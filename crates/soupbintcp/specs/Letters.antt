@@ -3,6 +3,7 @@ use Prim.Native.Nat.{ℕ, _+_}
 use mathlib.Core.List.{List, [], _∷_}
 use mathlib.Core.Bool.{Bool, true, false}
 use lib.Dec.{ltb, leb, eqb}
+use Rattle.wire.specs.Text.{letter}
 use Rattle.wire.specs.Choice.{if_then_else_}
 use Rattle.wire.specs.Bounds.{sessionSize}
 use Rattle.text_fields.specs.Number.{numberFieldSize}
@@ -45,34 +46,34 @@ packetValues Logout = []
 -- ---- the letters
 
 abbrev pub letterDebug : ℕ
-letterDebug = 43
+letterDebug = letter "+"
 
 abbrev pub letterAccepted : ℕ
-letterAccepted = 65
+letterAccepted = letter "A"
 
 abbrev pub letterRejected : ℕ
-letterRejected = 74
+letterRejected = letter "J"
 
 abbrev pub letterSequenced : ℕ
-letterSequenced = 83
+letterSequenced = letter "S"
 
 abbrev pub letterServerHeartbeat : ℕ
-letterServerHeartbeat = 72
+letterServerHeartbeat = letter "H"
 
 abbrev pub letterEnd : ℕ
-letterEnd = 90
+letterEnd = letter "Z"
 
 abbrev pub letterLogin : ℕ
-letterLogin = 76
+letterLogin = letter "L"
 
 abbrev pub letterUnsequenced : ℕ
-letterUnsequenced = 85
+letterUnsequenced = letter "U"
 
 abbrev pub letterClientHeartbeat : ℕ
-letterClientHeartbeat = 82
+letterClientHeartbeat = letter "R"
 
 abbrev pub letterLogout : ℕ
-letterLogout = 79
+letterLogout = letter "O"
 
 unfoldable pub letterFor : PacketKind → ℕ
 letterFor debug = letterDebug
@@ -106,8 +107,8 @@ loginPayloadSize = usernameSize + passwordSize + sessionSize + numberFieldSize
 abbrev pub row : Bool → Bool → ℕ → ℕ → Row
 row server client least most = record { server = server; client = client; least = least; most = most }
 
-unfoldable pub rowOf : ℕ → Row
-rowOf c =
+unfoldable pub letterRow : ℕ → Row
+letterRow c =
     if eqb c letterDebug then row true true 0 mostPayload
     else if eqb c letterAccepted then row true false acceptedPayloadSize acceptedPayloadSize
     else if eqb c letterRejected then row true false rejectedPayloadSize rejectedPayloadSize
@@ -121,12 +122,12 @@ rowOf c =
     else row false false 0 0
 
 unfoldable pub sends : Sender → ℕ → Bool
-sends Server c = rowOf c .server
-sends Client c = rowOf c .client
+sends Server c = letterRow c .server
+sends Client c = letterRow c .client
 
 -- a payload of k bytes has a length that is right for the letter
 unfoldable pub allows : ℕ → ℕ → Bool
-allows c k = if ltb k (rowOf c .least) then false else leb k (rowOf c .most)
+allows c k = if ltb k (letterRow c .least) then false else leb k (letterRow c .most)
 
 -- the letters that say all: S H Z U R O, and else +
 unfoldable pub plainOf : ℕ → PacketKind

@@ -8,13 +8,13 @@ use Rattle.soupbintcp.specs.declared.packet.Sender.{Sender}
 use Rattle.soupbintcp.specs.declared.scan.Stop.{Stop}
 use Rattle.soupbintcp.specs.declared.scan.Stop.the-variants.{NeedMore, Refused}
 use Rattle.soupbintcp.specs.declared.scan.Scanned.{Scanned}
-use Rattle.soupbintcp.specs.Front.{Fronting, packet, wants-more, frontOf}
+use Rattle.soupbintcp.specs.Front.{FrontKind, packet, wants-more, frontOf}
 
 -- what stopped it, but for a refusal of the packet there
-pub data Stopping : Type 0 where
-  stopped-short : Stopping
+pub data StopKind : Type 0 where
+  stopped-short : StopKind
 
-unfoldable pub stopWords : Stop → Words Stopping
+unfoldable pub stopWords : Stop → Words StopKind
 stopWords NeedMore = says stopped-short []
 stopWords (Refused r) = refusedWords r
 
@@ -26,16 +26,16 @@ StopsApart = Injective stopWords
 pub record Scan : Type 0 where
   pub packets : ℕ
   pub bytes : ℕ
-  pub stop : Words Stopping
+  pub stop : Words StopKind
 
-abbrev pub stops : Words Stopping → Scan
+abbrev pub stops : Words StopKind → Scan
 stops w = record { packets = 0; bytes = 0; stop = w }
 
 -- a packet of so many bytes, and what is scanned after it
 abbrev pub behind : ℕ → Scan → Scan
 behind size x = record { packets = 1 + x .packets; bytes = size + x .bytes; stop = x .stop }
 
-unfoldable pub scanAt : Case Fronting → ℕ → ℕ → (ℕ → Scan) → Scan
+unfoldable pub scanAt : Case FrontKind → ℕ → ℕ → (ℕ → Scan) → Scan
 scanAt (answer (packet k)) r size rest = behind size (rest size)
 scanAt (answer wants-more) r size rest = stops (says stopped-short [])
 scanAt refused r size rest = stops (refuses r)
@@ -52,7 +52,7 @@ scanOf s l = scanUpTo s (length l) l
 -- ---- what is promised
 
 -- what stops a scan, by the front of the stream there: need more, or the same refusal
-pub data StopsBy : Words Fronting → Words Stopping → Type 0 where
+pub data StopsBy : Words FrontKind → Words StopKind → Type 0 where
   by-short : StopsBy (says wants-more []) (says stopped-short [])
   by-refusal : (r : ℕ) → StopsBy (refuses r) (refuses r)
 

@@ -1,13 +1,13 @@
 // The fields of a packet that is there whole, by its letter.
 use crate::packet;
 use crate::packet::HEAD_SIZE;
-use crate::packet::LENGTH_SIZE;
 use crate::packet::LOGIN_SESSION_AT;
 use crate::packet::Packet;
 use text_fields::number::NUMBER_FIELD_SIZE;
 use text_fields::number::Number;
 use wire::kinds::ByteOffset;
 use wire::kinds::LEAST_NUMBER;
+use wire::kinds::LENGTH_SIZE;
 use wire::kinds::SESSION_SIZE;
 use wire::kinds::SequenceNumber;
 use wire::parts;

@@ -1,10 +1,10 @@
 // The front of a stream as far as its length and letter tell: 21 to 24, need more, or a whole packet.
 use crate::letters;
 use crate::packet::HEAD_SIZE;
-use crate::packet::LENGTH_SIZE;
 use crate::packet::MOST_PAYLOAD;
 use crate::packet::Sender;
 use wire::kinds::ByteOffset;
+use wire::kinds::LENGTH_SIZE;
 use wire::number;
 use wire::refusal;
 use wire::refusal::Refusal;

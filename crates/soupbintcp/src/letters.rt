@@ -5,7 +5,7 @@ use crate::packet::MOST_PAYLOAD;
 use crate::packet::REJECTED_PAYLOAD;
 use crate::packet::Sender;
 ghost use mathlib.Core.Path.{_≡_};
-ghost use Rattle.soupbintcp.specs.Letters.{row, rowOf, sends, allows};
+ghost use Rattle.soupbintcp.specs.Letters.{row, letterRow, sends, allows};
 
 // A row: who sends the letter, and the fewest and most bytes of its payload.
 pub struct Row {
@@ -29,7 +29,7 @@ fn line(server: bool, client: bool, least: usize, most: usize) -> Row
 
 // The table. A letter that nobody sends has a row of its own.
 fn row_of(letter: u8) -> Row
-    ensures { λ r. ⌜ r ≡ rowOf letter ⌝ }
+    ensures { λ r. ⌜ r ≡ letterRow letter ⌝ }
 {
     match letter {
         b'+' => line(true, true, 0, MOST_PAYLOAD),

@@ -3,6 +3,7 @@ use text_fields::number::NUMBER_FIELD_SIZE;
 use text_fields::sound::PASSWORD_SIZE;
 use text_fields::sound::USERNAME_SIZE;
 use wire::kinds::ByteOffset;
+use wire::kinds::LENGTH_SIZE;
 use wire::kinds::SESSION_SIZE;
 use wire::kinds::SequenceNumber;
 ghost use mathlib.Core.Path.{_≡_};
@@ -36,11 +37,8 @@ pub const REJECTED_PAYLOAD: usize = 1;
 
 pub const LOGIN_PAYLOAD: usize = USERNAME_SIZE + PASSWORD_SIZE + SESSION_SIZE + NUMBER_FIELD_SIZE;
 
-// Bytes before the payload: the length and the letter.
-pub const HEAD_SIZE: usize = 3;
-
-// Bytes of the length, which counts all but itself.
-pub const LENGTH_SIZE: usize = 2;
+// Bytes before the payload: the length, which counts all but itself, and the letter.
+pub const HEAD_SIZE: usize = LENGTH_SIZE + 1;
 
 // Where the fields of L stand after its username.
 pub const LOGIN_PASSWORD_AT: ByteOffset = ByteOffset(HEAD_SIZE + USERNAME_SIZE);

@@ -18,7 +18,7 @@ use Rattle.soupbintcp.specs.Front as front
 use Rattle.soupbintcp.proofs.LetterLaws.{choice}
 use Rattle.soupbintcp.proofs.KindLaws.{its-letter}
 use Rattle.soupbintcp.proofs.ScanLaws.{FrontIs, stops-short, stops-at, passes, front-is}
-use Rattle.soupbintcp_session.specs.Answer.{Reply, wants-more, accepted, rejected, sequenced, heartbeat, debug, end-of-session, messageAt, Outcome, stays, takes}
+use Rattle.soupbintcp_session.specs.Answer.{SessionAnswerKind, wants-more, accepted, rejected, sequenced, heartbeat, debug, end-of-session, answerMessageAt, StepOutcome, stays, takes}
 use Rattle.soupbintcp_session.proofs.FrontCases.{apart, InFront, front-stays, session-stays, Plain, a-rejection, a-heartbeat, a-debug, an-end, plain-takes, accepted-takes, sequenced-takes, plain-not-sequenced}
 use Rattle.soupbintcp_session.proofs.StepLaws.{Rests, waits, refusing, Does}
 use Rattle.soupbintcp_session.proofs.StepLaws as does
@@ -28,14 +28,14 @@ use Rattle.soupbintcp_client.specs.declared.client.ClientState.the-varia
 use Rattle.soupbintcp_client.specs.declared.client.Client.{Client}
 use Rattle.soupbintcp_client.specs.Client.{client, becomes, sessionAsked, numberAsked, acceptedRow, sequencedRow, askedRow, inRow, rowAt, clientRow, frontRow, clientStep}
 
-pub data ClientDoes (c : Client) (l : List ℕ) (o : Outcome Client) : Type 0 where
-  rests : (w : Words Reply) → Rests w → o ≡ stays c w → ClientDoes c l o
+pub data ClientDoes (c : Client) (l : List ℕ) (o : StepOutcome Client) : Type 0 where
+  rests : (w : Words SessionAnswerKind) → Rests w → o ≡ stays c w → ClientDoes c l o
   logs-in : (k : ℕ) (vs name : List ℕ) → InFront Server l k vs → letterOf l ≡ 65 → c .state ≡ Asked
       → sessionAsked (c .session) (sessionOf Server l) ≡ true → numberAsked (c .number .0) (getD vs 0 0) ≡ true
       → o ≡ takes k (says accepted (getD vs 0 0 ∷ [])) (client name (getD vs 0 0) In) → ClientDoes c l o
   hands-up : (k : ℕ) (vs : List ℕ) → InFront Server l k vs → letterOf l ≡ 83 → c .state ≡ In
       → o ≡ takes k (says sequenced (c .number .0 ∷ 3 ∷ (k - 3) ∷ [])) (client (c .session) (c .number .0 + 1) In) → ClientDoes c l o
-  goes-by : (k : ℕ) (vs : List ℕ) (w : Words Reply) (t : ClientState) → InFront Server l k vs → (letterOf l ≡ 65 → ⊥) → (letterOf l ≡ 83 → ⊥)
+  goes-by : (k : ℕ) (vs : List ℕ) (w : Words SessionAnswerKind) (t : ClientState) → InFront Server l k vs → (letterOf l ≡ 65 → ⊥) → (letterOf l ≡ 83 → ⊥)
       → Plain (w .which) → ((c .state ≡ Asked → ⊥) → t ≡ Asked → ⊥) → o ≡ takes k w (becomes c t) → ClientDoes c l o
 
 -- ---- the states that aren't asked
@@ -52,7 +52,7 @@ ended-apart e = let z : _≡_ {A = ℕ} 0 1 = cc in omega arith
 -- ---- the rows
 
 module _ (c : Client) (l : List ℕ) (k : ℕ) (vs : List ℕ) (i : InFront Server l k vs) where
-  abbrev D : Outcome Client → Type 0
+  abbrev D : StepOutcome Client → Type 0
   D = ClientDoes c l
 
   refuses-it : (r : ℕ) → D (stays c (refuses r))
@@ -126,8 +126,8 @@ module _ (c : Client) (l : List ℕ) where
 
 -- ---- so it rests or moves, and a run of its steps is steady
 
-client-moves : (c : Client) (l : List ℕ) (o : Outcome Client) → ClientDoes c l o → Does c l Server sequenced o
-unfolding messageAt
+client-moves : (c : Client) (l : List ℕ) (o : StepOutcome Client) → ClientDoes c l o → Does c l Server sequenced o
+unfolding answerMessageAt
 client-moves c l o (rests w n e) = does.rests w n e
 client-moves c l o (logs-in k vs name i a q x y e) =
     does.moves k vs (says accepted (getD vs 0 0 ∷ [])) (client name (getD vs 0 0) In) i accepted-takes (λ z. absurd (not-so z)) e

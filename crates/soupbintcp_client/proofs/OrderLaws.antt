@@ -13,7 +13,7 @@ use Rattle.soupbintcp.specs.Head.{letterOf}
 use Rattle.soupbintcp.specs.Front.{frontOf}
 use Rattle.soupbintcp.proofs.FrontLaws.{said-packet}
 use Rattle.soupbintcp.proofs.StableLaws.{own-letter}
-use Rattle.soupbintcp_session.specs.Answer.{Reply, accepted, sequenced, messageAt, Outcome}
+use Rattle.soupbintcp_session.specs.Answer.{SessionAnswerKind, accepted, sequenced, answerMessageAt, StepOutcome}
 use Rattle.soupbintcp_session.specs.Stream.{Taking, Run, stopped, then-run, run, packetsOf}
 use Rattle.soupbintcp_session.proofs.PacketLaws.{own-front}
 use Rattle.soupbintcp_session.proofs.FrontCases.{apart, InFront, Plain, a-rejection, a-heartbeat, a-debug, a-logout, an-end}
@@ -45,7 +45,7 @@ module _ (p : List ℕ) (ps : List (List ℕ)) where
   no-A n e = rw (ne-eqb _ _ e) refl
 
 -- a plain answer hands up no message
-plain-quiet : (w : Case Reply) → Plain w → isSequenced w ≡ false
+plain-quiet : (w : Case SessionAnswerKind) → Plain w → isSequenced w ≡ false
 unfolding isSequenced
 plain-quiet w a-rejection = refl
 plain-quiet w a-heartbeat = refl
@@ -54,14 +54,14 @@ plain-quiet w a-logout = refl
 plain-quiet w an-end = refl
 
 -- a step that hands up nothing
-handed-none : (b : List ℕ) (w : Words Reply) (xs : List Taking) → isSequenced (w .which) ≡ false → handedUp (record { bytes = b; reply = w } ∷ xs) ≡ handedUp xs
+handed-none : (b : List ℕ) (w : Words SessionAnswerKind) (xs : List Taking) → isSequenced (w .which) ≡ false → handedUp (record { bytes = b; reply = w } ∷ xs) ≡ handedUp xs
 unfolding handedUp
 handed-none b w xs e = rw e refl
 
 -- a step that hands up what stands behind the head
 handed-one : (b : List ℕ) (n k : ℕ) (xs : List Taking) → length b ≡ k
     → handedUp (record { bytes = b; reply = says sequenced (n ∷ 3 ∷ (k - 3) ∷ []) } ∷ xs) ≡ record { number = n; message = drop 3 b } ∷ handedUp xs
-unfolding handedUp isSequenced messageAt
+unfolding handedUp isSequenced answerMessageAt
 handed-one b n k xs e =
     let d = length-drop 3 b in
     let f : take (k - 3) (drop 3 b) ≡ drop 3 b = take-all (k - 3) (drop 3 b) (omega arith) in
@@ -124,7 +124,7 @@ module _ (c : Client) (l : List ℕ) (k : ℕ) (vs : List ℕ) (i : InFront Serv
         no-login = λ z. y;
       }
 
-  by-other : (m : Client) (w : Words Reply) → (letterOf l ≡ 65 → ⊥) → (letterOf l ≡ 83 → ⊥) → Plain (w .which) → m .number .0 ≡ c .number .0
+  by-other : (m : Client) (w : Words SessionAnswerKind) → (letterOf l ≡ 65 → ⊥) → (letterOf l ≡ 83 → ⊥) → Plain (w .which) → m .number .0 ≡ c .number .0
       → ((c .state ≡ Asked → ⊥) → m .state ≡ Asked → ⊥) → Ordered m (drop k l) r → Ordered c l (then-run (record { bytes = take k l; reply = w }) r)
   unfolding packetsOf
   by-other m w a s pl e f o =
@@ -141,7 +141,7 @@ module _ (c : Client) (l : List ℕ) (k : ℕ) (vs : List ℕ) (i : InFront Serv
 
 module _ (c : Client) (l : List ℕ) (k : ℕ) (r : Run Client) where
   -- o is what the step does
-  by-step : (o : Outcome Client) → ClientDoes c l o → o .size ≡ suc k → Ordered (o .after) (drop (suc k) l) r
+  by-step : (o : StepOutcome Client) → ClientDoes c l o → o .size ≡ suc k → Ordered (o .after) (drop (suc k) l) r
       → Ordered c l (then-run (record { bytes = take (suc k) l; reply = o .reply }) r)
   by-step o (rests w n e) z h = let y : 0 ≡ suc k = rw e at z in absurd (omega arith)
   by-step o (logs-in n vs name i a q x y e) z h =

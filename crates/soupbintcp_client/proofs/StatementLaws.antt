@@ -17,7 +17,7 @@ use Rattle.soupbintcp.specs.declared.packet.Sender.the-variants.{Server}
 use Rattle.soupbintcp.specs.Letters.{accepted, sequenced, letterFor}
 use Rattle.soupbintcp.specs.Fields.{hasFields}
 use Rattle.soupbintcp.specs.Front.{sessionOf}
-use Rattle.soupbintcp_session.specs.Answer.{Outcome, stays, takes}
+use Rattle.soupbintcp_session.specs.Answer.{StepOutcome, stays, takes}
 use Rattle.soupbintcp_session.specs.Answer as reply
 use Rattle.soupbintcp_session.proofs.FrontCases.{numbered-in-front, accepted-takes, sequenced-takes, plain-not-accepted}
 use Rattle.soupbintcp_session.proofs.StepLaws.{never-rests, changes-nothing, takes-packets, hands-up}
@@ -100,7 +100,7 @@ module _ (c : Client) (l : List ℕ) (size n : ℕ) (q : c .state ≡ Asked) (e 
 sequenced-apart : answer reply.sequenced ≡ answer reply.accepted → ⊥
 sequenced-apart e = let z : _≡_ {A = ℕ} 0 1 = cc in omega arith
 
-accepts-A : (c : Client) (l : List ℕ) (o : Outcome Client) → ClientDoes c l o → o .reply .which ≡ answer reply.accepted → AcceptsA c l
+accepts-A : (c : Client) (l : List ℕ) (o : StepOutcome Client) → ClientDoes c l o → o .reply .which ≡ answer reply.accepted → AcceptsA c l
 unfolding letterFor hasFields
 accepts-A c l o (cases.rests w n e) z = absurd (never-rests w n reply.accepted accepted-takes (rw e at z))
 accepts-A c l o (cases.logs-in k vs name i a q x y e) z =

@@ -15,8 +15,8 @@ use Rattle.text_fields.specs.Session.{goodSession}
 use Rattle.soupbintcp.specs.declared.packet.Sender.the-variants.{Server}
 use Rattle.soupbintcp.specs.Letters.{letterDebug, letterAccepted, letterRejected, letterSequenced, letterServerHeartbeat, letterEnd, letterFor}
 use Rattle.soupbintcp.specs.Head.{headSize}
-use Rattle.soupbintcp.specs.Front.{Fronting, packet, wants-more, frontOf, sessionOf}
-use Rattle.soupbintcp_session.specs.Answer.{accepted, rejected, sequenced, heartbeat, debug, end-of-session, answerWords, Outcome, stays, takes}
+use Rattle.soupbintcp.specs.Front.{FrontKind, packet, wants-more, frontOf, sessionOf}
+use Rattle.soupbintcp_session.specs.Answer.{accepted, rejected, sequenced, heartbeat, debug, end-of-session, sessionAnswerWords, StepOutcome, stays, takes}
 use Rattle.soupbintcp_session.specs.Answer as reply
 use Rattle.soupbintcp_client.specs.declared.client.ClientState.{ClientState}
 use Rattle.soupbintcp_client.specs.declared.client.ClientState.the-variants.{Asked, In, Ended, Closed}
@@ -38,8 +38,8 @@ abbrev pub leastAsked : ℕ
 leastAsked = 0
 
 -- 19 where the session isn't one as in L; every number is good
-unfoldable pub startRefusal : List ℕ → ℕ → ℕ
-startRefusal name n =
+unfoldable pub clientStartRefusal : List ℕ → ℕ → ℕ
+clientStartRefusal name n =
     if goodSession true name
     then (if ltb n leastAsked then badSetting else if ltb largestNumber n then badSetting else 0)
     else badSetting
@@ -49,7 +49,7 @@ abbrev pub refusedClient : Client
 refusedClient = client blank 1 Closed
 
 unfoldable pub startClient : List ℕ → ℕ → Client
-startClient name n = if eqb (startRefusal name n) 0 then client name n Asked else refusedClient
+startClient name n = if eqb (clientStartRefusal name n) 0 then client name n Asked else refusedClient
 
 -- ---- the table: a packet of this size and letter
 
@@ -62,20 +62,20 @@ unfoldable pub numberAsked : ℕ → ℕ → Bool
 numberAsked asked given = if eqb asked 0 then true else eqb given asked
 
 -- A: session and number come from it; 33 where it doesn't match what was asked
-unfoldable pub acceptedRow : Client → ℕ → List ℕ → ℕ → Outcome Client
+unfoldable pub acceptedRow : Client → ℕ → List ℕ → ℕ → StepOutcome Client
 acceptedRow c size given n =
     if sessionAsked (c .session) given
     then (if numberAsked (c .number .0) n then takes size (says accepted (n ∷ [])) (client (firstBytes sessionSize given) n In) else stays c (refuses loginNotAsked))
     else stays c (refuses loginNotAsked)
 
 -- S: message n, then n + 1; 34 where n is 2^64 - 1
-unfoldable pub sequencedRow : Client → ℕ → Outcome Client
+unfoldable pub sequencedRow : Client → ℕ → StepOutcome Client
 sequencedRow c size =
     if eqb (c .number .0) largestNumber then stays c (refuses numbersUsedUp)
     else takes size (says sequenced (c .number .0 ∷ headSize ∷ (size - headSize) ∷ [])) (client (c .session) (c .number .0 + 1) In)
 
 -- asked takes A, J and +; vs are the packet's values, and given is its session
-unfoldable pub askedRow : Client → ℕ → ℕ → List ℕ → List ℕ → Outcome Client
+unfoldable pub askedRow : Client → ℕ → ℕ → List ℕ → List ℕ → StepOutcome Client
 askedRow c size letter vs given =
     if eqb letter letterAccepted then acceptedRow c size given (getD vs 0 0)
     else if eqb letter letterRejected then takes size (says rejected vs) (becomes c Closed)
@@ -83,7 +83,7 @@ askedRow c size letter vs given =
     else stays c (refuses packetNotTaken)
 
 -- in takes S, H, + and Z
-unfoldable pub inRow : Client → ℕ → ℕ → Outcome Client
+unfoldable pub inRow : Client → ℕ → ℕ → StepOutcome Client
 inRow c size letter =
     if eqb letter letterSequenced then sequencedRow c size
     else if eqb letter letterServerHeartbeat then takes size (says heartbeat []) (becomes c In)
@@ -91,28 +91,28 @@ inRow c size letter =
     else if eqb letter letterEnd then takes size (says end-of-session []) (becomes c Ended)
     else stays c (refuses packetNotTaken)
 
-unfoldable pub rowAt : ClientState → Client → ℕ → ℕ → List ℕ → List ℕ → Outcome Client
+unfoldable pub rowAt : ClientState → Client → ℕ → ℕ → List ℕ → List ℕ → StepOutcome Client
 rowAt Asked c size letter vs given = askedRow c size letter vs given
 rowAt In c size letter vs given = inRow c size letter
 rowAt Ended c size letter vs given = stays c (refuses stateClosed)
 rowAt Closed c size letter vs given = stays c (refuses stateClosed)
 
-abbrev pub clientRow : Client → ℕ → ℕ → List ℕ → List ℕ → Outcome Client
+abbrev pub clientRow : Client → ℕ → ℕ → List ℕ → List ℕ → StepOutcome Client
 clientRow c size letter vs given = rowAt (c .state) c size letter vs given
 
 -- ---- a step, over the front of a stream l
 
 -- need more and a refusal change nothing
-unfoldable pub frontRow : Client → List ℕ → Case Fronting → ℕ → List ℕ → Outcome Client
+unfoldable pub frontRow : Client → List ℕ → Case FrontKind → ℕ → List ℕ → StepOutcome Client
 frontRow c given (answer (packet p)) r vs = clientRow c (getD vs 0 0) (letterFor p) (drop 1 vs) given
 frontRow c given (answer wants-more) r vs = stays c (says reply.wants-more [])
 frontRow c given refused r vs = stays c (refuses r)
 
-unfoldable pub clientStep : Client → List ℕ → Outcome Client
+unfoldable pub clientStep : Client → List ℕ → StepOutcome Client
 clientStep c l = frontRow c (sessionOf Server l) (frontOf Server l .which) (frontOf Server l .refusal) (frontOf Server l .values)
 
 -- the promise of a step that answers r
-pub record Steps (r : Stepped) (o : Outcome Client) : Type 0 where
-  pub answers : answerWords (r .answer) ≡ o .reply
+pub record ClientSteps (r : Stepped) (o : StepOutcome Client) : Type 0 where
+  pub answers : sessionAnswerWords (r .answer) ≡ o .reply
   pub size : r .size ≡ o .size
   pub leaves : r .client ≡ o .after

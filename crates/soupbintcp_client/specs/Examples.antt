@@ -3,6 +3,7 @@ use Prim.Native.Nat.{ℕ}
 use mathlib.Core.List.{List, [], _∷_, _++_}
 use mathlib.Core.Path.{_≡_}
 use lib.ListN.{replicate}
+use Rattle.wire.specs.Text.{ascii}
 use Rattle.wire.specs.Bounds.{blank}
 use Rattle.text_fields.specs.Letters.{space}
 use Rattle.soupbintcp.specs.Letters.{letterAccepted, letterSequenced, letterServerHeartbeat, letterEnd}
@@ -15,16 +16,16 @@ use Rattle.soupbintcp_client.specs.HandedUp.{numberedFrom, handedUp}
 
 -- READROOM01
 abbrev pub ours : List ℕ
-ours = 82 ∷ 69 ∷ 65 ∷ 68 ∷ 82 ∷ 79 ∷ 79 ∷ 77 ∷ 48 ∷ 49 ∷ []
+ours = ascii "READROOM01"
 
 -- S after Z is left where it is
 abbrev pub late : List ℕ
-late = shortPacket letterSequenced (99 ∷ [])
+late = shortPacket letterSequenced (ascii "c")
 
 abbrev pub stream : List ℕ
 stream =
-    shortPacket letterAccepted (ours ++ replicate 19 space ++ (55 ∷ []))
-    ++ shortPacket letterSequenced (97 ∷ [])
+    shortPacket letterAccepted (ours ++ replicate 19 space ++ (ascii "7"))
+    ++ shortPacket letterSequenced (ascii "a")
     ++ shortPacket letterServerHeartbeat []
     ++ shortPacket letterSequenced []
     ++ shortPacket letterEnd []
@@ -35,6 +36,6 @@ abbrev pub ran : Run Client
 ran = run clientStep (startClient blank 0) stream
 
 pub record ClientExample : Type 0 where
-  pub hands-up : handedUp (ran .taken) ≡ numberedFrom 7 ((97 ∷ []) ∷ [] ∷ [])
+  pub hands-up : handedUp (ran .taken) ≡ numberedFrom 7 ((ascii "a") ∷ [] ∷ [])
   pub ends : ran .after ≡ client ours 9 Ended
   pub leaves : ran .rest ≡ late

@@ -10,7 +10,7 @@ use Rattle.soupbintcp.specs.declared.packet.Sender.the-variants.{Server}
 use Rattle.soupbintcp.specs.Letters.{letterAccepted, letterSequenced}
 use Rattle.soupbintcp.specs.Head.{headSize, letterOf}
 use Rattle.soupbintcp.specs.Front.{frontOf}
-use Rattle.soupbintcp_session.specs.Answer.{Reply, wants-more, accepted, rejected, sequenced, unsequenced, heartbeat, debug, logged-out, end-of-session, messageOf}
+use Rattle.soupbintcp_session.specs.Answer.{SessionAnswerKind, wants-more, accepted, rejected, sequenced, unsequenced, heartbeat, debug, logged-out, end-of-session, answerMessage}
 use Rattle.soupbintcp_session.specs.Stream.{Taking}
 
 -- ---- what the answers hand up
@@ -25,7 +25,7 @@ numberedFrom n [] = []
 numberedFrom n (m ∷ ms) = record { number = n; message = m } ∷ numberedFrom (n + 1) ms
 
 -- whether an answer hands up a numbered message
-unfoldable pub isSequenced : Case Reply → Bool
+unfoldable pub isSequenced : Case SessionAnswerKind → Bool
 isSequenced (answer sequenced) = true
 isSequenced (answer wants-more) = false
 isSequenced (answer accepted) = false
@@ -41,7 +41,7 @@ isSequenced refused = false
 unfoldable pub handedUp : List Taking → List Numbered
 handedUp [] = []
 handedUp (x ∷ xs) =
-    if isSequenced (x .reply .which) then record { number = getD (x .reply .values) 0 0; message = messageOf (x .reply) (x .bytes) } ∷ handedUp xs
+    if isSequenced (x .reply .which) then record { number = getD (x .reply .values) 0 0; message = answerMessage (x .reply) (x .bytes) } ∷ handedUp xs
     else handedUp xs
 
 -- ---- the same from the packets alone

@@ -12,7 +12,7 @@ use Rattle.soupbintcp.specs.Head.{headSize}
 use Rattle.soupbintcp.specs.Front.{packet, frontOf, sessionOf}
 use Rattle.soupbintcp_session.specs.Answer.{accepted, sequenced, stays, takes}
 use Rattle.soupbintcp_session.specs.Stream.{Run, run, packetsOf}
-use Rattle.soupbintcp_session.specs.Statements.{ChangesNothing, TakesPackets, HandsUpPayload, AnyCutting, RunsOn}
+use Rattle.soupbintcp_session.specs.Statements.{ChangesNothing, TakesPackets, HandsUpPayload, AnyStreamCutting, RunsOn}
 use Rattle.soupbintcp_client.specs.declared.client.ClientState.the-variants.{Asked, In}
 use Rattle.soupbintcp_client.specs.declared.client.Client.{Client}
 use Rattle.soupbintcp_client.specs.Client.{client, clientStep}
@@ -76,6 +76,6 @@ pub record ClientPromises : Type 0 where
   pub takes-packets : TakesPackets Client clientStep Server
   pub hands-up-payload : HandsUpPayload Client clientStep Server sequenced
   pub runs-on : (c : Client) (l : List ℕ) → RunsOn Client clientStep c l
-  pub any-cutting : AnyCutting Client clientStep
+  pub any-cutting : AnyStreamCutting Client clientStep
   pub example : ClientExample
   pub hands-up-in-order : (c : Client) (l : List ℕ) → HandsUpInOrder c (run clientStep c l)

@@ -21,7 +21,7 @@ ghost use Rattle.soupbintcp.specs.Letters.{packetKind, packetValues, letterFor}
 ghost use Rattle.soupbintcp.specs.declared.packet.Sender.the-variants.{Server};
 ghost use Rattle.soupbintcp.specs.Head.{headSize};
 ghost use Rattle.soupbintcp.specs.Front.{sessionOf};
-ghost use Rattle.soupbintcp_client.specs.Client.{client, refusedClient, startRefusal, startClient, sessionAsked, numberAsked, Steps, acceptedRow, sequencedRow, askedRow, inRow, clientRow, clientStep};
+ghost use Rattle.soupbintcp_client.specs.Client.{client, refusedClient, clientStartRefusal, startClient, sessionAsked, numberAsked, ClientSteps, acceptedRow, sequencedRow, askedRow, inRow, clientRow, clientStep};
 ghost use Rattle.soupbintcp_client.specs.Statements.{ClientPromises};
 
 pub enum ClientState {
@@ -75,7 +75,7 @@ impl Client {
 
     // A fresh client, or the refusal 19.
     pub fn new(session: [u8; SESSION_SIZE], number: SequenceNumber) -> Started
-        ensures { λ r. ⌜ (r .refusal .number ≡ startRefusal session (number .0)) × (r .client ≡ startClient session (number .0)) ⌝ }
+        ensures { λ r. ⌜ (r .refusal .number ≡ clientStartRefusal session (number .0)) × (r .client ≡ startClient session (number .0)) ⌝ }
     {
         if !session::is_session(&session, true) {
             return refused_start();
@@ -98,7 +98,7 @@ impl Client {
 
     // Takes the front of a server's stream.
     pub fn step(self, stream: &[u8]) -> Stepped
-        ensures { λ r. ⌜ Steps r (clientStep self (now (stream .entry))) ⌝ }
+        ensures { λ r. ⌜ ClientSteps r (clientStep self (now (stream .entry))) ⌝ }
         ensures promises { λ _. ⌜ ClientPromises ⌝ }
     {
         match front::read(stream, Sender::Server) {
@@ -144,7 +144,7 @@ impl Client {
     // The row of the table for the packet in front.
     fn take(self, packet: Packet, size: usize, stream: &[u8]) -> Stepped
         requires { ⌜ headSize ≤ size ⌝ }
-        ensures { λ r. ⌜ Steps r (clientRow self size (letterFor (packetKind packet)) (packetValues packet) (sessionOf Server (now (stream .entry)))) ⌝ }
+        ensures { λ r. ⌜ ClientSteps r (clientRow self size (letterFor (packetKind packet)) (packetValues packet) (sessionOf Server (now (stream .entry)))) ⌝ }
     {
         let state = self.state;
         match state {
@@ -157,7 +157,7 @@ impl Client {
 
     // A login was asked for.
     fn take_asked(self, packet: Packet, size: usize, stream: &[u8]) -> Stepped
-        ensures { λ r. ⌜ Steps r (askedRow self size (letterFor (packetKind packet)) (packetValues packet) (sessionOf Server (now (stream .entry)))) ⌝ }
+        ensures { λ r. ⌜ ClientSteps r (askedRow self size (letterFor (packetKind packet)) (packetValues packet) (sessionOf Server (now (stream .entry)))) ⌝ }
     {
         match packet {
             Packet::Accepted { number } => {
@@ -196,7 +196,7 @@ impl Client {
 
     // A: the session and the number are taken from it.
     fn log_in(self, size: usize, given: &[u8], number: SequenceNumber) -> Stepped
-        ensures { λ r. ⌜ Steps r (acceptedRow self size (now (given .entry)) (number .0)) ⌝ }
+        ensures { λ r. ⌜ ClientSteps r (acceptedRow self size (now (given .entry)) (number .0)) ⌝ }
     {
         if !self.asked_session(given) {
             return self.stay(Answer::Refused(refusal::LOGIN_NOT_ASKED));
@@ -218,7 +218,7 @@ impl Client {
     // Logged in.
     fn take_in(self, packet: Packet, size: usize) -> Stepped
         requires { ⌜ headSize ≤ size ⌝ }
-        ensures { λ r. ⌜ Steps r (inRow self size (letterFor (packetKind packet))) ⌝ }
+        ensures { λ r. ⌜ ClientSteps r (inRow self size (letterFor (packetKind packet))) ⌝ }
     {
         match packet {
             Packet::Sequenced => self.hand_up(size),
@@ -236,7 +236,7 @@ impl Client {
     // S: message n, and then n + 1.
     fn hand_up(self, size: usize) -> Stepped
         requires { ⌜ headSize ≤ size ⌝ }
-        ensures { λ r. ⌜ Steps r (sequencedRow self size) ⌝ }
+        ensures { λ r. ⌜ ClientSteps r (sequencedRow self size) ⌝ }
     {
         let number = self.number;
         if number.0 == Client::LARGEST_NUMBER.0 {

@@ -17,9 +17,9 @@ use Rattle.soupbintcp.proofs.LetterLaws.{choice}
 use Rattle.soupbintcp.proofs.KindLaws.{its-letter}
 use Rattle.soupbintcp.proofs.ScanLaws.{FrontIs, stops-short, stops-at, passes, front-is}
 use Rattle.login.specs.declared.account.Account.{Account}
-use Rattle.login.specs.Account.{Knowing, lookupOf}
-use Rattle.login.specs.Decision.{Deciding, accepted, rejected, decisionOf}
-use Rattle.soupbintcp_session.specs.Answer.{Reply, wants-more, unsequenced, heartbeat, debug, logged-out, messageAt, Outcome, stays, takes}
+use Rattle.login.specs.Account.{VerdictKind, lookupOf}
+use Rattle.login.specs.Decision.{DecisionKind, accepted, rejected, decisionOf}
+use Rattle.soupbintcp_session.specs.Answer.{SessionAnswerKind, wants-more, unsequenced, heartbeat, debug, logged-out, answerMessageAt, StepOutcome, stays, takes}
 use Rattle.soupbintcp_session.specs.Answer as reply
 use Rattle.soupbintcp_session.proofs.FrontCases.{InFront, front-stays, session-stays, username-stays, password-stays, Plain, a-rejection, a-heartbeat, a-debug, a-logout, plain-takes, accepted-takes, unsequenced-takes, plain-not-unsequenced}
 use Rattle.soupbintcp_session.proofs.StepLaws.{Rests, waits, refusing, Does}
@@ -29,16 +29,16 @@ use Rattle.soupbintcp_server.specs.declared.server.ServerState.{ServerSt
 use Rattle.soupbintcp_server.specs.declared.server.ServerState.the-variants.{Waiting, In, Closed}
 use Rattle.soupbintcp_server.specs.declared.server.Server.{Server}
 use Rattle.soupbintcp_server.specs.Server.{becomes, loginAt, waitingRow, inRow, rowAt, serverRow, frontRow, stepAt, stepWith, entryOf, serverStep}
-use Rattle.soupbintcp_server.specs.Statements.{Keeps}
+use Rattle.soupbintcp_server.specs.Statements.{KeepsItsSettings}
 
-pub data ServerDoes (s : Server) (l : List ℕ) (x : Words Knowing) (o : Outcome Server) : Type 0 where
-  rests : (w : Words Reply) → Rests w → o ≡ stays s w → ServerDoes s l x o
+pub data ServerDoes (s : Server) (l : List ℕ) (x : Words VerdictKind) (o : StepOutcome Server) : Type 0 where
+  rests : (w : Words SessionAnswerKind) → Rests w → o ≡ stays s w → ServerDoes s l x o
   logs-in : (k : ℕ) (vs ws : List ℕ) → InFront Client l k vs → letterOf l ≡ 76 → s .state ≡ Waiting
       → decisionOf x (sessionOf Client l) (getD vs 0 0) (s .session) (s .last .0) .which ≡ answer accepted
       → o ≡ takes k (says reply.accepted ws) (becomes s In) → ServerDoes s l x o
   hands-up : (k : ℕ) (vs : List ℕ) → InFront Client l k vs → s .state ≡ In → o ≡ takes k (says unsequenced (3 ∷ (k - 3) ∷ [])) (becomes s In)
       → ServerDoes s l x o
-  goes-by : (k : ℕ) (vs : List ℕ) (w : Words Reply) (t : ServerState) → InFront Client l k vs → Plain (w .which) → (t ≡ In → s .state ≡ In)
+  goes-by : (k : ℕ) (vs : List ℕ) (w : Words SessionAnswerKind) (t : ServerState) → InFront Client l k vs → Plain (w .which) → (t ≡ In → s .state ≡ In)
       → o ≡ takes k w (becomes s t) → ServerDoes s l x o
 
 never-in : Closed ≡ In → ⊥
@@ -46,14 +46,14 @@ never-in e = let z : _≡_ {A = ℕ} 0 1 = cc in omega arith
 
 -- ---- the rows
 
-module _ (s : Server) (l : List ℕ) (x : Words Knowing) (k : ℕ) (vs : List ℕ) (i : InFront Client l k vs) where
-  abbrev D : Outcome Server → Type 0
+module _ (s : Server) (l : List ℕ) (x : Words VerdictKind) (k : ℕ) (vs : List ℕ) (i : InFront Client l k vs) where
+  abbrev D : StepOutcome Server → Type 0
   D = ServerDoes s l x
 
   refuses-it : (r : ℕ) → D (stays s (refuses r))
   refuses-it r = rests (refuses r) (refusing r) refl
 
-  login-does : letterOf l ≡ 76 → s .state ≡ Waiting → (d : Case Deciding) (r : ℕ) (ws : List ℕ)
+  login-does : letterOf l ≡ 76 → s .state ≡ Waiting → (d : Case DecisionKind) (r : ℕ) (ws : List ℕ)
       → decisionOf x (sessionOf Client l) (getD vs 0 0) (s .session) (s .last .0) .which ≡ d → D (loginAt s k d r ws)
   unfolding loginAt
   login-does a q (answer accepted) r ws e = logs-in k vs ws i a q e refl
@@ -82,9 +82,9 @@ module _ (s : Server) (l : List ℕ) (x : Words Knowing) (k : ℕ) (vs : List �
 
 -- ---- the step by what the table says, and then by the front
 
-module _ (s : Server) (x : Words Knowing) (l : List ℕ) where
+module _ (s : Server) (x : Words VerdictKind) (l : List ℕ) where
   -- the front, where the table says something
-  abbrev front-step : Outcome Server
+  abbrev front-step : StepOutcome Server
   front-step = frontRow s x (sessionOf Client l) (frontOf Client l .which) (frontOf Client l .refusal) (frontOf Client l .values)
 
   short-rests : frontOf Client l ≡ says front.wants-more [] → front-step ≡ stays s (says wants-more [])
@@ -110,7 +110,7 @@ module _ (s : Server) (x : Words Knowing) (l : List ℕ) where
           rw (packet-row p k vs e, ← its-letter Client l p k vs e)
           (row-does s l x k vs (record { kind = p; front = e; some = a; within = b }) (s .state) refl)
 
-  told-does : (w : Case Knowing) → ServerDoes s l x (stepAt w s x l)
+  told-does : (w : Case VerdictKind) → ServerDoes s l x (stepAt w s x l)
   unfolding stepAt
   told-does (answer y) = front-does
   told-does refused = rests (refuses (x .refusal)) (refusing (x .refusal)) refl
@@ -120,20 +120,20 @@ module _ (s : Server) (x : Words Knowing) (l : List ℕ) where
 
 -- ---- the session's name and the last number stay
 
-does-keep : (s : Server) (l : List ℕ) (x : Words Knowing) (o : Outcome Server) → ServerDoes s l x o → Keeps s (o .after)
+does-keep : (s : Server) (l : List ℕ) (x : Words VerdictKind) (o : StepOutcome Server) → ServerDoes s l x o → KeepsItsSettings s (o .after)
 does-keep s l x o (rests w n e) = rw e (record { session = refl; last = refl })
 does-keep s l x o (logs-in k vs ws i a q d e) = rw e (record { session = refl; last = refl })
 does-keep s l x o (hands-up k vs i q e) = rw e (record { session = refl; last = refl })
 does-keep s l x o (goes-by k vs w t i p f e) = rw e (record { session = refl; last = refl })
 
-pub keeps : (t : List Account) (s : Server) (l : List ℕ) → Keeps s (serverStep t s l .after)
+pub keeps : (t : List Account) (s : Server) (l : List ℕ) → KeepsItsSettings s (serverStep t s l .after)
 unfolding serverStep
 keeps t s l = does-keep s l (lookupOf t (entryOf l)) (stepWith s (lookupOf t (entryOf l)) l) (server-does s (lookupOf t (entryOf l)) l)
 
 -- ---- so it rests or moves, and a run of its steps is steady
 
-server-moves : (s : Server) (l : List ℕ) (x : Words Knowing) (o : Outcome Server) → ServerDoes s l x o → Does s l Client unsequenced o
-unfolding messageAt
+server-moves : (s : Server) (l : List ℕ) (x : Words VerdictKind) (o : StepOutcome Server) → ServerDoes s l x o → Does s l Client unsequenced o
+unfolding answerMessageAt
 server-moves s l x o (rests w n e) = does.rests w n e
 server-moves s l x o (logs-in k vs ws i a q d e) =
     does.moves k vs (says reply.accepted ws) (becomes s In) i accepted-takes (λ z. absurd (not-so z)) e
@@ -146,7 +146,7 @@ server-moves s l x o (goes-by k vs w t i p f e) =
     does.moves k vs w (becomes s t) i (plain-takes (w .which) p) (λ z. absurd (plain-not-unsequenced (w .which) p z)) e
 
 -- with any verdict on the entry in front
-pub with-rests-or-moves : (verdict : List ℕ → Words Knowing) (s : Server) (l : List ℕ) → Does s l Client unsequenced (stepWith s (verdict l) l)
+pub with-rests-or-moves : (verdict : List ℕ → Words VerdictKind) (s : Server) (l : List ℕ) → Does s l Client unsequenced (stepWith s (verdict l) l)
 with-rests-or-moves verdict s l = server-moves s l (verdict l) (stepWith s (verdict l) l) (server-does s (verdict l) l)
 
 module _ (t : List Account) where
@@ -159,7 +159,7 @@ module _ (t : List Account) where
     unfolding entryOf
     entry-stays k vs i = rw (username-stays Client l m k vs i, password-stays Client l m k vs i) refl
 
-    told-stays : (k : ℕ) (vs : List ℕ) (x : Words Knowing) (w : Case Knowing) → InFront Client l k vs → stepAt w s x (l ++ m) ≡ stepAt w s x l
+    told-stays : (k : ℕ) (vs : List ℕ) (x : Words VerdictKind) (w : Case VerdictKind) → InFront Client l k vs → stepAt w s x (l ++ m) ≡ stepAt w s x l
     unfolding stepAt
     told-stays k vs x (answer y) i = rw (front-stays Client l m k vs i, session-stays Client l m k vs i) refl
     told-stays k vs x refused i = refl

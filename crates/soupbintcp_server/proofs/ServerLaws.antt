@@ -25,17 +25,17 @@ use Rattle.login.specs.declared.account.Verdict.{Verdict}
 use Rattle.login.specs.declared.account.Verdict.the-variants as verdict
 use Rattle.login.specs.declared.decision.Decision.{Decision}
 use Rattle.login.specs.declared.decision.Decision.the-variants as decision
-use Rattle.login.specs.Account.{Knowing, verdictWords, lookupOf}
+use Rattle.login.specs.Account.{VerdictKind, verdictWords, lookupOf}
 use Rattle.login.specs.Decision.{decisionWords, decisionOf}
 use Rattle.soupbintcp_session.specs.declared.answer.Answer.{Answer}
 use Rattle.soupbintcp_session.specs.declared.answer.Answer.the-variants.{NeedMore, Accepted, Rejected, Unsequenced, Heartbeat, Debug, LoggedOut, Refused}
-use Rattle.soupbintcp_session.specs.Answer.{answerWords}
+use Rattle.soupbintcp_session.specs.Answer.{sessionAnswerWords}
 use Rattle.soupbintcp_session.proofs.TagLaws.{tagFor, other-letter}
 use Rattle.soupbintcp_server.specs.declared.server.ServerState.{ServerState}
 use Rattle.soupbintcp_server.specs.declared.server.ServerState.the-variants.{Waiting, In, Closed}
 use Rattle.soupbintcp_server.specs.declared.server.Server.{Server}
 use Rattle.soupbintcp_server.specs.declared.server.Stepped.{Stepped}
-use Rattle.soupbintcp_server.specs.Server.{server, becomes, startRefusal, refusedServer, startServer, loginAt, loginRow, waitingRow, inRow, rowAt, frontRow, stepAt, stepWith, entryOf, serverStep, Steps}
+use Rattle.soupbintcp_server.specs.Server.{server, becomes, serverStartRefusal, refusedServer, startServer, loginAt, loginRow, waitingRow, inRow, rowAt, frontRow, stepAt, stepWith, entryOf, serverStep, ServerSteps}
 
 -- what the code answers: a refusal, or a packet that is taken
 abbrev refuses-with : Server → ℕ → Stepped
@@ -45,34 +45,34 @@ abbrev goes-to : Answer → ℕ → Server → Stepped
 goes-to a size s = record { answer = a; size = size; server = s }
 
 -- a step that answers, takes and leaves what its row says
-exactly : (r : Stepped) → Steps r (record { reply = answerWords (r .answer); size = r .size; after = r .server })
+exactly : (r : Stepped) → ServerSteps r (record { reply = sessionAnswerWords (r .answer); size = r .size; after = r .server })
 exactly r = record { answers = refl; size = refl; leaves = refl }
 
 -- ---- the start: t is what the test of the name gave
 
 module _ (name : List ℕ) (last : ℕ) where
-  pub server-start-19 : (n : ℕ) → n ≡ 19 → startRefusal name last ≡ 19 → n ≡ startRefusal name last
+  pub server-start-19 : (n : ℕ) → n ≡ 19 → serverStartRefusal name last ≡ 19 → n ≡ serverStartRefusal name last
   server-start-19 n e f = e ∙ sym f
 
-  pub server-refused : (x : Server) → x ≡ refusedServer → startRefusal name last ≡ 19 → x ≡ startServer name last
+  pub server-refused : (x : Server) → x ≡ refusedServer → serverStartRefusal name last ≡ 19 → x ≡ startServer name last
   unfolding startServer
   server-refused x e f = e ∙ rw f
 
   module _ (t : Bool) (e : t ≡ goodSession false name) where
-    pub server-name-bad : not t ≡ true → startRefusal name last ≡ 19
-    unfolding startRefusal
+    pub server-name-bad : not t ≡ true → serverStartRefusal name last ≡ 19
+    unfolding serverStartRefusal
     server-name-bad f = rw (← e, not-true t f)
 
-    pub last-small : not t ≡ false → last < 0 → startRefusal name last ≡ 19
-    unfolding startRefusal
+    pub last-small : not t ≡ false → last < 0 → serverStartRefusal name last ≡ 19
+    unfolding serverStartRefusal
     last-small f g = rw (← e, not-false t f, lt-ltb _ _ g)
 
-    pub last-large : not t ≡ false → 0 ≤ last → 18446744073709551614 < last → startRefusal name last ≡ 19
-    unfolding startRefusal
+    pub last-large : not t ≡ false → 0 ≤ last → 18446744073709551614 < last → serverStartRefusal name last ≡ 19
+    unfolding serverStartRefusal
     last-large f g h = rw (← e, not-false t f, le-ltb _ _ g, lt-ltb _ _ h)
 
-    pub server-start-0 : not t ≡ false → 0 ≤ last → last ≤ 18446744073709551614 → 0 ≡ startRefusal name last
-    unfolding startRefusal
+    pub server-start-0 : not t ≡ false → 0 ≤ last → last ≤ 18446744073709551614 → 0 ≡ serverStartRefusal name last
+    unfolding serverStartRefusal
     server-start-0 f g h = rw (← e, not-false t f, le-ltb _ _ g, le-ltb _ _ h)
 
     pub server-fresh : not t ≡ false → 0 ≤ last → last ≤ 18446744073709551614 → server name last Waiting ≡ startServer name last
@@ -89,90 +89,90 @@ entry-read l u p a b e f g h = rw (← e, ← g, ← f, ← h)
 -- ---- a login that was decided on: d is the decision
 
 module _ (s : Server) (d : Decision) (size : ℕ) (r : Stepped) where
-  pub login-accepted : (n : SequenceNumber) → d ≡ decision.Accepted n → r ≡ goes-to (Accepted n) size (becomes s In) → Steps r (loginRow s size (decisionWords d))
-  unfolding decisionWords loginAt answerWords
+  pub login-accepted : (n : SequenceNumber) → d ≡ decision.Accepted n → r ≡ goes-to (Accepted n) size (becomes s In) → ServerSteps r (loginRow s size (decisionWords d))
+  unfolding decisionWords loginAt sessionAnswerWords
   login-accepted n e f = rw (e, f) (exactly _)
 
   pub login-rejected : (reason : ℕ) → d ≡ decision.Rejected reason → r ≡ goes-to (Rejected reason) size (becomes s Closed)
-      → Steps r (loginRow s size (decisionWords d))
-  unfolding decisionWords loginAt answerWords
+      → ServerSteps r (loginRow s size (decisionWords d))
+  unfolding decisionWords loginAt sessionAnswerWords
   login-rejected reason e f = rw (e, f) (exactly _)
 
-  pub login-refused : (x : Refusal) → d ≡ decision.Refused x → r ≡ goes-to (Refused x) 0 s → Steps r (loginRow s size (decisionWords d))
-  unfolding decisionWords loginAt answerWords
+  pub login-refused : (x : Refusal) → d ≡ decision.Refused x → r ≡ goes-to (Refused x) 0 s → ServerSteps r (loginRow s size (decisionWords d))
+  unfolding decisionWords loginAt sessionAnswerWords
   login-refused x e f = rw (e, f) (exactly _)
 
 -- ---- waiting: w is what the table says of the entry
 
-module _ (s : Server) (p : Packet) (size : ℕ) (w : Words Knowing) (asked : List ℕ) (r : Stepped) where
+module _ (s : Server) (p : Packet) (size : ℕ) (w : Words VerdictKind) (asked : List ℕ) (r : Stepped) where
   pub waiting-L : (n : SequenceNumber) (y : List ℕ) (d : Decision) → p ≡ packet.Login n → y ≡ asked
       → decisionWords d ≡ decisionOf w y (n .0) (s .session) (s .last .0)
-      → Steps r (loginRow s size (decisionWords d)) → Steps r (waitingRow s size (letterFor (packetKind p)) (packetValues p) w asked)
+      → ServerSteps r (loginRow s size (decisionWords d)) → ServerSteps r (waitingRow s size (letterFor (packetKind p)) (packetValues p) w asked)
   unfolding waitingRow letterFor packetKind packetValues
   waiting-L n y d e f g h = rw (e, ← f, ← g) h
 
   pub waiting-plus : p ≡ packet.Debug → r ≡ goes-to Debug size (becomes s Waiting)
-      → Steps r (waitingRow s size (letterFor (packetKind p)) (packetValues p) w asked)
-  unfolding waitingRow letterFor packetKind packetValues answerWords
+      → ServerSteps r (waitingRow s size (letterFor (packetKind p)) (packetValues p) w asked)
+  unfolding waitingRow letterFor packetKind packetValues sessionAnswerWords
   waiting-plus e f = rw (e, f) (exactly _)
 
 abbrev not-waiting : List ℕ
 not-waiting = 1 ∷ 2 ∷ 3 ∷ 4 ∷ 5 ∷ 7 ∷ 8 ∷ 9 ∷ []
 
-pub waiting-other : (s : Server) (p : Packet) (size : ℕ) (w : Words Knowing) (asked : List ℕ) (r : Stepped) → OneOf not-waiting (tagOf the-type p)
-    → r ≡ refuses-with s 31 → Steps r (waitingRow s size (letterFor (packetKind p)) (packetValues p) w asked)
-unfolding waitingRow letterFor tagFor answerWords
+pub waiting-other : (s : Server) (p : Packet) (size : ℕ) (w : Words VerdictKind) (asked : List ℕ) (r : Stepped) → OneOf not-waiting (tagOf the-type p)
+    → r ≡ refuses-with s 31 → ServerSteps r (waitingRow s size (letterFor (packetKind p)) (packetValues p) w asked)
+unfolding waitingRow letterFor tagFor sessionAnswerWords
 waiting-other s p size w asked r k e = rw (other-letter not-waiting login p tt k, other-letter not-waiting debug p tt k, e) (exactly _)
 
 -- ---- logged in
 
 module _ (s : Server) (p : Packet) (size : ℕ) (r : Stepped) where
   pub in-U : p ≡ packet.Unsequenced → r ≡ goes-to (Unsequenced (record { 0 = 3 }) (size - 3)) size (becomes s In)
-      → Steps r (inRow s size (letterFor (packetKind p)))
-  unfolding inRow letterFor packetKind answerWords
+      → ServerSteps r (inRow s size (letterFor (packetKind p)))
+  unfolding inRow letterFor packetKind sessionAnswerWords
   in-U e f = rw (e, f) (exactly _)
 
-  pub in-R : p ≡ packet.ClientHeartbeat → r ≡ goes-to Heartbeat size (becomes s In) → Steps r (inRow s size (letterFor (packetKind p)))
-  unfolding inRow letterFor packetKind answerWords
+  pub in-R : p ≡ packet.ClientHeartbeat → r ≡ goes-to Heartbeat size (becomes s In) → ServerSteps r (inRow s size (letterFor (packetKind p)))
+  unfolding inRow letterFor packetKind sessionAnswerWords
   in-R e f = rw (e, f) (exactly _)
 
-  pub server-in-plus : p ≡ packet.Debug → r ≡ goes-to Debug size (becomes s In) → Steps r (inRow s size (letterFor (packetKind p)))
-  unfolding inRow letterFor packetKind answerWords
+  pub server-in-plus : p ≡ packet.Debug → r ≡ goes-to Debug size (becomes s In) → ServerSteps r (inRow s size (letterFor (packetKind p)))
+  unfolding inRow letterFor packetKind sessionAnswerWords
   server-in-plus e f = rw (e, f) (exactly _)
 
-  pub in-O : p ≡ packet.Logout → r ≡ goes-to LoggedOut size (becomes s Closed) → Steps r (inRow s size (letterFor (packetKind p)))
-  unfolding inRow letterFor packetKind answerWords
+  pub in-O : p ≡ packet.Logout → r ≡ goes-to LoggedOut size (becomes s Closed) → ServerSteps r (inRow s size (letterFor (packetKind p)))
+  unfolding inRow letterFor packetKind sessionAnswerWords
   in-O e f = rw (e, f) (exactly _)
 
 abbrev not-in : List ℕ
 not-in = 1 ∷ 2 ∷ 3 ∷ 4 ∷ 5 ∷ 6 ∷ []
 
 pub server-in-other : (s : Server) (p : Packet) (size : ℕ) (r : Stepped) → OneOf not-in (tagOf the-type p) → r ≡ refuses-with s 31
-    → Steps r (inRow s size (letterFor (packetKind p)))
-unfolding inRow letterFor tagFor answerWords
+    → ServerSteps r (inRow s size (letterFor (packetKind p)))
+unfolding inRow letterFor tagFor sessionAnswerWords
 server-in-other s p size r k e =
     rw (other-letter not-in unsequenced p tt k, other-letter not-in client-heartbeat p tt k, other-letter not-in debug p tt k, other-letter not-in logout p tt k, e)
     (exactly _)
 
 -- ---- the row of a state t: k is the packet's letter, vs its values
 
-module _ (t : ServerState) (s : Server) (size k : ℕ) (vs : List ℕ) (w : Words Knowing) (asked : List ℕ) (r : Stepped) where
-  pub row-waiting : t ≡ Waiting → Steps r (waitingRow s size k vs w asked) → Steps r (rowAt t s size k vs w asked)
+module _ (t : ServerState) (s : Server) (size k : ℕ) (vs : List ℕ) (w : Words VerdictKind) (asked : List ℕ) (r : Stepped) where
+  pub row-waiting : t ≡ Waiting → ServerSteps r (waitingRow s size k vs w asked) → ServerSteps r (rowAt t s size k vs w asked)
   unfolding rowAt
   row-waiting e f = rw e f
 
-  pub server-row-in : t ≡ In → Steps r (inRow s size k) → Steps r (rowAt t s size k vs w asked)
+  pub server-row-in : t ≡ In → ServerSteps r (inRow s size k) → ServerSteps r (rowAt t s size k vs w asked)
   unfolding rowAt
   server-row-in e f = rw e f
 
-  pub server-row-closed : t ≡ Closed → r ≡ refuses-with s 32 → Steps r (rowAt t s size k vs w asked)
-  unfolding rowAt answerWords
+  pub server-row-closed : t ≡ Closed → r ≡ refuses-with s 32 → ServerSteps r (rowAt t s size k vs w asked)
+  unfolding rowAt sessionAnswerWords
   server-row-closed e f = rw (e, f) (exactly _)
 
 -- ---- a step: v is what the table says, x the front of the stream l
 
-pub table-refused : (s : Server) (l : List ℕ) (v : Verdict) (r : Stepped) → v ≡ verdict.TooMany → r ≡ refuses-with s 19 → Steps r (stepWith s (verdictWords v) l)
-unfolding stepAt verdictWords answerWords
+pub table-refused : (s : Server) (l : List ℕ) (v : Verdict) (r : Stepped) → v ≡ verdict.TooMany → r ≡ refuses-with s 19 → ServerSteps r (stepWith s (verdictWords v) l)
+unfolding stepAt verdictWords sessionAnswerWords
 table-refused s l v r e f = rw (e, f) (exactly _)
 
 -- a table that says something of the entry leaves it to the front
@@ -189,22 +189,22 @@ said-front s l verdict.TooMany k = absurd (miss told 2 tt k)
 
 module _ (s : Server) (l : List ℕ) (v : Verdict) (x : Front) (r : Stepped) where
   pub server-step-more : OneOf told (tagOf verdict-type v) → frontWords x ≡ frontOf Client l → x ≡ front.NeedMore → r ≡ goes-to NeedMore 0 s
-      → Steps r (stepWith s (verdictWords v) l)
-  unfolding frontRow frontWords answerWords
+      → ServerSteps r (stepWith s (verdictWords v) l)
+  unfolding frontRow frontWords sessionAnswerWords
   server-step-more k e f g = rw (← said-front s l v k, ← e, f, g) (exactly _)
 
   pub server-step-refused : (y : Refusal) → OneOf told (tagOf verdict-type v) → frontWords x ≡ frontOf Client l → x ≡ front.Refused y
-      → r ≡ goes-to (Refused y) 0 s → Steps r (stepWith s (verdictWords v) l)
-  unfolding frontRow frontWords answerWords
+      → r ≡ goes-to (Refused y) 0 s → ServerSteps r (stepWith s (verdictWords v) l)
+  unfolding frontRow frontWords sessionAnswerWords
   server-step-refused y k e f g = rw (← said-front s l v k, ← e, f, g) (exactly _)
 
   pub server-step-packet : (p : Packet) (size : ℕ) → OneOf told (tagOf verdict-type v) → frontWords x ≡ frontOf Client l → x ≡ front.Whole p size
-      → Steps r (rowAt (s .state) s size (letterFor (packetKind p)) (packetValues p) (verdictWords v) (sessionOf Client l)) → Steps r (stepWith s (verdictWords v) l)
+      → ServerSteps r (rowAt (s .state) s size (letterFor (packetKind p)) (packetValues p) (verdictWords v) (sessionOf Client l)) → ServerSteps r (stepWith s (verdictWords v) l)
   unfolding frontRow frontWords
   server-step-packet p size k e f g = rw (← said-front s l v k, ← e, f) g
 
 -- with a table of accounts: e is the entry in front
 pub server-step : (s : Server) (l : List ℕ) (t : List Account) (v : Verdict) (e : Account) (r : Stepped) → e ≡ entryOf l → verdictWords v ≡ lookupOf t e
-    → Steps r (stepWith s (verdictWords v) l) → Steps r (serverStep t s l)
+    → ServerSteps r (stepWith s (verdictWords v) l) → ServerSteps r (serverStep t s l)
 unfolding serverStep
 server-step s l t v e r f g h = rw (← f, ← g) h

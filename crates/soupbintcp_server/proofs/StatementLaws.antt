@@ -13,12 +13,12 @@ use Rattle.soupbintcp.specs.Letters.{login, letterFor}
 use Rattle.soupbintcp.specs.Fields.{hasFields}
 use Rattle.soupbintcp.specs.Front.{sessionOf}
 use Rattle.login.specs.declared.account.Account.{Account}
-use Rattle.login.specs.Account.{Knowing, known, unknown, mostAccounts, verdictOf, isKnown, lookupOf}
+use Rattle.login.specs.Account.{VerdictKind, known, unknown, mostAccounts, verdictOf, isKnown, lookupOf}
 use Rattle.login.specs.Decision.{loginOf}
 use Rattle.login.specs.Decision as decided
 use Rattle.login.specs.Statements.{NotRefused}
 use Rattle.login.proofs.StatementLaws.{accepted-exactly-when, never-accepted}
-use Rattle.soupbintcp_session.specs.Answer.{Outcome, stays, takes}
+use Rattle.soupbintcp_session.specs.Answer.{StepOutcome, stays, takes}
 use Rattle.soupbintcp_session.specs.Answer as reply
 use Rattle.soupbintcp_session.proofs.FrontCases.{numbered-in-front, accepted-takes, unsequenced-takes, plain-not-accepted, plain-not-unsequenced}
 use Rattle.soupbintcp_session.proofs.StepLaws.{never-rests, changes-nothing, takes-packets, hands-up}
@@ -37,7 +37,7 @@ unfolding EntryIsItsFields entryOf
 entry-is-its-fields l size n e = rw (username-first l size (n ∷ []) e, password-first l size (n ∷ []) e) refl
 
 -- a login request that isn't refused goes by what is decided on it
-told-row : (s : Server) (x : Words Knowing) (l : List ℕ) (size n : ℕ) (b : Bool) → s .state ≡ Waiting → LoginInFront l size n → x ≡ verdictOf b
+told-row : (s : Server) (x : Words VerdictKind) (l : List ℕ) (size n : ℕ) (b : Bool) → s .state ≡ Waiting → LoginInFront l size n → x ≡ verdictOf b
     → stepWith s x l ≡ loginRow s size (decided.decisionOf x (sessionOf Client l) n (s .session) (s .last .0))
 unfolding stepAt verdictOf rowAt waitingRow letterFor
 told-row s x l size n true q e f = rw f (cases.packet-row s (says known []) l login size (n ∷ []) e ∙ rw q refl)
@@ -65,7 +65,7 @@ too-many : (t : List Account) (s : Server) (l : List ℕ) → mostAccounts < len
 unfolding serverStep lookupOf stepAt
 too-many t s l h = rw (lt-ltb _ _ h) refl
 
-accepts : (t : List Account) (s : Server) (l : List ℕ) (o : Outcome Server) → ServerDoes s l (lookupOf t (entryOf l)) o
+accepts : (t : List Account) (s : Server) (l : List ℕ) (o : StepOutcome Server) → ServerDoes s l (lookupOf t (entryOf l)) o
     → o .reply .which ≡ answer reply.accepted → Accepts t s l
 unfolding EntryIsItsFields letterFor hasFields
 accepts t s l o (cases.rests w n e) z =
@@ -83,13 +83,13 @@ accepts t s l o (cases.hands-up k vs i q e) z = absurd (unsequenced-apart (rw e 
 accepts t s l o (cases.goes-by k vs w u i p f e) z = absurd (plain-not-accepted (w .which) p (rw e at z))
 
 -- who is in was so before the step, or logs in by it
-is-in : (t : List Account) (s : Server) (l : List ℕ) (o : Outcome Server) → ServerDoes s l (lookupOf t (entryOf l)) o → o .after .state ≡ In → WasIn t s l
+is-in : (t : List Account) (s : Server) (l : List ℕ) (o : StepOutcome Server) → ServerDoes s l (lookupOf t (entryOf l)) o → o .after .state ≡ In → WasIn t s l
 is-in t s l o (cases.rests w n e) z = before (rw e at z)
 is-in t s l o (cases.logs-in k vs ws i a q d e) z = by-login (accepts t s l o (cases.logs-in k vs ws i a q d e) (rw e refl))
 is-in t s l o (cases.hands-up k vs i q e) z = before q
 is-in t s l o (cases.goes-by k vs w u i p f e) z = before (f (rw e at z))
 
-hands-up-in : (s : Server) (l : List ℕ) (x : Words Knowing) (o : Outcome Server) → ServerDoes s l x o → o .reply .which ≡ answer reply.unsequenced → s .state ≡ In
+hands-up-in : (s : Server) (l : List ℕ) (x : Words VerdictKind) (o : StepOutcome Server) → ServerDoes s l x o → o .reply .which ≡ answer reply.unsequenced → s .state ≡ In
 hands-up-in s l x o (cases.rests w n e) z = absurd (never-rests w n reply.unsequenced unsequenced-takes (rw e at z))
 hands-up-in s l x o (cases.logs-in k vs ws i a q d e) z = absurd (unsequenced-apart (sym (rw e at z)))
 hands-up-in s l x o (cases.hands-up k vs i q e) z = q

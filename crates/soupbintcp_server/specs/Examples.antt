@@ -3,12 +3,13 @@ use Prim.Native.Nat.{ℕ}
 use mathlib.Core.List.{List, [], _∷_, _++_}
 use mathlib.Core.Path.{_≡_}
 use lib.ListN.{replicate}
+use Rattle.wire.specs.Text.{ascii}
 use Rattle.wire.specs.Bounds.{blank}
 use Rattle.wire.specs.Words.{Words, says}
 use Rattle.text_fields.specs.Letters.{space}
 use Rattle.soupbintcp.specs.Letters.{letterLogin, letterUnsequenced, letterClientHeartbeat, letterLogout}
 use Rattle.login.specs.Examples.{ours, ann}
-use Rattle.soupbintcp_session.specs.Answer.{Reply, accepted, unsequenced, logged-out}
+use Rattle.soupbintcp_session.specs.Answer.{SessionAnswerKind, accepted, unsequenced, logged-out}
 use Rattle.soupbintcp_session.specs.Stream.{Taking, Run, run}
 use Rattle.soupbintcp_session.specs.Examples.{shortPacket}
 use Rattle.soupbintcp_server.specs.declared.server.ServerState.the-variants.{Closed}
@@ -20,15 +21,15 @@ afterLogout = shortPacket letterClientHeartbeat []
 
 abbrev pub fromClient : List ℕ
 fromClient =
-    shortPacket letterLogin (ann .username ++ ann .password ++ blank ++ replicate 19 space ++ (48 ∷ []))
-    ++ shortPacket letterUnsequenced (97 ∷ [])
+    shortPacket letterLogin (ann .username ++ ann .password ++ blank ++ replicate 19 space ++ (ascii "0"))
+    ++ shortPacket letterUnsequenced (ascii "a")
     ++ shortPacket letterLogout []
     ++ afterLogout
 
 abbrev pub served : Run Server
 served = run (serverStep (ann ∷ [])) (startServer ours 5) fromClient
 
-unfoldable pub repliesOf : List Taking → List (Words Reply)
+unfoldable pub repliesOf : List Taking → List (Words SessionAnswerKind)
 repliesOf [] = []
 repliesOf (x ∷ xs) = x .reply ∷ repliesOf xs
 

@@ -6,7 +6,7 @@ use mathlib.Core.Path.{_≡_}
 use lib.ListN.{getD, drop}
 use lib.Dec.{ltb, eqb}
 use Rattle.wire.specs.Choice.{if_then_else_}
-use Rattle.wire.specs.Bounds.{blank}
+use Rattle.wire.specs.Bounds.{largestNumber, blank}
 use Rattle.wire.specs.Refusals.{badSetting, packetNotTaken, stateClosed}
 use Rattle.wire.specs.Words.{Words, Case, answer, refused, says, refuses}
 use Rattle.wire.specs.Parts.{firstBytes}
@@ -15,11 +15,11 @@ use Rattle.text_fields.specs.Sound.{usernameSize, passwordSize}
 use Rattle.soupbintcp.specs.declared.packet.Sender.the-variants.{Client}
 use Rattle.soupbintcp.specs.Letters.{letterDebug, letterLogin, letterUnsequenced, letterClientHeartbeat, letterLogout, letterFor}
 use Rattle.soupbintcp.specs.Head.{headSize}
-use Rattle.soupbintcp.specs.Front.{Fronting, packet, wants-more, frontOf, sessionOf, usernameOf, passwordOf}
+use Rattle.soupbintcp.specs.Front.{FrontKind, packet, wants-more, frontOf, sessionOf, usernameOf, passwordOf}
 use Rattle.login.specs.declared.account.Account.{Account}
-use Rattle.login.specs.Account.{Knowing, lookupOf}
-use Rattle.login.specs.Decision.{Deciding, accepted, rejected, decisionOf}
-use Rattle.soupbintcp_session.specs.Answer.{unsequenced, heartbeat, debug, logged-out, answerWords, Outcome, stays, takes}
+use Rattle.login.specs.Account.{VerdictKind, lookupOf}
+use Rattle.login.specs.Decision.{DecisionKind, accepted, rejected, decisionOf}
+use Rattle.soupbintcp_session.specs.Answer.{unsequenced, heartbeat, debug, logged-out, sessionAnswerWords, StepOutcome, stays, takes}
 use Rattle.soupbintcp_session.specs.Answer as reply
 use Rattle.soupbintcp_server.specs.declared.server.ServerState.{ServerState}
 use Rattle.soupbintcp_server.specs.declared.server.ServerState.the-variants.{Waiting, In, Closed}
@@ -41,11 +41,11 @@ abbrev pub leastLast : ℕ
 leastLast = 0
 
 abbrev pub largestLast : ℕ
-largestLast = 18446744073709551614
+largestLast = largestNumber - 1
 
 -- 19 where the session isn't one as in A, or last is out of its bounds
-unfoldable pub startRefusal : List ℕ → ℕ → ℕ
-startRefusal name last =
+unfoldable pub serverStartRefusal : List ℕ → ℕ → ℕ
+serverStartRefusal name last =
     if goodSession false name
     then (if ltb last leastLast then badSetting else if ltb largestLast last then badSetting else 0)
     else badSetting
@@ -55,28 +55,28 @@ abbrev pub refusedServer : Server
 refusedServer = server blank 1 Closed
 
 unfoldable pub startServer : List ℕ → ℕ → Server
-startServer name last = if eqb (startRefusal name last) 0 then server name last Waiting else refusedServer
+startServer name last = if eqb (serverStartRefusal name last) 0 then server name last Waiting else refusedServer
 
 -- ---- the table: a packet of this size and letter
 
 -- a login, by what is decided: to in, or to closed on J
-unfoldable pub loginAt : Server → ℕ → Case Deciding → ℕ → List ℕ → Outcome Server
+unfoldable pub loginAt : Server → ℕ → Case DecisionKind → ℕ → List ℕ → StepOutcome Server
 loginAt s size (answer accepted) r vs = takes size (says reply.accepted vs) (becomes s In)
 loginAt s size (answer rejected) r vs = takes size (says reply.rejected vs) (becomes s Closed)
 loginAt s size refused r vs = stays s (refuses r)
 
-abbrev pub loginRow : Server → ℕ → Words Deciding → Outcome Server
+abbrev pub loginRow : Server → ℕ → Words DecisionKind → StepOutcome Server
 loginRow s size w = loginAt s size (w .which) (w .refusal) (w .values)
 
 -- waiting takes L and +; vs are the packet's values, verdict is what the table says of its entry, and asked its session
-unfoldable pub waitingRow : Server → ℕ → ℕ → List ℕ → Words Knowing → List ℕ → Outcome Server
+unfoldable pub waitingRow : Server → ℕ → ℕ → List ℕ → Words VerdictKind → List ℕ → StepOutcome Server
 waitingRow s size letter vs verdict asked =
     if eqb letter letterLogin then loginRow s size (decisionOf verdict asked (getD vs 0 0) (s .session) (s .last .0))
     else if eqb letter letterDebug then takes size (says debug []) (becomes s Waiting)
     else stays s (refuses packetNotTaken)
 
 -- in takes U, R, + and O
-unfoldable pub inRow : Server → ℕ → ℕ → Outcome Server
+unfoldable pub inRow : Server → ℕ → ℕ → StepOutcome Server
 inRow s size letter =
     if eqb letter letterUnsequenced then takes size (says unsequenced (headSize ∷ (size - headSize) ∷ [])) (becomes s In)
     else if eqb letter letterClientHeartbeat then takes size (says heartbeat []) (becomes s In)
@@ -84,29 +84,29 @@ inRow s size letter =
     else if eqb letter letterLogout then takes size (says logged-out []) (becomes s Closed)
     else stays s (refuses packetNotTaken)
 
-unfoldable pub rowAt : ServerState → Server → ℕ → ℕ → List ℕ → Words Knowing → List ℕ → Outcome Server
+unfoldable pub rowAt : ServerState → Server → ℕ → ℕ → List ℕ → Words VerdictKind → List ℕ → StepOutcome Server
 rowAt Waiting s size letter vs verdict asked = waitingRow s size letter vs verdict asked
 rowAt In s size letter vs verdict asked = inRow s size letter
 rowAt Closed s size letter vs verdict asked = stays s (refuses stateClosed)
 
-abbrev pub serverRow : Server → ℕ → ℕ → List ℕ → Words Knowing → List ℕ → Outcome Server
+abbrev pub serverRow : Server → ℕ → ℕ → List ℕ → Words VerdictKind → List ℕ → StepOutcome Server
 serverRow s size letter vs verdict asked = rowAt (s .state) s size letter vs verdict asked
 
 -- ---- a step, over the front of a stream l
 
 -- need more and a refusal change nothing
-unfoldable pub frontRow : Server → Words Knowing → List ℕ → Case Fronting → ℕ → List ℕ → Outcome Server
+unfoldable pub frontRow : Server → Words VerdictKind → List ℕ → Case FrontKind → ℕ → List ℕ → StepOutcome Server
 frontRow s verdict asked (answer (packet p)) r vs = serverRow s (getD vs 0 0) (letterFor p) (drop 1 vs) verdict asked
 frontRow s verdict asked (answer wants-more) r vs = stays s (says reply.wants-more [])
 frontRow s verdict asked refused r vs = stays s (refuses r)
 
 -- 19 for the table comes first
-unfoldable pub stepAt : Case Knowing → Server → Words Knowing → List ℕ → Outcome Server
+unfoldable pub stepAt : Case VerdictKind → Server → Words VerdictKind → List ℕ → StepOutcome Server
 stepAt (answer x) s verdict l = frontRow s verdict (sessionOf Client l) (frontOf Client l .which) (frontOf Client l .refusal) (frontOf Client l .values)
 stepAt refused s verdict l = stays s (refuses (verdict .refusal))
 
 -- from what the table says of the entry in front
-abbrev pub stepWith : Server → Words Knowing → List ℕ → Outcome Server
+abbrev pub stepWith : Server → Words VerdictKind → List ℕ → StepOutcome Server
 stepWith s verdict l = stepAt (verdict .which) s verdict l
 
 -- the entry of the login request in front; zero bytes where there is none
@@ -114,11 +114,11 @@ unfoldable pub entryOf : List ℕ → Account
 entryOf l = record { username = firstBytes usernameSize (usernameOf Client l); password = firstBytes passwordSize (passwordOf Client l) }
 
 -- with a table of account records
-unfoldable pub serverStep : List Account → Server → List ℕ → Outcome Server
+unfoldable pub serverStep : List Account → Server → List ℕ → StepOutcome Server
 serverStep t s l = stepWith s (lookupOf t (entryOf l)) l
 
 -- the promise of a step that answers r
-pub record Steps (r : Stepped) (o : Outcome Server) : Type 0 where
-  pub answers : answerWords (r .answer) ≡ o .reply
+pub record ServerSteps (r : Stepped) (o : StepOutcome Server) : Type 0 where
+  pub answers : sessionAnswerWords (r .answer) ≡ o .reply
   pub size : r .size ≡ o .size
   pub leaves : r .server ≡ o .after

@@ -10,11 +10,11 @@ use Rattle.soupbintcp.specs.Letters.{login}
 use Rattle.soupbintcp.specs.Fields.{notAuthorized, sessionNotAvailable}
 use Rattle.soupbintcp.specs.Front.{packet, frontOf, sessionOf, usernameOf, passwordOf}
 use Rattle.login.specs.declared.account.Account.{Account}
-use Rattle.login.specs.Account.{Knowing, mostAccounts}
+use Rattle.login.specs.Account.{VerdictKind, mostAccounts}
 use Rattle.login.specs.Decision.{granted, Attempt}
 use Rattle.login.specs.Statements.{AccountRule, NotRefused, Rules, NoText}
 use Rattle.soupbintcp_session.specs.Answer.{accepted, rejected, unsequenced, stays, takes}
-use Rattle.soupbintcp_session.specs.Statements.{ChangesNothing, TakesPackets, HandsUpPayload, AnyCutting, RunsOn}
+use Rattle.soupbintcp_session.specs.Statements.{ChangesNothing, TakesPackets, HandsUpPayload, AnyStreamCutting, RunsOn}
 use Rattle.soupbintcp_server.specs.declared.server.ServerState.the-variants.{Waiting, In, Closed}
 use Rattle.soupbintcp_server.specs.declared.server.Server.{Server}
 use Rattle.soupbintcp_server.specs.Server.{becomes, entryOf, stepWith, serverStep}
@@ -73,7 +73,7 @@ pub data WasIn (t : List Account) (s : Server) (l : List ℕ) : Type 0 where
   by-login : Accepts t s l → WasIn t s l
 
 -- no step changes the session's name or the last number, so that a login accepted can be written with the server that is handed back
-pub record Keeps (s x : Server) : Type 0 where
+pub record KeepsItsSettings (s x : Server) : Type 0 where
   pub session : x .session ≡ s .session
   pub last : x .last ≡ s .last
 
@@ -86,9 +86,9 @@ pub record ServerPromises : Type 0 where
   pub example : ServerExample
   pub changes-nothing : (t : List Account) → ChangesNothing Server (serverStep t)
   -- so does a step with any verdict on the entry in front
-  pub changes-nothing-with : (verdict : List ℕ → Words Knowing) → ChangesNothing Server (λ s l. stepWith s (verdict l) l)
+  pub changes-nothing-with : (verdict : List ℕ → Words VerdictKind) → ChangesNothing Server (λ s l. stepWith s (verdict l) l)
   pub takes-packets : (t : List Account) → TakesPackets Server (serverStep t) Client
-  pub keeps : (t : List Account) (s : Server) (l : List ℕ) → Keeps s (serverStep t s l .after)
+  pub keeps : (t : List Account) (s : Server) (l : List ℕ) → KeepsItsSettings s (serverStep t s l .after)
   pub hands-up-payload : (t : List Account) → HandsUpPayload Server (serverStep t) Client unsequenced
   pub runs-on : (t : List Account) (s : Server) (l : List ℕ) → RunsOn Server (serverStep t) s l
-  pub any-cutting : (t : List Account) → AnyCutting Server (serverStep t)
+  pub any-cutting : (t : List Account) → AnyStreamCutting Server (serverStep t)

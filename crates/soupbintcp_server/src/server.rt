@@ -22,13 +22,13 @@ ghost use mathlib.Core.Path.{_≡_};
 ghost use Prim.Native.Nat.{_≤_};
 ghost use Rattle.wire.specs.Refusals.{badSetting};
 ghost use Rattle.login.specs.Account.{verdictWords};
-ghost use Rattle.login.specs.Table.{recordsOf};
+ghost use Rattle.login.specs.Table.{accountsOf};
 ghost use Rattle.login.specs.Decision.{decisionWords};
 ghost use Rattle.soupbintcp.specs.Letters.{packetKind, packetValues, letterFor};
 ghost use Rattle.soupbintcp.specs.declared.packet.Sender.the-variants.{Client};
 ghost use Rattle.soupbintcp.specs.Head.{headSize};
 ghost use Rattle.soupbintcp.specs.Front.{sessionOf};
-ghost use Rattle.soupbintcp_server.specs.Server.{server, refusedServer, startRefusal, startServer, entryOf, Steps, loginRow, waitingRow, inRow, serverRow, stepWith, serverStep};
+ghost use Rattle.soupbintcp_server.specs.Server.{server, refusedServer, serverStartRefusal, startServer, entryOf, ServerSteps, loginRow, waitingRow, inRow, serverRow, stepWith, serverStep};
 ghost use Rattle.soupbintcp_server.specs.Statements.{EntryIsItsFields, ServerPromises};
 
 pub enum ServerState {
@@ -88,11 +88,11 @@ impl Server {
     // The numbers that a start takes as the last one.
     pub const LEAST_LAST: SequenceNumber = SequenceNumber(0);
 
-    pub const LARGEST_LAST: SequenceNumber = SequenceNumber(18446744073709551614);
+    pub const LARGEST_LAST: SequenceNumber = SequenceNumber(u64::MAX - 1);
 
     // A fresh server, or the refusal 19.
     pub fn new(session: [u8; SESSION_SIZE], last: SequenceNumber) -> Started
-        ensures { λ r. ⌜ (r .refusal .number ≡ startRefusal session (last .0)) × (r .server ≡ startServer session (last .0)) ⌝ }
+        ensures { λ r. ⌜ (r .refusal .number ≡ serverStartRefusal session (last .0)) × (r .server ≡ startServer session (last .0)) ⌝ }
     {
         if !session::is_session(&session, false) {
             return refused_start();
@@ -115,7 +115,7 @@ impl Server {
 
     // Takes the front of a client's stream, the accounts being lent as bytes.
     pub fn step(self, table: &[u8], stream: &[u8]) -> Stepped
-        ensures { λ r. ⌜ Steps r (serverStep (recordsOf (now (table .entry))) self (now (stream .entry))) ⌝ }
+        ensures { λ r. ⌜ ServerSteps r (serverStep (accountsOf (now (table .entry))) self (now (stream .entry))) ⌝ }
         ensures promises { λ _. ⌜ ServerPromises ⌝ }
     {
         self.step_with(table::lookup(table, entry(stream)), stream)
@@ -124,7 +124,7 @@ impl Server {
     // The same from what a table says of the entry in front, so that the accounts may be kept in any form. The verdict it is given is
     // believed: a caller has it from a lookup of the entry in front.
     pub fn step_with(self, verdict: Verdict, stream: &[u8]) -> Stepped
-        ensures { λ r. ⌜ Steps r (stepWith self (verdictWords verdict) (now (stream .entry))) ⌝ }
+        ensures { λ r. ⌜ ServerSteps r (stepWith self (verdictWords verdict) (now (stream .entry))) ⌝ }
     {
         if let Verdict::TooMany = verdict {
             return self.stay(Answer::Refused(refusal::BAD_SETTING));
@@ -167,7 +167,7 @@ impl Server {
     // The row of the table for the packet in front.
     fn take(self, packet: Packet, size: usize, verdict: Verdict, stream: &[u8]) -> Stepped
         requires { ⌜ headSize ≤ size ⌝ }
-        ensures { λ r. ⌜ Steps r (serverRow self size (letterFor (packetKind packet)) (packetValues packet) (verdictWords verdict) (sessionOf Client (now (stream .entry)))) ⌝ }
+        ensures { λ r. ⌜ ServerSteps r (serverRow self size (letterFor (packetKind packet)) (packetValues packet) (verdictWords verdict) (sessionOf Client (now (stream .entry)))) ⌝ }
     {
         let state = self.state;
         match state {
@@ -179,7 +179,7 @@ impl Server {
 
     // Waiting for a login.
     fn take_waiting(self, packet: Packet, size: usize, verdict: Verdict, stream: &[u8]) -> Stepped
-        ensures { λ r. ⌜ Steps r (waitingRow self size (letterFor (packetKind packet)) (packetValues packet) (verdictWords verdict) (sessionOf Client (now (stream .entry)))) ⌝ }
+        ensures { λ r. ⌜ ServerSteps r (waitingRow self size (letterFor (packetKind packet)) (packetValues packet) (verdictWords verdict) (sessionOf Client (now (stream .entry)))) ⌝ }
     {
         match packet {
             Packet::Login { number } => {
@@ -198,7 +198,7 @@ impl Server {
 
     // A login that was decided on.
     fn log_in(self, decision: Decision, size: usize) -> Stepped
-        ensures { λ r. ⌜ Steps r (loginRow self size (decisionWords decision)) ⌝ }
+        ensures { λ r. ⌜ ServerSteps r (loginRow self size (decisionWords decision)) ⌝ }
     {
         match decision {
             Decision::Accepted { number } => {
@@ -218,7 +218,7 @@ impl Server {
     // Logged in.
     fn take_in(self, packet: Packet, size: usize) -> Stepped
         requires { ⌜ headSize ≤ size ⌝ }
-        ensures { λ r. ⌜ Steps r (inRow self size (letterFor (packetKind packet))) ⌝ }
+        ensures { λ r. ⌜ ServerSteps r (inRow self size (letterFor (packetKind packet))) ⌝ }
     {
         match packet {
             Packet::Unsequenced => {

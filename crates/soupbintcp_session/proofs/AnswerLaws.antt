@@ -11,24 +11,24 @@ use Rattle.wire.specs.declared.kinds.ByteOffset.{ByteOffset}
 use Rattle.wire.proofs.Words.{read-back}
 use Rattle.soupbintcp_session.specs.declared.answer.Answer.{Answer}
 use Rattle.soupbintcp_session.specs.declared.answer.Answer.the-variants.{NeedMore, Accepted, Rejected, Sequenced, Unsequenced, Heartbeat, Debug, LoggedOut, EndOfSession, Refused}
-use Rattle.soupbintcp_session.specs.Answer.{Reply, wants-more, accepted, rejected, sequenced, unsequenced, heartbeat, debug, logged-out, end-of-session, answerWords, AnswersApart, messageAt, messageOf}
+use Rattle.soupbintcp_session.specs.Answer.{SessionAnswerKind, wants-more, accepted, rejected, sequenced, unsequenced, heartbeat, debug, logged-out, end-of-session, sessionAnswerWords, SessionAnswersApart, answerMessageAt, answerMessage}
 use Rattle.soupbintcp_session.proofs.answer.Answer.{the-type}
 
 -- ---- the message
 
 module _ (a : Answer) (at : ByteOffset) (k : ℕ) (l y : List ℕ) where
-  pub message-sequenced : (n : SequenceNumber) → a ≡ Sequenced n at k → y ≡ take k (drop (at .0) l) → y ≡ messageOf (answerWords a) l
-  unfolding answerWords messageAt
+  pub message-sequenced : (n : SequenceNumber) → a ≡ Sequenced n at k → y ≡ take k (drop (at .0) l) → y ≡ answerMessage (sessionAnswerWords a) l
+  unfolding sessionAnswerWords answerMessageAt
   message-sequenced n e f = f ∙ rw e refl
 
-  pub message-unsequenced : a ≡ Unsequenced at k → y ≡ take k (drop (at .0) l) → y ≡ messageOf (answerWords a) l
-  unfolding answerWords messageAt
+  pub message-unsequenced : a ≡ Unsequenced at k → y ≡ take k (drop (at .0) l) → y ≡ answerMessage (sessionAnswerWords a) l
+  unfolding sessionAnswerWords answerMessageAt
   message-unsequenced e f = f ∙ rw e refl
 
 -- every other answer hands up none
 pub message-none : (a : Answer) (l y : List ℕ) → OneOf (0 ∷ 1 ∷ 2 ∷ 5 ∷ 6 ∷ 7 ∷ 8 ∷ 9 ∷ []) (tagOf the-type a) → y ≡ take 0 (drop 0 l)
-    → y ≡ messageOf (answerWords a) l
-unfolding answerWords messageAt
+    → y ≡ answerMessage (sessionAnswerWords a) l
+unfolding sessionAnswerWords answerMessageAt
 message-none NeedMore l y k e = e
 message-none (Accepted n) l y k e = e
 message-none (Rejected reason) l y k e = e
@@ -42,7 +42,7 @@ message-none (Refused r) l y k e = e
 
 -- ---- the words of an answer read back
 
-answer-of : Case Reply → ℕ → List ℕ → Answer
+answer-of : Case SessionAnswerKind → ℕ → List ℕ → Answer
 answer-of (answer wants-more) r vs = NeedMore
 answer-of (answer accepted) r vs = Accepted (record { 0 = getD vs 0 0 })
 answer-of (answer rejected) r vs = Rejected (getD vs 0 0)
@@ -54,11 +54,11 @@ answer-of (answer logged-out) r vs = LoggedOut
 answer-of (answer end-of-session) r vs = EndOfSession
 answer-of refused r vs = Refused (record { number = r })
 
-pub answers-apart : AnswersApart
-unfolding AnswersApart answerWords answer-of
-answers-apart = read-back answerWords (λ w. answer-of (w .which) (w .refusal) (w .values)) back
+pub answers-apart : SessionAnswersApart
+unfolding SessionAnswersApart sessionAnswerWords answer-of
+answers-apart = read-back sessionAnswerWords (λ w. answer-of (w .which) (w .refusal) (w .values)) back
   where
-    back : (a : Answer) → answer-of (answerWords a .which) (answerWords a .refusal) (answerWords a .values) ≡ a
+    back : (a : Answer) → answer-of (sessionAnswerWords a .which) (sessionAnswerWords a .refusal) (sessionAnswerWords a .values) ≡ a
     back NeedMore = refl
     back (Accepted n) = refl
     back (Rejected reason) = refl

@@ -16,7 +16,7 @@ use Rattle.soupbintcp.specs.Fields.{hasFields}
 use Rattle.soupbintcp.specs.Front.{packet, wants-more, frontOf, packetBytes, sessionOf, usernameOf, passwordOf, Stable, StableBytes}
 use Rattle.soupbintcp.proofs.KindLaws.{its-letter, one-number, same-kind}
 use Rattle.soupbintcp.proofs.StableLaws.{front-promises}
-use Rattle.soupbintcp_session.specs.Answer.{Reply, accepted, rejected, sequenced, unsequenced, heartbeat, debug, logged-out, end-of-session}
+use Rattle.soupbintcp_session.specs.Answer.{SessionAnswerKind, accepted, rejected, sequenced, unsequenced, heartbeat, debug, logged-out, end-of-session}
 use Rattle.soupbintcp_session.specs.Answer as reply
 use Rattle.soupbintcp_session.specs.Statements.{TakesNothing, needs-more, is-refused}
 
@@ -66,7 +66,7 @@ numbered-in-front s l k vs p i a h =
 
 -- ---- the answers that take a packet and hand up nothing, but for a login accepted
 
-pub data Plain : Case Reply → Type 0 where
+pub data Plain : Case SessionAnswerKind → Type 0 where
   a-rejection : Plain (answer rejected)
   a-heartbeat : Plain (answer heartbeat)
   a-debug : Plain (answer debug)
@@ -74,7 +74,7 @@ pub data Plain : Case Reply → Type 0 where
   an-end : Plain (answer end-of-session)
 
 -- the answers in five heaps, which tell them apart
-heap : Case Reply → ℕ
+heap : Case SessionAnswerKind → ℕ
 heap refused = 0
 heap (answer reply.wants-more) = 0
 heap (answer accepted) = 1
@@ -86,7 +86,7 @@ heap (answer debug) = 4
 heap (answer logged-out) = 4
 heap (answer end-of-session) = 4
 
-plain-heap : (w : Case Reply) → Plain w → heap w ≡ 4
+plain-heap : (w : Case SessionAnswerKind) → Plain w → heap w ≡ 4
 unfolding heap
 plain-heap w a-rejection = refl
 plain-heap w a-heartbeat = refl
@@ -94,12 +94,12 @@ plain-heap w a-debug = refl
 plain-heap w a-logout = refl
 plain-heap w an-end = refl
 
-nothing-heap : (w : Case Reply) → TakesNothing w → heap w ≡ 0
+nothing-heap : (w : Case SessionAnswerKind) → TakesNothing w → heap w ≡ 0
 unfolding heap
 nothing-heap w needs-more = refl
 nothing-heap w is-refused = refl
 
-pub plain-takes : (w : Case Reply) → Plain w → TakesNothing w → ⊥
+pub plain-takes : (w : Case SessionAnswerKind) → Plain w → TakesNothing w → ⊥
 plain-takes w p n = let a = plain-heap w p in let b = nothing-heap w n in omega arith
 
 pub accepted-takes : TakesNothing (answer accepted) → ⊥
@@ -115,7 +115,7 @@ unfolding heap
 unsequenced-takes n = let b = nothing-heap (answer unsequenced) n in omega arith
 
 -- a plain answer hands up no message, and accepts no login
-module _ (w : Case Reply) (p : Plain w) where
+module _ (w : Case SessionAnswerKind) (p : Plain w) where
   pub plain-not-accepted : w ≡ answer accepted → ⊥
   unfolding heap
   plain-not-accepted e = let a = plain-heap w p in let b = ap heap e in omega arith

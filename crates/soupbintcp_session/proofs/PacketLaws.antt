@@ -10,7 +10,7 @@ use Rattle.wire.specs.Parts.{firstBytes}
 use Rattle.wire.proofs.PartLaws.{first-there}
 use Rattle.soupbintcp.specs.declared.packet.Sender.{Sender}
 use Rattle.soupbintcp.specs.Letters.{PacketKind}
-use Rattle.soupbintcp.specs.Head.{lengthOf, letterOf}
+use Rattle.soupbintcp.specs.Head.{packetLength, letterOf}
 use Rattle.soupbintcp.specs.Fields.{fieldsOf}
 use Rattle.soupbintcp.specs.Front.{packet, frontOf}
 use Rattle.soupbintcp.proofs.HeadLaws.{IsWhole, whole-so, length-stays, letter-stays}
@@ -26,7 +26,7 @@ own-whole s l k o =
     let b = o .head in
     let n : length (take k l) ≡ k = length-take-le k l a in
     let j : take k l ++ drop k l ≡ l = take-append-drop k l in
-    let e : lengthOf l ≡ lengthOf (take k l) = ap lengthOf (sym j) ∙ length-stays (take k l) (drop k l) (omega arith) in
+    let e : packetLength l ≡ packetLength (take k l) = ap packetLength (sym j) ∙ length-stays (take k l) (drop k l) (omega arith) in
     let f : letterOf l ≡ letterOf (take k l) = ap letterOf (sym j) ∙ letter-stays (take k l) (drop k l) (omega arith) in
     record {
       size = rw (← e) (o .size);

@@ -6,10 +6,10 @@ use Prim.Native.Nat.{ℕ, zero, suc, _≤_}
 use native.Mathlib.Omega.{arith}
 use lib.ListN.{length, take, drop, length-drop, take-append-drop}
 use lib.Seq.{take-append-le, drop-append-le}
-use Rattle.soupbintcp_session.specs.Answer.{Outcome}
+use Rattle.soupbintcp_session.specs.Answer.{StepOutcome}
 use Rattle.wire.specs.Bytes.{joined}
 use Rattle.soupbintcp_session.specs.Stream.{Taking, Run, Stepping, stopped, then-run, runAt, runUpTo, run, runOn, runPieces, packetsOf}
-use Rattle.soupbintcp_session.specs.Statements.{TakesNothing, AnyCutting, RunsOn}
+use Rattle.soupbintcp_session.specs.Statements.{TakesNothing, AnyStreamCutting, RunsOn}
 
 -- what a run asks of its step: it takes no more than there is, what it takes doesn't change by what follows, and it takes nothing
 -- only by need more and by a refusal
@@ -103,7 +103,7 @@ module _ {S : Type 0} (step : Stepping S) (o : Steady S step) where
       let a : step s (l ++ m) ≡ step s l = o .keeps s l m k e in
       let b : take (suc k) (l ++ m) ≡ take (suc k) l = take-append-le (suc k) l m h in
       let c : drop (suc k) (l ++ m) ≡ drop (suc k) l ++ m = drop-append-le (suc k) l m h in
-      run-goes s (l ++ m) k (ap (λ (x : Outcome S). x .size) a ∙ e) ∙ rw (a, b, c) (ap (then-run (taken-of s l k)) (ih m))
+      run-goes s (l ++ m) k (ap (λ (x : StepOutcome S). x .size) a ∙ e) ∙ rw (a, b, c) (ap (then-run (taken-of s l k)) (ih m))
 
   pub run-append : (s : S) (l m : List ℕ) → run step s (l ++ m) ≡ runOn step (run step s l) m
   unfolding Appends
@@ -114,7 +114,7 @@ module _ {S : Type 0} (step : Stepping S) (o : Steady S step) where
   pieces-from s l [] = rw (append-nil l) refl
   pieces-from s l (m ∷ ms) = rw (← run-append s l m) (pieces-from s (l ++ m) ms) ∙ ap (run step s) (append-assoc l m (joined ms))
 
-  pub any-cutting : AnyCutting S step
+  pub any-cutting : AnyStreamCutting S step
   unfolding run runUpTo
   any-cutting s ms = pieces-from s [] ms
 

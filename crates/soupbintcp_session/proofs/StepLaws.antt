@@ -9,31 +9,31 @@ use Rattle.wire.specs.Words.{Words, answer, refused, says, refuses}
 use Rattle.soupbintcp.specs.declared.packet.Sender.{Sender}
 use Rattle.soupbintcp.specs.Front.{packetBytes, payloadOf}
 use Rattle.soupbintcp.proofs.StableLaws.{said-bytes, said-payload}
-use Rattle.soupbintcp_session.specs.Answer.{Reply, wants-more, messageOf, Outcome, stays, takes}
+use Rattle.soupbintcp_session.specs.Answer.{SessionAnswerKind, wants-more, answerMessage, StepOutcome, stays, takes}
 use Rattle.soupbintcp_session.specs.Stream.{Stepping}
 use Rattle.soupbintcp_session.specs.Statements.{ChangesNothing, TakesNothing, needs-more, is-refused, TakesPackets, HandsUpPayload}
 use Rattle.soupbintcp_session.proofs.FrontCases.{InFront}
 
 -- an answer that takes nothing gives nothing else: need more, or a refusal's number
-pub data Rests : Words Reply → Type 0 where
+pub data Rests : Words SessionAnswerKind → Type 0 where
   waits : Rests (says wants-more [])
   refusing : (r : ℕ) → Rests (refuses r)
 
-rests-nothing : (w : Words Reply) → Rests w → TakesNothing (w .which)
+rests-nothing : (w : Words SessionAnswerKind) → Rests w → TakesNothing (w .which)
 rests-nothing w waits = needs-more
 rests-nothing w (refusing r) = is-refused
 
 -- and it is none that takes a packet
-pub never-rests : (w : Words Reply) → Rests w → (r : Reply) → (TakesNothing (answer r) → ⊥) → w .which ≡ answer r → ⊥
+pub never-rests : (w : Words SessionAnswerKind) → Rests w → (r : SessionAnswerKind) → (TakesNothing (answer r) → ⊥) → w .which ≡ answer r → ⊥
 never-rests w n r f e = let b : TakesNothing (w .which) = rests-nothing w n in f (rw e at b)
 
 -- a step rests, or it takes the packet in front and hands up no more than its payload
-pub data Does {S : Type 0} (s : S) (l : List ℕ) (from : Sender) (kind : Reply) (o : Outcome S) : Type 0 where
-  rests : (w : Words Reply) → Rests w → o ≡ stays s w → Does s l from kind o
-  moves : (k : ℕ) (vs : List ℕ) (w : Words Reply) (t : S) → InFront from l k vs → (TakesNothing (w .which) → ⊥)
-      → (w .which ≡ answer kind → messageOf w l ≡ take (k - 3) (drop 3 l)) → o ≡ takes k w t → Does s l from kind o
+pub data Does {S : Type 0} (s : S) (l : List ℕ) (from : Sender) (kind : SessionAnswerKind) (o : StepOutcome S) : Type 0 where
+  rests : (w : Words SessionAnswerKind) → Rests w → o ≡ stays s w → Does s l from kind o
+  moves : (k : ℕ) (vs : List ℕ) (w : Words SessionAnswerKind) (t : S) → InFront from l k vs → (TakesNothing (w .which) → ⊥)
+      → (w .which ≡ answer kind → answerMessage w l ≡ take (k - 3) (drop 3 l)) → o ≡ takes k w t → Does s l from kind o
 
-module _ {S : Type 0} {s : S} {l : List ℕ} {from : Sender} {kind : Reply} {o : Outcome S} where
+module _ {S : Type 0} {s : S} {l : List ℕ} {from : Sender} {kind : SessionAnswerKind} {o : StepOutcome S} where
   pub takes-what-is-there : Does s l from kind o → o .size ≤ length l
   takes-what-is-there (rests w n e) = rw e (omega arith)
   takes-what-is-there (moves k vs w t i n m e) = rw e (i .within)
@@ -44,7 +44,7 @@ module _ {S : Type 0} {s : S} {l : List ℕ} {from : Sender} {kind : Reply} {o :
 
   waits-so : Does s l from kind o → o .reply .which ≡ answer wants-more → o ≡ stays s (says wants-more [])
   waits-so (rests w waits e) z = e
-  waits-so (rests w (refusing r) e) z = let f : refuses {K = Reply} r .which ≡ answer wants-more = rw e at z in let y : _≡_ {A = ℕ} 0 1 = cc in absurd (omega arith)
+  waits-so (rests w (refusing r) e) z = let f : refuses {K = SessionAnswerKind} r .which ≡ answer wants-more = rw e at z in let y : _≡_ {A = ℕ} 0 1 = cc in absurd (omega arith)
   waits-so (moves k vs w t i n m e) z = let f : w .which ≡ answer wants-more = rw e at z in absurd (n (rw f needs-more))
 
   refuses-so : Does s l from kind o → o .reply .which ≡ refused → o ≡ stays s (refuses (o .reply .refusal))
@@ -65,13 +65,13 @@ module _ {S : Type 0} {s : S} {l : List ℕ} {from : Sender} {kind : Reply} {o :
   some-of (rests w n e) z = absurd (z (rw e (rests-nothing w n)))
   some-of (moves k vs w t i n m e) z = rw e (i .some)
 
-  hands-payload : (TakesNothing (answer kind) → ⊥) → Does s l from kind o → o .reply .which ≡ answer kind → messageOf (o .reply) l ≡ payloadOf from l
+  hands-payload : (TakesNothing (answer kind) → ⊥) → Does s l from kind o → o .reply .which ≡ answer kind → answerMessage (o .reply) l ≡ payloadOf from l
   hands-payload f (rests w n e) z =
       absurd (never-rests w n kind f (rw e at z))
   hands-payload f (moves k vs w t i n m e) z =
       rw e (m (rw e at z) ∙ sym (said-payload from l (i .kind) k vs (i .front)))
 
-module _ {S : Type 0} (step : Stepping S) (from : Sender) (kind : Reply) (d : (s : S) (l : List ℕ) → Does s l from kind (step s l)) where
+module _ {S : Type 0} (step : Stepping S) (from : Sender) (kind : SessionAnswerKind) (d : (s : S) (l : List ℕ) → Does s l from kind (step s l)) where
   pub changes-nothing : ChangesNothing S step
   changes-nothing = record { need-more = λ (s : S) (l : List ℕ). waits-so (d s l); refusal = λ (s : S) (l : List ℕ). refuses-so (d s l) }
 

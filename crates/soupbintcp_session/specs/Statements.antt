@@ -7,7 +7,7 @@ use Rattle.wire.specs.Words.{Case, answer, refused, says, refuses}
 use Rattle.soupbintcp.specs.declared.packet.Sender.{Sender}
 use Rattle.soupbintcp.specs.Head.{headSize}
 use Rattle.soupbintcp.specs.Front.{packetBytes, payloadOf}
-use Rattle.soupbintcp_session.specs.Answer.{Reply, wants-more, messageOf, stays}
+use Rattle.soupbintcp_session.specs.Answer.{SessionAnswerKind, wants-more, answerMessage, stays}
 use Rattle.wire.specs.Bytes.{joined}
 use Rattle.soupbintcp_session.specs.Stream.{Stepping, stopped, run, runPieces, packetsOf}
 
@@ -17,7 +17,7 @@ pub record ChangesNothing (S : Type 0) (step : Stepping S) : Type 0 where
   pub refusal : (s : S) (l : List ℕ) → step s l .reply .which ≡ refused → step s l ≡ stays s (refuses (step s l .reply .refusal))
 
 -- an answer that takes nothing
-pub data TakesNothing : Case Reply → Type 0 where
+pub data TakesNothing : Case SessionAnswerKind → Type 0 where
   needs-more : TakesNothing (answer wants-more)
   is-refused : TakesNothing refused
 
@@ -31,12 +31,12 @@ abbrev pub TakesPackets : (S : Type 0) → Stepping S → Sender → Type 0
 TakesPackets S step from = (s : S) (l : List ℕ) → (TakesNothing (step s l .reply .which) → ⊥) → TakesPacket S step from s l
 
 -- a message that is handed up is the payload of the packet in front
-abbrev pub HandsUpPayload : (S : Type 0) → Stepping S → Sender → Reply → Type 0
-HandsUpPayload S step from kind = (s : S) (l : List ℕ) → step s l .reply .which ≡ answer kind → messageOf (step s l .reply) l ≡ payloadOf from l
+abbrev pub HandsUpPayload : (S : Type 0) → Stepping S → Sender → SessionAnswerKind → Type 0
+HandsUpPayload S step from kind = (s : S) (l : List ℕ) → step s l .reply .which ≡ answer kind → answerMessage (step s l .reply) l ≡ payloadOf from l
 
 -- a stream in pieces, however it is cut, gives what it gives whole
-abbrev pub AnyCutting : (S : Type 0) → Stepping S → Type 0
-AnyCutting S step = (s : S) (ms : List (List ℕ)) → runPieces step (stopped s []) ms ≡ run step s (joined ms)
+abbrev pub AnyStreamCutting : (S : Type 0) → Stepping S → Type 0
+AnyStreamCutting S step = (s : S) (ms : List (List ℕ)) → runPieces step (stopped s []) ms ≡ run step s (joined ms)
 
 -- a run takes packets from the front of the stream, and stops only where a step takes nothing
 pub record RunsOn (S : Type 0) (step : Stepping S) (s : S) (l : List ℕ) : Type 0 where

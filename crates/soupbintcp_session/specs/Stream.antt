@@ -3,12 +3,12 @@ use Prim.Native.Nat.{ℕ, zero, suc}
 use mathlib.Core.List.{List, [], _∷_, _++_}
 use lib.ListN.{length, take, drop}
 use Rattle.wire.specs.Words.{Words}
-use Rattle.soupbintcp_session.specs.Answer.{Reply, Outcome}
+use Rattle.soupbintcp_session.specs.Answer.{SessionAnswerKind, StepOutcome}
 
 -- a step that took a packet: its bytes, and its answer
 pub record Taking : Type 0 where
   pub bytes : List ℕ
-  pub reply : Words Reply
+  pub reply : Words SessionAnswerKind
 
 -- the packets taken, in order; the session then; and what is left of the stream
 pub record Run (S : Type 0) : Type 0 where
@@ -18,7 +18,7 @@ pub record Run (S : Type 0) : Type 0 where
 
 -- how a session steps
 abbrev pub Stepping : Type 0 → Type 0
-Stepping S = S → List ℕ → Outcome S
+Stepping S = S → List ℕ → StepOutcome S
 
 abbrev pub stopped : {S : Type 0} → S → List ℕ → Run S
 stopped s l = record { taken = []; after = s; rest = l }
@@ -27,7 +27,7 @@ abbrev pub then-run : {S : Type 0} → Taking → Run S → Run S
 then-run x r = record { taken = x ∷ r .taken; after = r .after; rest = r .rest }
 
 -- on with the rest after a packet of some size; need more and a refusal, which take nothing, stop
-unfoldable pub runAt : {S : Type 0} → S → List ℕ → Outcome S → ℕ → (S → List ℕ → Run S) → Run S
+unfoldable pub runAt : {S : Type 0} → S → List ℕ → StepOutcome S → ℕ → (S → List ℕ → Run S) → Run S
 runAt s l o zero on = stopped s l
 runAt s l o (suc k) on = then-run (record { bytes = take (suc k) l; reply = o .reply }) (on (o .after) (drop (suc k) l))
 

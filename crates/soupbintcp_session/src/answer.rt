@@ -4,7 +4,7 @@ use wire::kinds::SequenceNumber;
 use wire::parts;
 use wire::refusal::Refusal;
 ghost use mathlib.Core.Path.{_≡_};
-ghost use Rattle.soupbintcp_session.specs.Answer.{answerWords, messageOf, AnswersApart};
+ghost use Rattle.soupbintcp_session.specs.Answer.{sessionAnswerWords, answerMessage, SessionAnswersApart};
 
 pub enum Answer {
     NeedMore,
@@ -35,8 +35,8 @@ pub enum Answer {
 
 // The message that an answer hands up, as a part of the stream that was answered; no bytes where it hands up none.
 pub fn message(stream: &[u8], answer: Answer) -> &[u8]
-    ensures { λ r. ⌜ now r ≡ messageOf (answerWords answer) (now (stream .entry)) ⌝ }
-    ensures tells_apart { λ _. ⌜ AnswersApart ⌝ }
+    ensures { λ r. ⌜ now r ≡ answerMessage (sessionAnswerWords answer) (now (stream .entry)) ⌝ }
+    ensures tells_apart { λ _. ⌜ SessionAnswersApart ⌝ }
 {
     match answer {
         Answer::Sequenced {

@@ -16,14 +16,14 @@ use Rattle.wire.proofs.Numbers.{bytes-number}
 use Rattle.text_fields.specs.Letters.{afterSpaces}
 use Rattle.text_fields.specs.Session.{goodSession}
 use Rattle.text_fields.specs.Sound.{soundUsername, soundPassword}
-use Rattle.text_fields.specs.Number.{Reading, value, bad, isNumber, numberOf, numberField, NoLeadingZero}
+use Rattle.text_fields.specs.Number.{NumberKind, value, bad, isNumber, readNumber, numberField, NoLeadingZero}
 use Rattle.text_fields.proofs.FieldLaws.{number-laws}
 use Rattle.decimal.specs.Decimal.{valueOf, areDigits}
 use Rattle.soupbintcp.specs.declared.packet.Sender.{Sender}
 use Rattle.soupbintcp.specs.declared.packet.Sender.the-variants.{Server, Client}
-use Rattle.soupbintcp.specs.Letters.{PacketKind, accepted, rejected, login, letterFor, mostPayload, rowOf, allows}
-use Rattle.soupbintcp.specs.Head.{lengthOf, letterOf}
-use Rattle.soupbintcp.specs.Fields.{Fielding, good, bad-field, hasFields, sessionAt, sessionBytes, numberBytes, blankAllowed, leastNumberOf, withNumber, goodReason, reasonFields, fieldsAt, fieldsOf}
+use Rattle.soupbintcp.specs.Letters.{PacketKind, accepted, rejected, login, letterFor, mostPayload, letterRow, allows}
+use Rattle.soupbintcp.specs.Head.{packetLength, letterOf}
+use Rattle.soupbintcp.specs.Fields.{FieldsKind, good, bad-field, hasFields, sessionAt, sessionBytes, numberBytes, blankAllowed, leastNumberOf, withNumber, goodReason, reasonFields, fieldsAt, fieldsOf}
 use Rattle.soupbintcp.specs.Front.{frontOf, payloadOf, sessionOf, usernameOf, passwordOf}
 use Rattle.soupbintcp.specs.Front as front
 use Rattle.soupbintcp.proofs.LetterLaws.{allowed-most, allowed-least}
@@ -31,13 +31,13 @@ use Rattle.soupbintcp.proofs.HeadLaws.{IsWhole, whole-short}
 use Rattle.soupbintcp.proofs.FrontLaws.{IsPacket, said-packet}
 use Rattle.soupbintcp.proofs.KindLaws.{bad-never, numbered, its-letter}
 use Rattle.soupbintcp.proofs.StableLaws.{said-bytes, said-session, said-login}
-use Rattle.soupbintcp_writer.specs.Packets.{headBytes, packet, payloadGround, acceptedGround, acceptedPayload, reasonGround, goodLogin, loginGround, loginPayload}
+use Rattle.soupbintcp_writer.specs.Packets.{headBytes, encoded, payloadGround, acceptedGround, acceptedPayload, reasonGround, goodLogin, loginGround, loginPayload}
 use Rattle.soupbintcp_writer.specs.RoundTrips.{WithPayload, LetterAlone, EveryPacketWritesBack, AcceptedFits, LoginFits}
 
 -- ---- the packet is written of its letter and what stands behind the head
 
-head-bytes : (l : List ℕ) → AreBytes l → 2 ≤ length l → bytes 2 (lengthOf l) ≡ take 2 l
-unfolding lengthOf
+head-bytes : (l : List ℕ) → AreBytes l → 2 ≤ length l → bytes 2 (packetLength l) ≡ take 2 l
+unfolding packetLength
 head-bytes l small h = bytes-number 2 l small h
 
 head-three : (l : List ℕ) (c : ℕ) → 3 ≤ length l → letterOf l ≡ c → take 2 l ++ (c ∷ []) ≡ take 3 l
@@ -48,16 +48,16 @@ module _ (s : Sender) (l : List ℕ) (k : PacketKind) (size : ℕ) (vs : List �
   found : IsWhole s l size
   found = said-packet s l k size vs e .head
 
-  found-again : AreBytes l → packet (letterFor k) (drop 3 (take size l)) ≡ take size l
-  unfolding packet headBytes
+  found-again : AreBytes l → encoded (letterFor k) (drop 3 (take size l)) ≡ take size l
+  unfolding encoded headBytes
   found-again small =
       let o = found in
       let a = o .head in
       let b = o .within in
       let z = o .size in
       let t : length (take size l) ≡ size = length-take-le size l b in
-      let n : length (drop 3 (take size l)) + 1 ≡ lengthOf l = omega (arith, length-drop 3 (take size l)) in
-      let f : bytes 2 (lengthOf l) ≡ take 2 l = head-bytes l small (omega arith) in
+      let n : length (drop 3 (take size l)) + 1 ≡ packetLength l = omega (arith, length-drop 3 (take size l)) in
+      let f : bytes 2 (packetLength l) ≡ take 2 l = head-bytes l small (omega arith) in
       let g : take 2 l ++ (letterFor k ∷ []) ≡ take 3 l = head-three l (letterFor k) (omega arith) (its-letter s l k size vs e) in
       let h : take 3 l ≡ take 3 (take size l) = sym (take-take 3 size l (omega arith)) in
       rw (n, f, g, h) (take-append-drop 3 (take size l))
@@ -66,7 +66,7 @@ module _ (s : Sender) (l : List ℕ) (k : PacketKind) (size : ℕ) (vs : List �
   unfolding payloadOf
   front-payload = ap (drop 3) (said-bytes s l k size vs e)
 
-  payload-written : AreBytes l → packet (letterFor k) (payloadOf s l) ≡ take size l
+  payload-written : AreBytes l → encoded (letterFor k) (payloadOf s l) ≡ take size l
   payload-written small = rw front-payload (found-again small)
 
 pub every-again : EveryPacketWritesBack
@@ -76,7 +76,7 @@ every-again s l k size vs small e = payload-written s l k size vs e small
 -- ---- + S U
 
 pub payload-again : (s : Sender) (k : PacketKind) → WithPayload s k → (l : List ℕ) (size : ℕ) → AreBytes l
-    → frontOf s l ≡ says (front.packet k) (size ∷ []) → packet (letterFor k) (payloadOf s l) ≡ take size l
+    → frontOf s l ≡ says (front.packet k) (size ∷ []) → encoded (letterFor k) (payloadOf s l) ≡ take size l
 payload-again s k t l size small e = payload-written s l k size [] e small
 
 payload-small : (p : List ℕ) → length p ≤ mostPayload → payloadGround p ≡ 0
@@ -94,18 +94,18 @@ payload-may s k t l size e =
 -- ---- H Z R O
 
 pub letter-again : (s : Sender) (k : PacketKind) → LetterAlone s k → (l : List ℕ) (size : ℕ) → AreBytes l
-    → frontOf s l ≡ says (front.packet k) (size ∷ []) → packet (letterFor k) [] ≡ take size l
+    → frontOf s l ≡ says (front.packet k) (size ∷ []) → encoded (letterFor k) [] ≡ take size l
 letter-again s k t l size small e =
     let o = found s l k size [] e in
-    let a = allowed-most (letterOf l) (lengthOf l - 1) (o .allowed) in
-    let n : lengthOf l - 1 ≤ 0 = rw (its-letter s l k size [] e, t .most) at a in
+    let a = allowed-most (letterOf l) (packetLength l - 1) (o .allowed) in
+    let n : packetLength l - 1 ≤ 0 = rw (its-letter s l k size [] e, t .most) at a in
     let h : drop 3 (take size l) ≡ [] = drop-of-length-le (take size l) {i = 3} (omega (arith, length-take-le size l (o .within), o .size)) in
     rw h at (found-again s l k size [] e small)
 
 -- ---- J
 
 rejected-one : (j : ℕ) → allows 74 j ≡ true → j ≡ 1
-unfolding rowOf
+unfolding letterRow
 rejected-one j e = omega (arith, allowed-least 74 j e, allowed-most 74 j e)
 
 record Reason (b : ℕ) (vs : List ℕ) : Type 0 where
@@ -137,8 +137,8 @@ module _ (l : List ℕ) (size b : ℕ) (e : frontOf Server l ≡ says (front.pac
   rejected-reason =
       let o = rejected-found in
       let f = rejected-fields l rejected-letter in
-      let r = reason-so (getD l 3 0) (sym (ap (λ (w : Words Fielding). w .which) f) ∙ o .kind) in
-      let v : b ∷ [] ≡ reasonFields (getD l 3 0) .values = sym (o .values) ∙ ap (λ (w : Words Fielding). w .values) f in
+      let r = reason-so (getD l 3 0) (sym (ap (λ (w : Words FieldsKind). w .which) f) ∙ o .kind) in
+      let v : b ∷ [] ≡ reasonFields (getD l 3 0) .values = sym (o .values) ∙ ap (λ (w : Words FieldsKind). w .values) f in
       rw v r
 
   rejected-value : b ≡ getD l 3 0
@@ -147,11 +147,11 @@ module _ (l : List ℕ) (size b : ℕ) (e : frontOf Server l ≡ says (front.pac
   pub rejected-may : reasonGround b ≡ 0
   rejected-may = rw rejected-value (rejected-reason .reason-good)
 
-  pub rejected-again : AreBytes l → packet 74 (b ∷ []) ≡ take size l
+  pub rejected-again : AreBytes l → encoded 74 (b ∷ []) ≡ take size l
   unfolding letterFor
   rejected-again small =
       let o = rejected-found .head in
-      let n = rejected-one (lengthOf l - 1) (rw rejected-letter at (o .allowed)) in
+      let n = rejected-one (packetLength l - 1) (rw rejected-letter at (o .allowed)) in
       let z : size ≡ 4 = omega (arith, o .size, o .head) in
       let t : 4 ≤ length l = omega (arith, o .within) in
       let p : take 4 l ≡ take 3 l ++ (getD l 3 0 ∷ []) = take-suc l 3 0 (omega arith) in
@@ -161,7 +161,7 @@ module _ (l : List ℕ) (size b : ℕ) (e : frontOf Server l ≡ says (front.pac
 
 -- ---- a session and a number: c is the letter
 
-record NumberSaid (least : ℕ) (w : Words Reading) : Type 0 where
+record NumberSaid (least : ℕ) (w : Words NumberKind) : Type 0 where
   said : w ≡ says value (getD (w .values) 0 0 ∷ [])
   enough : least ≤ getD (w .values) 0 0
   fits : getD (w .values) 0 0 ≤ largestNumber
@@ -176,8 +176,8 @@ number-small t = go (ltb 0 (length t)) (areDigits t) (leb (valueOf t) largestNum
     go true false c e f = let z : _≡_ {A = ℕ} 0 1 = cc in absurd (omega arith)
     go false b c e f = let z : _≡_ {A = ℕ} 0 1 = cc in absurd (omega arith)
 
-number-said : (least : ℕ) (l : List ℕ) → numberOf least l .which ≡ answer value → NumberSaid least (numberOf least l)
-unfolding numberOf
+number-said : (least : ℕ) (l : List ℕ) → readNumber least l .which ≡ answer value → NumberSaid least (readNumber least l)
+unfolding readNumber
 number-said least l = go (isNumber (afterSpaces l)) (leb least v) refl refl
   where
     v : ℕ
@@ -190,23 +190,23 @@ number-said least l = go (isNumber (afterSpaces l)) (leb least v) refl refl
     go false y g f e = let z : _≡_ {A = ℕ} 0 1 = cc in absurd (omega arith)
 
 numbered-at : (l : List ℕ) (c : ℕ) → letterOf l ≡ c → hasFields c ≡ true
-    → fieldsOf l ≡ withNumber c (goodSession (blankAllowed c) (sessionBytes c l)) (numberOf (leastNumberOf c) (numberBytes c l))
+    → fieldsOf l ≡ withNumber c (goodSession (blankAllowed c) (sessionBytes c l)) (readNumber (leastNumberOf c) (numberBytes c l))
 unfolding fieldsOf fieldsAt
 numbered-at l c e f = rw (e, f)
 
 record NumberFound (c : ℕ) (l : List ℕ) (n : ℕ) : Type 0 where
   session-good : goodSession (blankAllowed c) (sessionBytes c l) ≡ true
-  number-read : numberOf (leastNumberOf c) (numberBytes c l) ≡ says value (n ∷ [])
+  number-read : readNumber (leastNumberOf c) (numberBytes c l) ≡ says value (n ∷ [])
   enough : leastNumberOf c ≤ n
   fits : n ≤ largestNumber
 
 number-found : (s : Sender) (l : List ℕ) (k : PacketKind) (size n : ℕ) → IsPacket s l k size (n ∷ []) → (c : ℕ) → letterOf l ≡ c → hasFields c ≡ true
     → NumberFound c l n
 number-found s l k size n o c e h =
-    let w = numberOf (leastNumberOf c) (numberBytes c l) in
+    let w = readNumber (leastNumberOf c) (numberBytes c l) in
     let f = numbered-at l c e h in
-    let x = numbered c (goodSession (blankAllowed c) (sessionBytes c l)) w k (sym (ap (λ (y : Words Fielding). y .which) f) ∙ o .kind) in
-    let v : n ∷ [] ≡ getD (w .values) 0 0 ∷ [] = sym (o .values) ∙ ap (λ (y : Words Fielding). y .values) f ∙ x .its-number in
+    let x = numbered c (goodSession (blankAllowed c) (sessionBytes c l)) w k (sym (ap (λ (y : Words FieldsKind). y .which) f) ∙ o .kind) in
+    let v : n ∷ [] ≡ getD (w .values) 0 0 ∷ [] = sym (o .values) ∙ ap (λ (y : Words FieldsKind). y .values) f ∙ x .its-number in
     let q : n ≡ getD (w .values) 0 0 = cc in
     let r = number-said (leastNumberOf c) (numberBytes c l) (x .number-good) in
     record { session-good = x .session-good; number-read = r .said ∙ ap (λ (j : ℕ). says value (j ∷ [])) (sym q); enough = rw q (r .enough); fits = rw q (r .fits) }
@@ -221,7 +221,7 @@ two-parts l a b i = take-add a b (drop i l) ∙ ap (λ (m : List ℕ). take a (d
 -- ---- A
 
 accepted-exact : (j : ℕ) → allows 65 j ≡ true → j ≡ 30
-unfolding rowOf
+unfolding letterRow
 accepted-exact j e = omega (arith, allowed-least 65 j e, allowed-most 65 j e)
 
 accepted-least : (n : ℕ) → leastNumberOf 65 ≤ n → 1 ≤ n
@@ -257,7 +257,7 @@ module _ (l : List ℕ) (size n : ℕ) (e : frontOf Server l ≡ says (front.pac
   accepted-size : size ≡ 33
   accepted-size =
       let o = accepted-found .head in
-      let j = accepted-exact (lengthOf l - 1) (rw accepted-letter at (o .allowed)) in
+      let j = accepted-exact (packetLength l - 1) (rw accepted-letter at (o .allowed)) in
       omega (arith, o .size, o .head)
 
   accepted-there : 33 ≤ length l
@@ -291,14 +291,14 @@ module _ (l : List ℕ) (size n : ℕ) (e : frontOf Server l ≡ says (front.pac
   unfolding acceptedPayload
   accepted-payload z = rw (accepted-session, accepted-number z, accepted-behind)
 
-  pub accepted-again : AreBytes l → NoLeadingZero (numberBytes 65 l) → packet 65 (acceptedPayload (sessionOf Server l) n) ≡ take size l
+  pub accepted-again : AreBytes l → NoLeadingZero (numberBytes 65 l) → encoded 65 (acceptedPayload (sessionOf Server l) n) ≡ take size l
   unfolding letterFor
-  accepted-again small z = ap (packet 65) (accepted-payload z) ∙ found-again Server l accepted size (n ∷ []) e small
+  accepted-again small z = ap (encoded 65) (accepted-payload z) ∙ found-again Server l accepted size (n ∷ []) e small
 
 -- ---- L
 
 login-exact : (j : ℕ) → allows 76 j ≡ true → j ≡ 46
-unfolding rowOf
+unfolding letterRow
 login-exact j e = omega (arith, allowed-least 76 j e, allowed-most 76 j e)
 
 login-has : hasFields 76 ≡ true
@@ -328,7 +328,7 @@ module _ (l : List ℕ) (size n : ℕ) (e : frontOf Client l ≡ says (front.pac
   login-size : size ≡ 49
   login-size =
       let o = login-found .head in
-      let j = login-exact (lengthOf l - 1) (rw login-letter at (o .allowed)) in
+      let j = login-exact (packetLength l - 1) (rw login-letter at (o .allowed)) in
       omega (arith, o .size, o .head)
 
   login-there : 49 ≤ length l
@@ -379,6 +379,6 @@ module _ (l : List ℕ) (size n : ℕ) (e : frontOf Client l ≡ says (front.pac
   login-payload z = rw (login-username, login-password, login-session, login-number z, login-behind)
 
   pub login-again : AreBytes l → NoLeadingZero (numberBytes 76 l)
-      → packet 76 (loginPayload (usernameOf Client l) (passwordOf Client l) (sessionOf Client l) n) ≡ take size l
+      → encoded 76 (loginPayload (usernameOf Client l) (passwordOf Client l) (sessionOf Client l) n) ≡ take size l
   unfolding letterFor
-  login-again small z = ap (packet 76) (login-payload z) ∙ found-again Client l login size (n ∷ []) e small
+  login-again small z = ap (encoded 76) (login-payload z) ∙ found-again Client l login size (n ∷ []) e small

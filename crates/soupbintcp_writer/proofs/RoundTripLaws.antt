@@ -1,6 +1,6 @@
 -- The round trips of every writer: what is written reads back, and what is accepted writes back.
 use mathlib.Core.Path.{refl}
-use Rattle.soupbintcp.specs.Letters.{letterFor, rowOf, sends}
+use Rattle.soupbintcp.specs.Letters.{letterFor, letterRow, sends}
 use Rattle.soupbintcp_writer.specs.RoundTrips.{PayloadKinds, AloneKinds, EveryPacketWritesBack, PayloadRoundTrip, LetterRoundTrip, RejectedRoundTrip, AcceptedRoundTrip, LoginRoundTrip}
 use Rattle.soupbintcp_writer.proofs.BackLaws.{payload-back, letter-back, rejected-back, accepted-back, login-back}
 use Rattle.soupbintcp_writer.proofs.AgainLaws.{every-again, payload-again, payload-may, letter-again, rejected-again, rejected-may, accepted-again, accepted-may, login-again, login-may}
@@ -9,7 +9,7 @@ pub every-packet : EveryPacketWritesBack
 every-packet = every-again
 
 payload-kinds : PayloadKinds
-unfolding letterFor rowOf sends
+unfolding letterFor letterRow sends
 payload-kinds =
     record {
       server-debug = record { sent = refl; least = refl; most = refl };
@@ -19,7 +19,7 @@ payload-kinds =
     }
 
 alone-kinds : AloneKinds
-unfolding letterFor rowOf sends
+unfolding letterFor letterRow sends
 alone-kinds =
     record {
       is-server-heartbeat = record { sent = refl; least = refl; most = refl };

@@ -20,7 +20,7 @@ use Rattle.text_fields.specs.Sound.{sound}
 use Rattle.text_fields.specs.Number.{numberFieldSize, numberField}
 use Rattle.soupbintcp.specs.Letters.{mostPayload}
 use Rattle.soupbintcp.specs.Fields.{goodReason}
-use Rattle.soupbintcp_writer.specs.Packets.{headBytes, packet, payloadGround, acceptedGround, acceptedPayload, reasonGround, goodLogin, loginGround, loginPayload}
+use Rattle.soupbintcp_writer.specs.Packets.{headBytes, encoded, payloadGround, acceptedGround, acceptedPayload, reasonGround, goodLogin, loginGround, loginPayload}
 
 -- ---- every writer: g is its ground, bs its bytes
 
@@ -52,13 +52,13 @@ head-put l l₁ l₂ c k h p q = laid-on l l₁ l₂ (bytes 2 (k + 1)) (c ∷ []
 
 -- ---- a letter and a payload
 
-pub length-packet : (c : ℕ) (p : List ℕ) → length (packet c p) ≡ length p + 3
-unfolding packet
+pub length-packet : (c : ℕ) (p : List ℕ) → length (encoded c p) ≡ length p + 3
+unfolding encoded
 length-packet c p = omega (arith, length-append (headBytes c (length p)) p, length-head c (length p))
 
 packet-put : (l l₁ l₂ : List ℕ) (c : ℕ) (p : List ℕ) → length p + 3 ≤ length l → l₁ ≡ put l 0 (headBytes c (length p)) → l₂ ≡ put l₁ 3 p
-    → l₂ ≡ put l 0 (packet c p)
-unfolding packet
+    → l₂ ≡ put l 0 (encoded c p)
+unfolding encoded
 packet-put l l₁ l₂ c p h e f = laid-on l l₁ l₂ (headBytes c (length p)) p 3 (length-head c (length p)) (omega arith) e f
 
 payload-22 : (p : List ℕ) → mostPayload < length p → payloadGround p ≡ 22
@@ -73,25 +73,25 @@ pub payload-refused : (l bs p : List ℕ) → mostPayload < length p → Writes 
 payload-refused l bs p h = not-written l bs (payloadGround p) 22 (payload-22 p h) (omega arith)
 
 pub payload-short : (l p : List ℕ) (c : ℕ) → length p ≤ mostPayload → length l < length p + 3
-    → Writes (Refused (record { number = 41 })) l l (payloadGround p) 0 (packet c p)
-payload-short l p c h i = no-room l (packet c p) (payloadGround p) (length p + 3) (payload-good p h) (length-packet c p) i
+    → Writes (Refused (record { number = 41 })) l l (payloadGround p) 0 (encoded c p)
+payload-short l p c h i = no-room l (encoded c p) (payloadGround p) (length p + 3) (payload-good p h) (length-packet c p) i
 
 pub payload-done : (l l₁ l₂ p : List ℕ) (c : ℕ) → length p ≤ mostPayload → length p + 3 ≤ length l → l₁ ≡ put l 0 (headBytes c (length p)) → l₂ ≡ put l₁ 3 p
-    → Writes (Wrote (length p + 3)) l l₂ (payloadGround p) 0 (packet c p)
+    → Writes (Wrote (length p + 3)) l l₂ (payloadGround p) 0 (encoded c p)
 payload-done l l₁ l₂ p c h i e f =
-    written l (packet c p) (payloadGround p) (length p + 3) l₂ (payload-good p h) (length-packet c p) i (packet-put l l₁ l₂ c p i e f)
+    written l (encoded c p) (payloadGround p) (length p + 3) l₂ (payload-good p h) (length-packet c p) i (packet-put l l₁ l₂ c p i e f)
 
 -- ---- a letter alone
 
-pub letter-short : (l : List ℕ) (c : ℕ) → length l < 3 → Writes (Refused (record { number = 41 })) l l 0 0 (packet c [])
-letter-short l c h = no-room l (packet c []) 0 3 refl (length-packet c []) h
+pub letter-short : (l : List ℕ) (c : ℕ) → length l < 3 → Writes (Refused (record { number = 41 })) l l 0 0 (encoded c [])
+letter-short l c h = no-room l (encoded c []) 0 3 refl (length-packet c []) h
 
-letter-put : (l m : List ℕ) (c : ℕ) → m ≡ put l 0 (headBytes c 0) → m ≡ put l 0 (packet c [])
-unfolding packet
+letter-put : (l m : List ℕ) (c : ℕ) → m ≡ put l 0 (headBytes c 0) → m ≡ put l 0 (encoded c [])
+unfolding encoded
 letter-put l m c e = rw (append-nil (headBytes c 0)) e
 
-pub letter-done : (l m : List ℕ) (c : ℕ) → 3 ≤ length l → m ≡ put l 0 (headBytes c 0) → Writes (Wrote 3) l m 0 0 (packet c [])
-letter-done l m c h e = written l (packet c []) 0 3 m refl (length-packet c []) h (letter-put l m c e)
+pub letter-done : (l m : List ℕ) (c : ℕ) → 3 ≤ length l → m ≡ put l 0 (headBytes c 0) → Writes (Wrote 3) l m 0 0 (encoded c [])
+letter-done l m c h e = written l (encoded c []) 0 3 m refl (length-packet c []) h (letter-put l m c e)
 
 -- ---- a number field
 
@@ -128,17 +128,17 @@ pub length-accepted : (s : List ℕ) (n : ℕ) → length s ≡ 10 → length (a
 unfolding acceptedPayload
 length-accepted s n ten = omega (arith, length-append s (numberField n), length-field n)
 
-length-A : (s : List ℕ) (n : ℕ) → length s ≡ 10 → length (packet 65 (acceptedPayload s n)) ≡ 33
+length-A : (s : List ℕ) (n : ℕ) → length s ≡ 10 → length (encoded 65 (acceptedPayload s n)) ≡ 33
 length-A s n ten = omega (arith, length-packet 65 (acceptedPayload s n), length-accepted s n ten)
 
 pub accepted-short : (l s : List ℕ) (n : ℕ) (b : Bool) → length s ≡ 10 → b ≡ goodSession false s → not b ≡ false → (n ≡ 0 → ⊥) → length l < 33
-    → Writes (Refused (record { number = 41 })) l l (acceptedGround s n) 0 (packet 65 (acceptedPayload s n))
+    → Writes (Refused (record { number = 41 })) l l (acceptedGround s n) 0 (encoded 65 (acceptedPayload s n))
 accepted-short l s n b ten e f z h =
-    no-room l (packet 65 (acceptedPayload s n)) (acceptedGround s n) 33 (accepted-good s n b e f z) (length-A s n ten) h
+    no-room l (encoded 65 (acceptedPayload s n)) (acceptedGround s n) 33 (accepted-good s n b e f z) (length-A s n ten) h
 
 accepted-put : (l l₁ l₂ l₃ s : List ℕ) (n : ℕ) → length s ≡ 10 → 33 ≤ length l → l₁ ≡ put l 0 (headBytes 65 30) → l₂ ≡ put l₁ 3 s
-    → l₃ ≡ put l₂ 13 (numberField n) → l₃ ≡ put l 0 (packet 65 (acceptedPayload s n))
-unfolding packet acceptedPayload
+    → l₃ ≡ put l₂ 13 (numberField n) → l₃ ≡ put l 0 (encoded 65 (acceptedPayload s n))
+unfolding encoded acceptedPayload
 accepted-put l l₁ l₂ l₃ s n ten h e f g =
     let k = length-field n in
     let q = length-head 65 30 in
@@ -150,9 +150,9 @@ accepted-put l l₁ l₂ l₃ s n ten h e f g =
 
 pub accepted-done : (l l₁ l₂ l₃ s : List ℕ) (n : ℕ) (b : Bool) → length s ≡ 10 → b ≡ goodSession false s → not b ≡ false → (n ≡ 0 → ⊥) → 33 ≤ length l
     → l₁ ≡ put l 0 (headBytes 65 30) → l₂ ≡ put l₁ 3 s → l₃ ≡ put l₂ 13 (numberField n)
-    → Writes (Wrote 33) l l₃ (acceptedGround s n) 0 (packet 65 (acceptedPayload s n))
+    → Writes (Wrote 33) l l₃ (acceptedGround s n) 0 (encoded 65 (acceptedPayload s n))
 accepted-done l l₁ l₂ l₃ s n b ten e f z h p q r =
-    written l (packet 65 (acceptedPayload s n)) (acceptedGround s n) 33 l₃ (accepted-good s n b e f z) (length-A s n ten) h
+    written l (encoded 65 (acceptedPayload s n)) (acceptedGround s n) 33 l₃ (accepted-good s n b e f z) (length-A s n ten) h
     (accepted-put l l₁ l₂ l₃ s n ten h p q r)
 
 -- ---- login rejected: b is its reason, t whether it is one
@@ -207,13 +207,13 @@ unfolding loginPayload
 length-login u w s n six ten ten' =
     omega (arith, length-append ((u ++ w) ++ s) (numberField n), length-append (u ++ w) s, length-append u w, length-field n)
 
-length-L : (u w s : List ℕ) (n : ℕ) → length u ≡ 6 → length w ≡ 10 → length s ≡ 10 → length (packet 76 (loginPayload u w s n)) ≡ 49
+length-L : (u w s : List ℕ) (n : ℕ) → length u ≡ 6 → length w ≡ 10 → length s ≡ 10 → length (encoded 76 (loginPayload u w s n)) ≡ 49
 length-L u w s n six ten ten' = omega (arith, length-packet 76 (loginPayload u w s n), length-login u w s n six ten ten')
 
 pub login-short : (l u w s : List ℕ) (n : ℕ) (b : Bool) → length u ≡ 6 → length w ≡ 10 → length s ≡ 10 → b ≡ goodLogin u w s → not b ≡ false
-    → length l < 49 → Writes (Refused (record { number = 41 })) l l (loginGround u w s) 0 (packet 76 (loginPayload u w s n))
+    → length l < 49 → Writes (Refused (record { number = 41 })) l l (loginGround u w s) 0 (encoded 76 (loginPayload u w s n))
 login-short l u w s n b six ten ten' e f h =
-    no-room l (packet 76 (loginPayload u w s n)) (loginGround u w s) 49 (login-good u w s b e f) (length-L u w s n six ten ten') h
+    no-room l (encoded 76 (loginPayload u w s n)) (loginGround u w s) 49 (login-good u w s b e f) (length-L u w s n six ten ten') h
 
 -- the three names laid behind the head
 pub names-put : (l l₁ l₂ l₃ u w s : List ℕ) → length u ≡ 6 → length w ≡ 10 → length s ≡ 10 → 29 ≤ length l
@@ -226,8 +226,8 @@ names-put l l₁ l₂ l₃ u w s six ten ten' h e f g =
     rw (g, f, e, a) b
 
 login-put : (l l₁ l₂ l₃ u w s : List ℕ) (n : ℕ) → length u ≡ 6 → length w ≡ 10 → length s ≡ 10 → 49 ≤ length l
-    → l₁ ≡ put l 0 (headBytes 76 46) → l₂ ≡ put l₁ 3 (u ++ w ++ s) → l₃ ≡ put l₂ 29 (numberField n) → l₃ ≡ put l 0 (packet 76 (loginPayload u w s n))
-unfolding packet loginPayload
+    → l₁ ≡ put l 0 (headBytes 76 46) → l₂ ≡ put l₁ 3 (u ++ w ++ s) → l₃ ≡ put l₂ 29 (numberField n) → l₃ ≡ put l 0 (encoded 76 (loginPayload u w s n))
+unfolding encoded loginPayload
 login-put l l₁ l₂ l₃ u w s n six ten ten' h e f g =
     let k = length-field n in
     let q = length-head 76 46 in
@@ -241,7 +241,7 @@ login-put l l₁ l₂ l₃ u w s n six ten ten' h e f g =
 
 pub login-done : (l l₁ l₂ l₃ u w s : List ℕ) (n : ℕ) (b : Bool) → length u ≡ 6 → length w ≡ 10 → length s ≡ 10 → b ≡ goodLogin u w s → not b ≡ false
     → 49 ≤ length l → l₁ ≡ put l 0 (headBytes 76 46) → l₂ ≡ put l₁ 3 (u ++ w ++ s) → l₃ ≡ put l₂ 29 (numberField n)
-    → Writes (Wrote 49) l l₃ (loginGround u w s) 0 (packet 76 (loginPayload u w s n))
+    → Writes (Wrote 49) l l₃ (loginGround u w s) 0 (encoded 76 (loginPayload u w s n))
 login-done l l₁ l₂ l₃ u w s n b six ten ten' e f h p q r =
-    written l (packet 76 (loginPayload u w s n)) (loginGround u w s) 49 l₃ (login-good u w s b e f) (length-L u w s n six ten ten') h
+    written l (encoded 76 (loginPayload u w s n)) (loginGround u w s) 49 l₃ (login-good u w s b e f) (length-L u w s n six ten ten') h
     (login-put l l₁ l₂ l₃ u w s n six ten ten' h p q r)

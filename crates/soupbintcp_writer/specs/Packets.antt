@@ -4,6 +4,7 @@ use mathlib.Core.List.{List, [], _∷_, _++_}
 use mathlib.Core.Bool.{Bool, true, false}
 use lib.ListN.{length}
 use lib.Dec.{ltb, eqb}
+use Rattle.wire.specs.Bounds.{lengthSize}
 use Rattle.wire.specs.Choice.{if_then_else_}
 use Rattle.wire.specs.Refusals.{payloadLong, fieldNotWritten}
 use Rattle.wire.specs.Bytes.{bytes}
@@ -11,15 +12,14 @@ use Rattle.text_fields.specs.Session.{goodSession}
 use Rattle.text_fields.specs.Number.{numberField}
 use Rattle.text_fields.specs.Sound.{soundUsername, soundPassword}
 use Rattle.soupbintcp.specs.Letters.{mostPayload}
-use Rattle.soupbintcp.specs.Head.{lengthSize}
 use Rattle.soupbintcp.specs.Fields.{goodReason}
 
 -- the length counts the letter and the payload
 unfoldable pub headBytes : ℕ → ℕ → List ℕ
 headBytes letter k = bytes lengthSize (k + 1) ++ (letter ∷ [])
 
-unfoldable pub packet : ℕ → List ℕ → List ℕ
-packet letter payload = headBytes letter (length payload) ++ payload
+unfoldable pub encoded : ℕ → List ℕ → List ℕ
+encoded letter payload = headBytes letter (length payload) ++ payload
 
 -- ---- + S U: any payload of at most 4,096 bytes
 

@@ -11,7 +11,7 @@ use Rattle.text_fields.specs.Number.{NoLeadingZero}
 use Rattle.text_fields.specs.Sound.{usernameSize, passwordSize, soundUsername, soundPassword}
 use Rattle.soupbintcp.specs.declared.packet.Sender.{Sender}
 use Rattle.soupbintcp.specs.declared.packet.Sender.the-variants.{Server, Client}
-use Rattle.soupbintcp.specs.Letters.{PacketKind, debug, accepted, rejected, sequenced, server-heartbeat, end-of-session, login, unsequenced, client-heartbeat, logout, letterAccepted, letterRejected, letterLogin, letterFor, mostPayload, acceptedPayloadSize, rejectedPayloadSize, loginPayloadSize, rowOf, sends}
+use Rattle.soupbintcp.specs.Letters.{PacketKind, debug, accepted, rejected, sequenced, server-heartbeat, end-of-session, login, unsequenced, client-heartbeat, logout, letterAccepted, letterRejected, letterLogin, letterFor, mostPayload, acceptedPayloadSize, rejectedPayloadSize, loginPayloadSize, letterRow, sends}
 use Rattle.soupbintcp.specs.Head.{headSize}
 use Rattle.soupbintcp.specs.Fields.{numberBytes}
 use Rattle.soupbintcp.specs.Front.{packet, frontOf, payloadOf, sessionOf, usernameOf, passwordOf}
@@ -21,8 +21,8 @@ use Rattle.soupbintcp_writer.specs.Packets.{payloadGround, acceptedGroun
 -- a packet that a sender sends with a payload of none to n bytes, as the table of letters has it
 pub record PayloadUpTo (s : Sender) (k : PacketKind) (n : ℕ) : Type 0 where
   pub sent : sends s (letterFor k) ≡ true
-  pub least : rowOf (letterFor k) .least ≡ 0
-  pub most : rowOf (letterFor k) .most ≡ n
+  pub least : letterRow (letterFor k) .least ≡ 0
+  pub most : letterRow (letterFor k) .most ≡ n
 
 -- + S U: with any payload; H Z R O: the letter alone
 abbrev pub WithPayload : Sender → PacketKind → Type 0
@@ -52,15 +52,15 @@ pub record AloneKinds : Type 0 where
 -- every packet that is read, of any kind, is its kind's letter and its payload written
 unfoldable pub EveryPacketWritesBack : Type 0
 EveryPacketWritesBack = (s : Sender) (l : List ℕ) (k : PacketKind) (size : ℕ) (vs : List ℕ) → AreBytes l
-    → frontOf s l ≡ says (packet k) (size ∷ vs) → written.packet (letterFor k) (payloadOf s l) ≡ take size l
+    → frontOf s l ≡ says (packet k) (size ∷ vs) → written.encoded (letterFor k) (payloadOf s l) ≡ take size l
 
 -- + S U
 pub record PayloadRoundTrip : Type 0 where
   pub of : PayloadKinds
   pub reads-back : (s : Sender) (k : PacketKind) → WithPayload s k → (p rest : List ℕ) → payloadGround p ≡ 0
-      → ReadsAs s (written.packet (letterFor k) p ++ rest) k ((length p + headSize) ∷ []) p
+      → ReadsAs s (written.encoded (letterFor k) p ++ rest) k ((length p + headSize) ∷ []) p
   pub writes-back : (s : Sender) (k : PacketKind) → WithPayload s k → (l : List ℕ) (size : ℕ) → AreBytes l
-      → frontOf s l ≡ says (packet k) (size ∷ []) → written.packet (letterFor k) (payloadOf s l) ≡ take size l
+      → frontOf s l ≡ says (packet k) (size ∷ []) → written.encoded (letterFor k) (payloadOf s l) ≡ take size l
   pub may-be-written : (s : Sender) (k : PacketKind) → WithPayload s k → (l : List ℕ) (size : ℕ)
       → frontOf s l ≡ says (packet k) (size ∷ []) → payloadGround (payloadOf s l) ≡ 0
 
@@ -68,16 +68,16 @@ pub record PayloadRoundTrip : Type 0 where
 pub record LetterRoundTrip : Type 0 where
   pub of : AloneKinds
   pub reads-back : (s : Sender) (k : PacketKind) → LetterAlone s k → (rest : List ℕ)
-      → ReadsAs s (written.packet (letterFor k) [] ++ rest) k (headSize ∷ []) []
+      → ReadsAs s (written.encoded (letterFor k) [] ++ rest) k (headSize ∷ []) []
   pub writes-back : (s : Sender) (k : PacketKind) → LetterAlone s k → (l : List ℕ) (size : ℕ) → AreBytes l
-      → frontOf s l ≡ says (packet k) (size ∷ []) → written.packet (letterFor k) [] ≡ take size l
+      → frontOf s l ≡ says (packet k) (size ∷ []) → written.encoded (letterFor k) [] ≡ take size l
 
 -- J
 pub record RejectedRoundTrip : Type 0 where
   pub reads-back : (reason : ℕ) (rest : List ℕ) → reasonGround reason ≡ 0
-      → ReadsAs Server (written.packet letterRejected (reason ∷ []) ++ rest) rejected ((headSize + rejectedPayloadSize) ∷ reason ∷ []) (reason ∷ [])
+      → ReadsAs Server (written.encoded letterRejected (reason ∷ []) ++ rest) rejected ((headSize + rejectedPayloadSize) ∷ reason ∷ []) (reason ∷ [])
   pub writes-back : (l : List ℕ) (size reason : ℕ) → AreBytes l → frontOf Server l ≡ says (packet rejected) (size ∷ reason ∷ [])
-      → written.packet letterRejected (reason ∷ []) ≡ take size l
+      → written.encoded letterRejected (reason ∷ []) ≡ take size l
   pub may-be-written : (l : List ℕ) (size reason : ℕ) → frontOf Server l ≡ says (packet rejected) (size ∷ reason ∷ []) → reasonGround reason ≡ 0
 
 -- ---- A
@@ -90,7 +90,7 @@ pub record AcceptedFits (l : List ℕ) (n : ℕ) : Type 0 where
 
 -- the bytes of an A that is written
 abbrev pub acceptedBytes : List ℕ → ℕ → List ℕ
-acceptedBytes session n = written.packet letterAccepted (acceptedPayload session n)
+acceptedBytes session n = written.encoded letterAccepted (acceptedPayload session n)
 
 pub record AcceptedReads (session : List ℕ) (n : ℕ) (rest : List ℕ) : Type 0 where
   pub front : frontOf Server (acceptedBytes session n ++ rest) ≡ says (packet accepted) ((headSize + acceptedPayloadSize) ∷ n ∷ [])
@@ -116,7 +116,7 @@ pub record LoginFits (l : List ℕ) (n : ℕ) : Type 0 where
 
 -- the bytes of an L that is written
 abbrev pub loginBytes : List ℕ → List ℕ → List ℕ → ℕ → List ℕ
-loginBytes username password session n = written.packet letterLogin (loginPayload username password session n)
+loginBytes username password session n = written.encoded letterLogin (loginPayload username password session n)
 
 pub record LoginReads (username password session : List ℕ) (n : ℕ) (rest : List ℕ) : Type 0 where
   pub front : frontOf Client (loginBytes username password session n ++ rest) ≡ says (packet login) ((headSize + loginPayloadSize) ∷ n ∷ [])

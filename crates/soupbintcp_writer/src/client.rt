@@ -24,7 +24,7 @@ ghost use Rattle.wire.specs.Output.{Writes, put};
 ghost use Rattle.text_fields.specs.Sound.{usernameSize, passwordSize};
 ghost use Rattle.soupbintcp.specs.Letters.{letterClientHeartbeat, letterLogin, letterLogout, letterUnsequenced};
 ghost use Rattle.soupbintcp.specs.Head.{headSize};
-ghost use Rattle.soupbintcp_writer.specs.Packets.{packet, payloadGround, goodLogin, loginGround, loginPayload};
+ghost use Rattle.soupbintcp_writer.specs.Packets.{encoded, payloadGround, goodLogin, loginGround, loginPayload};
 ghost use Rattle.soupbintcp_writer.specs.RoundTrips.{PayloadRoundTrip, LetterRoundTrip, LoginRoundTrip};
 
 // Bytes of a login request: the head, the username, the password, the session and the number.
@@ -35,7 +35,7 @@ const NUMBER_AT: ByteOffset = ByteOffset(HEAD_SIZE + USERNAME_SIZE + PASSWORD_SI
 
 // Writes an unsequenced message.
 pub fn write_unsequenced(out: &mut [u8], payload: &[u8]) -> Written
-    ensures { λ r. ⌜ Writes r (now (out .entry)) (now (out .exit)) (payloadGround (now (payload .entry))) 0 (packet letterUnsequenced (now (payload .entry))) ⌝ }
+    ensures { λ r. ⌜ Writes r (now (out .entry)) (now (out .exit)) (payloadGround (now (payload .entry))) 0 (encoded letterUnsequenced (now (payload .entry))) ⌝ }
     ensures round_trip { λ _. ⌜ PayloadRoundTrip ⌝ }
 {
     packets::write_payload(out, b'U', payload)
@@ -43,7 +43,7 @@ pub fn write_unsequenced(out: &mut [u8], payload: &[u8]) -> Written
 
 // Writes a client's heartbeat.
 pub fn write_heartbeat(out: &mut [u8]) -> Written
-    ensures { λ r. ⌜ Writes r (now (out .entry)) (now (out .exit)) 0 0 (packet letterClientHeartbeat []) ⌝ }
+    ensures { λ r. ⌜ Writes r (now (out .entry)) (now (out .exit)) 0 0 (encoded letterClientHeartbeat []) ⌝ }
     ensures round_trip { λ _. ⌜ LetterRoundTrip ⌝ }
 {
     packets::write_letter(out, b'R')
@@ -51,7 +51,7 @@ pub fn write_heartbeat(out: &mut [u8]) -> Written
 
 // Writes a logout.
 pub fn write_logout(out: &mut [u8]) -> Written
-    ensures { λ r. ⌜ Writes r (now (out .entry)) (now (out .exit)) 0 0 (packet letterLogout []) ⌝ }
+    ensures { λ r. ⌜ Writes r (now (out .entry)) (now (out .exit)) 0 0 (encoded letterLogout []) ⌝ }
     ensures round_trip { λ _. ⌜ LetterRoundTrip ⌝ }
 {
     packets::write_letter(out, b'O')
@@ -105,7 +105,7 @@ fn write_parts(
     session: [u8; SESSION_SIZE],
     number: SequenceNumber,
 ) -> Written
-    ensures { λ r. ⌜ Writes r (now (out .entry)) (now (out .exit)) (loginGround username password session) 0 (packet letterLogin (loginPayload username password session (number .0))) ⌝ }
+    ensures { λ r. ⌜ Writes r (now (out .entry)) (now (out .exit)) (loginGround username password session) 0 (encoded letterLogin (loginPayload username password session (number .0))) ⌝ }
 {
     if !is_good(username, password, session) {
         return Written::Refused(refusal::FIELD_NOT_WRITTEN);
@@ -121,7 +121,7 @@ fn write_parts(
 
 // Writes a login request.
 pub fn write_login(out: &mut [u8], login: Login) -> Written
-    ensures { λ r. ⌜ Writes r (now (out .entry)) (now (out .exit)) (loginGround (login .username) (login .password) (login .session)) 0 (packet letterLogin (loginPayload (login .username) (login .password) (login .session) (login .number .0))) ⌝ }
+    ensures { λ r. ⌜ Writes r (now (out .entry)) (now (out .exit)) (loginGround (login .username) (login .password) (login .session)) 0 (encoded letterLogin (loginPayload (login .username) (login .password) (login .session) (login .number .0))) ⌝ }
     ensures round_trip { λ _. ⌜ LoginRoundTrip ⌝ }
 {
     let username = login.username;

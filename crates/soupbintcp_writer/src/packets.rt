@@ -1,8 +1,8 @@
 // A packet of a letter, laid at the front of an output.
 use soupbintcp::packet::HEAD_SIZE;
-use soupbintcp::packet::LENGTH_SIZE;
 use soupbintcp::packet::MOST_PAYLOAD;
 use wire::kinds::ByteOffset;
+use wire::kinds::LENGTH_SIZE;
 use wire::output;
 use wire::output::Written;
 use wire::refusal;
@@ -13,7 +13,7 @@ ghost use lib.ListN.{length};
 ghost use Rattle.wire.specs.Output.{Writes, put};
 ghost use Rattle.soupbintcp.specs.Letters.{mostPayload};
 ghost use Rattle.soupbintcp.specs.Head.{headSize};
-ghost use Rattle.soupbintcp_writer.specs.Packets.{headBytes, packet, payloadGround};
+ghost use Rattle.soupbintcp_writer.specs.Packets.{headBytes, encoded, payloadGround};
 
 // Lays the length and the letter before a payload of so many bytes.
 pub(crate) fn put_head(out: &mut [u8], letter: u8, payload: usize)
@@ -26,7 +26,7 @@ pub(crate) fn put_head(out: &mut [u8], letter: u8, payload: usize)
 
 // Writes a letter and a payload.
 pub(crate) fn write_payload(out: &mut [u8], letter: u8, payload: &[u8]) -> Written
-    ensures { λ r. ⌜ Writes r (now (out .entry)) (now (out .exit)) (payloadGround (now (payload .entry))) 0 (packet letter (now (payload .entry))) ⌝ }
+    ensures { λ r. ⌜ Writes r (now (out .entry)) (now (out .exit)) (payloadGround (now (payload .entry))) 0 (encoded letter (now (payload .entry))) ⌝ }
 {
     let size = payload.len();
     if MOST_PAYLOAD < size {
@@ -44,7 +44,7 @@ pub(crate) fn write_payload(out: &mut [u8], letter: u8, payload: &[u8]) -> Writt
 
 // Writes a letter alone.
 pub(crate) fn write_letter(out: &mut [u8], letter: u8) -> Written
-    ensures { λ r. ⌜ Writes r (now (out .entry)) (now (out .exit)) 0 0 (packet letter []) ⌝ }
+    ensures { λ r. ⌜ Writes r (now (out .entry)) (now (out .exit)) 0 0 (encoded letter []) ⌝ }
 {
     if out.len() < HEAD_SIZE {
         return Written::Refused(refusal::OUTPUT_SHORT);

@@ -18,7 +18,7 @@ use Rattle.decimal.proofs.SpellLaws.{are-so, digit-so, spells-numbers}
 use Rattle.text_fields.specs.declared.number.Number.{Number}
 use Rattle.text_fields.specs.declared.number.Number.the-variants.{Value, Bad}
 use Rattle.text_fields.specs.Letters.{space, leadingSpaces, afterSpaces}
-use Rattle.text_fields.specs.Number.{Reading, value, bad, numberWords, isNumber, numberOf, numberFieldSize, numberField, NoLeadingZero, NumberLaws}
+use Rattle.text_fields.specs.Number.{NumberKind, value, bad, numberWords, isNumber, readNumber, numberFieldSize, numberField, NoLeadingZero, NumberLaws}
 
 -- ---- spaces in front
 
@@ -63,8 +63,8 @@ is-number n h =
     let s = spells-numbers .spelled n h in
     rw (lt-ltb _ _ (s .some), s .digits-alone, spells-numbers .their-value n h, le-leb _ _ h)
 
-reads-back : (n least : ℕ) → n ≤ largestNumber → least ≤ n → numberOf least (numberField n) ≡ says value (n ∷ [])
-unfolding numberOf
+reads-back : (n least : ℕ) → n ≤ largestNumber → least ≤ n → readNumber least (numberField n) ≡ says value (n ∷ [])
+unfolding readNumber
 reads-back n least h g = rw (after-field n h, is-number n h, spells-numbers .their-value n h, le-leb _ _ g)
 
 -- ---- what reads to a value is written back
@@ -88,8 +88,8 @@ record ValueSo (l : List ℕ) (n : ℕ) : Type 0 where
   number : NumberSo (afterSpaces l)
   same : n ≡ valueOf (afterSpaces l)
 
-value-so : (l : List ℕ) (n least : ℕ) → numberOf least l ≡ says value (n ∷ []) → ValueSo l n
-unfolding numberOf
+value-so : (l : List ℕ) (n least : ℕ) → readNumber least l ≡ says value (n ∷ []) → ValueSo l n
+unfolding readNumber
 value-so l n least = go (isNumber (afterSpaces l)) (leb least (valueOf (afterSpaces l))) refl
   where
     go : (x y : Bool) → isNumber (afterSpaces l) ≡ x
@@ -99,7 +99,7 @@ value-so l n least = go (isNumber (afterSpaces l)) (leb least (valueOf (afterSpa
     go true false f e = let w = which-of e in let k : _≡_ {A = ℕ} 0 1 = cc in absurd (omega arith)
     go false y f e = let w = which-of e in let k : _≡_ {A = ℕ} 0 1 = cc in absurd (omega arith)
 
-writes-back : (l : List ℕ) (n least : ℕ) → length l ≡ numberFieldSize → numberOf least l ≡ says value (n ∷ []) → NoLeadingZero l → numberField n ≡ l
+writes-back : (l : List ℕ) (n least : ℕ) → length l ≡ numberFieldSize → readNumber least l ≡ says value (n ∷ []) → NoLeadingZero l → numberField n ≡ l
 unfolding numberField NoLeadingZero
 writes-back l n least h e z =
     let v = value-so l n least e in
@@ -117,7 +117,7 @@ writes-back l n least h e z =
 
 -- ---- the words tell all readings apart
 
-answered : Case Reading → List ℕ → Number
+answered : Case NumberKind → List ℕ → Number
 answered (answer value) vs = Value (record { 0 = getD vs 0 0 })
 answered (answer bad) vs = Bad
 answered refused vs = Bad

@@ -16,7 +16,7 @@ use Rattle.text_fields.specs.declared.session.SessionState.the-variants.
 use Rattle.text_fields.specs.declared.number.NumberState.the-variants as state
 use Rattle.text_fields.specs.Letters.{isLetterOrDigit, areLettersOrDigits, space, leadingSpaces, afterSpaces}
 use Rattle.text_fields.specs.Session.{goodSession, sessionStep, sessionFrom, sessionGood, SessionFold}
-use Rattle.text_fields.specs.Number.{Reading, value, bad, isNumber, numberOf, digitStep, numberStep, numberFrom, numberGood, NumberFold}
+use Rattle.text_fields.specs.Number.{NumberKind, value, bad, isNumber, readNumber, digitStep, numberStep, numberFrom, numberGood, NumberFold}
 
 and-true : (x : Bool) → (x && true) ≡ x
 and-true true = refl
@@ -83,7 +83,7 @@ number-bad [] = refl
 number-bad (b ∷ l) = number-bad l
 
 -- the digits l behind a number v, as the definition reads them
-unfoldable behind : ℕ → ℕ → List ℕ → Words Reading
+unfoldable behind : ℕ → ℕ → List ℕ → Words NumberKind
 behind least v l =
     if areDigits l && leb (valueFrom v l) largestNumber && leb least (valueFrom v l) then says value (valueFrom v l ∷ [])
     else says bad []
@@ -122,21 +122,21 @@ number-digits least v [] h = go (ltb v least) refl
 number-digits least v (b ∷ l) h = digit-behind least v b l (number-digits least (withDigit v b) l)
 
 module _ (least b : ℕ) (l : List ℕ) where
-  of-space : eqb b space ≡ true → numberOf least (b ∷ l) ≡ numberOf least l
-  unfolding numberOf
+  of-space : eqb b space ≡ true → readNumber least (b ∷ l) ≡ readNumber least l
+  unfolding readNumber
   of-space e = rw (after-space b l e)
 
-  of-other : eqb b space ≡ false → numberOf least (b ∷ l) ≡ behind least 0 (b ∷ l)
-  unfolding numberOf isNumber behind
+  of-other : eqb b space ≡ false → readNumber least (b ∷ l) ≡ behind least 0 (b ∷ l)
+  unfolding readNumber isNumber behind
   of-other e = let z : ltb 0 (suc (length l)) ≡ true = lt-ltb 0 (suc (length l)) (omega arith) in rw (after-other b l e, z)
 
-number-same : (least : ℕ) (l : List ℕ) → numberGood least (numberFrom state.Blank l) ≡ numberOf least l
-unfolding numberFrom numberStep numberGood numberOf isNumber leadingSpaces
+number-same : (least : ℕ) (l : List ℕ) → numberGood least (numberFrom state.Blank l) ≡ readNumber least l
+unfolding numberFrom numberStep numberGood readNumber isNumber leadingSpaces
 number-same least [] = refl
 number-same least (b ∷ l) = go (eqb b space) refl (number-same least l)
   where
-    go : (x : Bool) → eqb b space ≡ x → numberGood least (numberFrom state.Blank l) ≡ numberOf least l
-        → numberGood least (numberFrom (if x then state.Blank else digitStep 0 b) l) ≡ numberOf least (b ∷ l)
+    go : (x : Bool) → eqb b space ≡ x → numberGood least (numberFrom state.Blank l) ≡ readNumber least l
+        → numberGood least (numberFrom (if x then state.Blank else digitStep 0 b) l) ≡ readNumber least (b ∷ l)
     go true e h = h ∙ sym (of-space least b l e)
     go false e h = digit-behind least 0 b l (number-digits least (withDigit 0 b) l) ∙ sym (of-other least b l e)
 

@@ -8,7 +8,7 @@ use native.Mathlib.Numerals.{add-one}
 use lib.ListN.{length, take, drop, getD, drop-of-length-le}
 use lib.Seq.{drop-cons}
 use lib.Dec.{ltb, leb}
-use borrow.Author.Tests.{lt-ltb, le-ltb, eq-eqb, ne-eqb, not-true, not-false}
+use borrow.Author.Tests.{lt-ltb, le-ltb, le-leb, lt-leb, eq-eqb, ne-eqb, not-true, not-false}
 use Rattle.wire.specs.Choice.{if_then_else_}
 use Rattle.wire.specs.Bounds.{largestNumber}
 use Rattle.wire.specs.Words.{Case, Words, answer, refused, says}
@@ -22,9 +22,9 @@ use Rattle.text_fields.specs.declared.number.NumberState.{NumberState}
 use Rattle.text_fields.specs.declared.number.NumberState.the-variants as state
 use Rattle.text_fields.specs.declared.number.Number.{Number}
 use Rattle.text_fields.specs.declared.number.Number.the-variants as number
-use Rattle.text_fields.specs.Letters.{isLetterOrDigit, space}
+use Rattle.text_fields.specs.Letters.{isLetterOrDigit, lower, space}
 use Rattle.text_fields.specs.Session.{goodSession, sessionStep, sessionFrom, sessionGood}
-use Rattle.text_fields.specs.Number.{numberWords, numberOf, digitStep, numberStep, numberFrom, numberGood}
+use Rattle.text_fields.specs.Number.{numberWords, readNumber, digitStep, numberStep, numberFrom, numberGood}
 use Rattle.text_fields.specs.Sound.{wordLength, areSpaces, sound}
 use Rattle.text_fields.proofs.FoldLaws.{session-fold, number-fold}
 
@@ -50,6 +50,21 @@ module _ (b : ℕ) where
   pub letter-lower : 65 ≤ b → 97 ≤ b → leb b 122 ≡ isLetterOrDigit b
   unfolding isLetterOrDigit
   letter-lower h g = simp (le-ltb _ _ h, le-ltb _ _ g)
+
+-- ---- without case
+
+module _ (b : ℕ) where
+  pub lower-below : b < 65 → b ≡ lower b
+  unfolding lower
+  lower-below h = simp (lt-ltb _ _ h)
+
+  pub lower-letter : 65 ≤ b → b ≤ 90 → b + 32 ≡ lower b
+  unfolding lower
+  lower-letter h g = simp (le-ltb _ _ h, le-leb _ _ g)
+
+  pub lower-above : 65 ≤ b → 90 < b → b ≡ lower b
+  unfolding lower
+  lower-above h g = simp (le-ltb _ _ h, lt-leb _ _ g)
 
 -- ---- one byte of a session: t is what the test of a letter or digit gave
 
@@ -180,7 +195,7 @@ module _ (l : List ℕ) (i : ℕ) (s : NumberState) where
   number-next p r v h e = rw e (rw (front l i h) at v)
 
   pub number-end : (least : ℕ) (r : Number) → numberFrom s (drop i l) ≡ numberFrom state.Blank l → length l ≤ i → numberWords r ≡ numberGood least s
-      → numberWords r ≡ numberOf least l
+      → numberWords r ≡ readNumber least l
   unfolding numberFrom
   number-end least r v h e = e ∙ ap (numberGood least) (rw (drop-of-length-le l h) at v) ∙ number-fold .same least l
 

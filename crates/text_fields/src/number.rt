@@ -11,7 +11,7 @@ ghost use mathlib.Core.Path.{_≡_};
 ghost use lib.ListN.{replicate};
 ghost use Rattle.text_fields.specs.Letters.{space};
 ghost use Rattle.wire.specs.Output.{Writes};
-ghost use Rattle.text_fields.specs.Number.{numberFieldSize, digitStep, numberStep, numberWords, numberGood, numberOf, numberField, NumberFold, NumberLaws};
+ghost use Rattle.text_fields.specs.Number.{numberFieldSize, digitStep, numberStep, numberWords, numberGood, readNumber, numberField, NumberFold, NumberLaws};
 
 // Bytes of a number field.
 pub const NUMBER_FIELD_SIZE: usize = 20;
@@ -77,7 +77,7 @@ pub fn value(state: NumberState, least: SequenceNumber) -> Number
 
 // The number in the bytes of a field, where it has to be at least another.
 pub fn read(field: &[u8], least: SequenceNumber) -> Number
-    ensures { λ r. ⌜ numberWords r ≡ numberOf (least .0) (now (field .entry)) ⌝ }
+    ensures { λ r. ⌜ numberWords r ≡ readNumber (least .0) (now (field .entry)) ⌝ }
     ensures laws { λ _. ⌜ NumberLaws ⌝ }
 {
     let mut state = NumberState::Blank;

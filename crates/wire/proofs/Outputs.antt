@@ -15,7 +15,7 @@ use Rattle.wire.specs.Words.{Case, answer, refused, says, refuses}
 use Rattle.wire.specs.Bytes.{number, bytes}
 use Rattle.wire.specs.declared.output.Written.{Written}
 use Rattle.wire.specs.declared.output.Written.the-variants.{Wrote, Refused}
-use Rattle.wire.specs.Output.{Writing, wrote, writtenWords, put, writeRefusal, writeAnswer, writeOutput, Writes, Outside, ReadsBack, AdjacentAreOne, OnlyWhatItReports, RefusalWritesNothing, TellsApart, OutputLaws}
+use Rattle.wire.specs.Output.{WrittenKind, wrote, writtenWords, put, writeRefusal, writeAnswer, writeOutput, Writes, Outside, ReadsBack, AdjacentAreOne, OnlyWhatItReports, RefusalWritesNothing, TellsApart, OutputLaws}
 use Rattle.wire.proofs.Words.{which-of, values-of, read-back}
 use Rattle.wire.proofs.Numbers.{length-bytes, number-bytes}
 
@@ -218,7 +218,7 @@ size-bytes n v = sym (length-bytes n v)
 
 -- ---- the words tell all answers apart
 
-answered : Case Writing → ℕ → List ℕ → Written
+answered : Case WrittenKind → ℕ → List ℕ → Written
 answered (answer wrote) r vs = Wrote (getD vs 0 0)
 answered refused r vs = Refused (record { number = r })
 

@@ -1,7 +1,8 @@
 -- Bounds that more than one crate names.
-use Prim.Native.Nat.{ℕ}
+use Prim.Native.Nat.{ℕ, _-_, _^_}
 use mathlib.Core.List.{List}
 use lib.ListN.{replicate}
+use Rattle.wire.specs.Text.{letter}
 
 -- the smallest number that a message has
 abbrev pub leastNumber : ℕ
@@ -9,7 +10,7 @@ leastNumber = 1
 
 -- the largest sequence number, 2^64 - 1
 abbrev pub largestNumber : ℕ
-largestNumber = 18446744073709551615
+largestNumber = 2 ^ 64 - 1
 
 -- the bytes of a session name
 abbrev pub sessionSize : ℕ
@@ -22,9 +23,13 @@ numberSize = 8
 abbrev pub countSize : ℕ
 countSize = 2
 
+-- the bytes of a length, which stands in front of a block, of a packet and of a record
+abbrev pub lengthSize : ℕ
+lengthSize = 2
+
 -- document 01's "blank": a name of ten spaces
 abbrev pub blank : List ℕ
-blank = replicate sessionSize 32
+blank = replicate sessionSize (letter " ")
 
 -- the largest number of 16 bits, as a count or a length has
 abbrev pub largestCount : ℕ

@@ -1,5 +1,6 @@
 pub mod Choice
 pub mod Refusals
+pub mod Text
 pub mod Bounds
 pub mod Words
 pub mod Bytes

@@ -12,11 +12,11 @@ use Rattle.wire.specs.declared.output.Written.{Written}
 use Rattle.wire.specs.declared.output.Written.the-variants.{Wrote, Refused}
 
 -- what a writer can answer, but for a refusal
-pub data Writing : Type 0 where
-  wrote : Writing
+pub data WrittenKind : Type 0 where
+  wrote : WrittenKind
 
 -- a writer's answer: how many bytes it wrote, or its refusal
-unfoldable pub writtenWords : Written → Words Writing
+unfoldable pub writtenWords : Written → Words WrittenKind
 writtenWords (Wrote size) = says wrote (size ∷ [])
 writtenWords (Refused r) = refusedWords r
 
@@ -31,7 +31,7 @@ unfoldable pub writeRefusal : ℕ → List ℕ → ℕ → List ℕ → ℕ
 writeRefusal g l at bs = if eqb g 0 then (if leb (at + length bs) (length l) then 0 else outputShort) else g
 
 -- the answer: the refusal, or how many bytes were written
-unfoldable pub writeAnswer : ℕ → List ℕ → ℕ → List ℕ → Words Writing
+unfoldable pub writeAnswer : ℕ → List ℕ → ℕ → List ℕ → Words WrittenKind
 writeAnswer g l at bs =
     if eqb (writeRefusal g l at bs) 0 then says wrote (length bs ∷ [])
     else refuses (writeRefusal g l at bs)

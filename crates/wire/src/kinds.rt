@@ -29,5 +29,8 @@ pub const NUMBER_SIZE: usize = 8;
 
 pub const COUNT_SIZE: usize = 2;
 
+// Bytes of a length, which stands in front of a block, of a packet and of a record.
+pub const LENGTH_SIZE: usize = 2;
+
 // A blank name: ten spaces.
 pub const BLANK: [u8; SESSION_SIZE] = [b' '; SESSION_SIZE];

@@ -33,7 +33,7 @@ use Rattle.login.proofs.account.Account as R
 use Rattle.login.proofs.account.Account.Laws as R′
 use Rattle.login.proofs.account.Verdict.Laws as Said′
 use Rattle.soupbintcp_server.specs.declared.server.Server.{Server}
-use Rattle.soupbintcp_server.specs.Server.{entryOf, Steps, stepWith}
+use Rattle.soupbintcp_server.specs.Server.{entryOf, ServerSteps, stepWith}
 use Rattle.soupbintcp_server.specs.Statements.{EntryIsItsFields}
 use Rattle.soupbintcp_server.proofs.ServerLaws.{server-step}
 use Rattle.soupbintcp_server.proofs.server.Server as Peer
@@ -114,7 +114,7 @@ module _ {M : Type 1} (𝓤 : URA M) (H : Heap 𝓤) (A : Atoms 𝓤) (W : Given
           -- [the table's token; the stream's; what it owns; the locals]
           move ! (1 ∷ 2 ∷ []) $ join ! $
           asks ! (fmOf 𝓤 H (W .laws) 𝓣) step-with.ended (step-with.clauses 𝓤 H A mem run) step-with-known (((κz, tt), (qz, tt), tt, (s, (r, (z, tt))), (server-val s ∷ [], (wr ∷ [], (vz ∷ [], tt)))), tt)
-          (λ o. Steps o (stepWith s (verdictWords r) (z .now))) (λ o _. id⊢ 𝓤 _)
+          (λ o. ServerSteps o (stepWith s (verdictWords r) (z .now))) (λ o _. id⊢ 𝓤 _)
           (‵ (flft κz qz) ⊛ ‵ Stream) (lent 𝓤 (A .lft κz qz) (beside 𝓤 (LL.makes Peer.the-type Peer′.the-plain 𝓤 H A s (server-val s ∷ []) gs) (beside 𝓤 (verdict-makes 𝓤 H A r (wr ∷ []) gr) (ahead 𝓤 (sem 𝓤 H A Stream) (id⊢ 𝓤 (emp 𝓤))))))
           (and-then ! (reads ! 4 refl) (and-then ! (reads ! 10 refl) (and-then ! (reads ! 8 refl) (no-more !)))) (λ o wo fo go.
           -- [the stream's token; the table's; the locals]

@@ -12,8 +12,8 @@ eiderwagon-capture-feed-spec =
     (λ c κs. search readings)  -- is-over-requires
     (λ c κs. search readings)  -- flag-requires
     (λ c. search readings)  -- cast-t14
-    (λ c. search readings)  -- slice-aggregate-report
-    (λ c κs. search readings)  -- report-requires
+    (λ c. search readings)  -- slice-aggregate-answer
+    (λ c κs. search readings)  -- answer-requires
     (λ c κs. search readings)  -- write-requires
     (λ c. search readings)  -- same-length
     (λ c. search readings)  -- same-length-2

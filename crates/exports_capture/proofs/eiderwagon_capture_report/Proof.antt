@@ -8,8 +8,8 @@ eiderwagon-capture-report-spec =
     tie.close
     (tie.spec
     (λ c. search texts)  -- returns
-    (λ c κs. search texts)  -- report-requires
-    (λ c κs. search texts)  -- report-written-requires
+    (λ c κs. search texts)  -- answer-requires
+    (λ c κs. search texts)  -- answer-written-requires
     (λ c. search texts)  -- same-length
     (λ c. search texts)  -- same-length-2
     (λ c. search texts)  -- returns-2

@@ -10,7 +10,7 @@ eiderwagon-capture-write-spec =
     (λ c. search texts)  -- returns
     (λ c κs. search texts)  -- read-requires
     (λ c κs. search texts)  -- write-requires
-    (λ c κs. search texts)  -- report-written-requires
+    (λ c κs. search texts)  -- answer-written-requires
     (λ c. search texts)  -- same-length
     (λ c. search texts)  -- same-length-2
     (λ c. search texts)  -- returns-2

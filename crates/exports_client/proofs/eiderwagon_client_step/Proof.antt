@@ -10,8 +10,8 @@ eiderwagon-client-step-spec =
     (λ c κs. search clients)  -- read-requires
     (λ c κs. search clients)  -- step-requires
     (λ c κs. search clients)  -- answer-words-requires
-    (λ c. search clients)  -- slice-aggregate-report
-    (λ c κs. search clients)  -- report-requires
+    (λ c. search clients)  -- slice-aggregate-answer
+    (λ c κs. search clients)  -- answer-requires
     (λ c κs. search clients)  -- write-requires
     (λ c. search clients)  -- same-length
     (λ c. search clients)  -- same-length-2

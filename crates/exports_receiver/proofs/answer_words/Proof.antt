@@ -1,33 +1,33 @@
 -- Each case by its number and values.
 use Rattle.receiver.specs.Table.{answerWords}
 use Rattle.host_answers.specs.Answers.{padded, wordsAt}
-use Rattle.exports_receiver.specs.Replies.{replyNumber}
+use Rattle.exports_receiver.specs.Replies.{answerNumber}
 use Rattle.exports_receiver.proofs.Rules.{words}
 use Rattle.exports_receiver.proofs.answer_words.Statement.{statement}
 use Rattle.exports_receiver.proofs.answer_words.Tie as tie
 
 returns : tie.Need-returns
-unfolding answerWords wordsAt replyNumber padded
+unfolding answerWords wordsAt answerNumber padded
 returns c = search words
 
 returns-2 : tie.Need-returns-2
-unfolding answerWords wordsAt replyNumber padded
+unfolding answerWords wordsAt answerNumber padded
 returns-2 c = search words
 
 returns-3 : tie.Need-returns-3
-unfolding answerWords wordsAt replyNumber padded
+unfolding answerWords wordsAt answerNumber padded
 returns-3 c = search words
 
 returns-4 : tie.Need-returns-4
-unfolding answerWords wordsAt replyNumber padded
+unfolding answerWords wordsAt answerNumber padded
 returns-4 c = search words
 
 returns-5 : tie.Need-returns-5
-unfolding answerWords wordsAt replyNumber padded
+unfolding answerWords wordsAt answerNumber padded
 returns-5 c = search words
 
 returns-6 : tie.Need-returns-6
-unfolding answerWords wordsAt replyNumber padded
+unfolding answerWords wordsAt answerNumber padded
 returns-6 c = search words
 
 pub answer-words-spec : {M : Type 1} → statement M

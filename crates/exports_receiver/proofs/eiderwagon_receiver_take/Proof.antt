@@ -12,8 +12,8 @@ eiderwagon-receiver-take-spec =
     (λ c κs. search receivers)  -- read-requires
     (λ c κs. search receivers)  -- take-requires
     (λ c κs. search receivers)  -- answer-words-requires
-    (λ c. search receivers)  -- slice-aggregate-report
-    (λ c κs. search receivers)  -- report-requires
+    (λ c. search receivers)  -- slice-aggregate-answer
+    (λ c κs. search receivers)  -- answer-requires
     (λ c κs. search receivers)  -- write-requires
     (λ c. search receivers)  -- same-length
     (λ c. search receivers)  -- same-length-2

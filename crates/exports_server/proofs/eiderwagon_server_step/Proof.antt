@@ -11,8 +11,8 @@ eiderwagon-server-step-spec =
     (λ c κs. search servers)  -- read-requires
     (λ c κs. search servers)  -- step-requires
     (λ c κs. search servers)  -- answer-words-requires
-    (λ c. search servers)  -- slice-aggregate-report
-    (λ c κs. search servers)  -- report-requires
+    (λ c. search servers)  -- slice-aggregate-answer
+    (λ c κs. search servers)  -- answer-requires
     (λ c κs. search servers)  -- write-requires
     (λ c. search servers)  -- same-length
     (λ c. search servers)  -- same-length-2

@@ -26,7 +26,7 @@ use denote.Triple.Table.{cited}
 use Rattle.wire.specs.declared.kinds.MessageCount.{MessageCount}
 use Rattle.wire.proofs.kinds.MessageCount as N
 use Rattle.wire.proofs.kinds.MessageCount.Laws as N′
-use Rattle.receiver.specs.Delivery.{deliveryOf, DeliveryVisits}
+use Rattle.receiver.specs.Delivery.{deliveryCursor, DeliveryVisits}
 use Rattle.receiver.proofs.DeliveryLaws.{delivery-visits}
 use Rattle.moldudp64_reader.proofs.ReaderLaws.{reads-the-delivery}
 use Rattle.receiver.proofs.delivery.start.Symbol as callee
@@ -44,7 +44,7 @@ ps = SliceS ∷ CountS ∷ CountS ∷ []
 module _ {M : Type 1} (𝓤 : URA M) where
   -- what the callee promises
   abbrev P : Promise 𝓤 ps CursorS
-  P κs a r = sep 𝓤 (fact 𝓤 (r ≡ deliveryOf (now (a .0)) (a .1 .0 .0) (a .1 .1 .0 .0))) (fact 𝓤 DeliveryVisits)
+  P κs a r = sep 𝓤 (fact 𝓤 (r ≡ deliveryCursor (now (a .0)) (a .1 .0 .0) (a .1 .1 .0 .0))) (fact 𝓤 DeliveryVisits)
 
 -- what is to be shown, as the contract says it
 abbrev Q : {M : Type 1} (𝓤 : URA M) (H : Heap 𝓤) → Atoms 𝓤 → (Memory → SProp 𝓤) → (Routine → Fun 𝓤) → Promise 𝓤 ps ReaderS
@@ -61,7 +61,7 @@ module _ {M : Type 1} (𝓤 : URA M) (H : Heap 𝓤) (A : Atoms 𝓤) (W : Given
       qed W (raw (onEntry 𝓤 H A (Sig ps ReaderS) (κ, tt) (q, tt) (s, (n, (m, tt))) (slice-val s ∷ [], vss)) ∷ []) ∵ enter ! C Λ code.function (slice-val s ∷ N′.lowered n ∷ N′.lowered m ∷ []) _ $
       alloc1 ! (λ l₀. alloc1 ! (λ l₁. alloc1 ! (λ l₂. alloc1 ! (λ l₃. alloc1 ! (λ l₄. alloc0 ! $ params1 ! $ pass1 ! (init ! 6 refl wt) $ pass1 ! (init ! 4 refl (counts n _ isn .0)) $ pass1 ! (init ! 2 refl (counts m _ ism .0)) $ pass0 ! $
       move ! (10 ∷ []) $ use1 W (token κ q ⊛ ‵ (owns (typesAt ps (κ, tt)) (s, (n, (m, tt))) (slice-val s ∷ [], vss)) ⊛ ‵ (Slice κ s (slice-val s))) (slice-kept 𝓤 H A W κ q (CountS ∷ CountS ∷ []) ReaderS s (slice-val s) (n, (m, tt)) vss) $ split3 ! $
-      hears ! fm ps CursorS (P 𝓤) known κ q (s, (n, (m, tt))) (slice-val s ∷ [], vss) (λ c. c ≡ deliveryOf (now s) (n .0) (m .0)) (λ c. fst∗ 𝓤 (fact 𝓤 (c ≡ deliveryOf (now s) (n .0) (m .0))) (fact 𝓤 DeliveryVisits))
+      hears ! fm ps CursorS (P 𝓤) known κ q (s, (n, (m, tt))) (slice-val s ∷ [], vss) (λ c. c ≡ deliveryCursor (now s) (n .0) (m .0)) (λ c. fst∗ 𝓤 (fact 𝓤 (c ≡ deliveryCursor (now s) (n .0) (m .0))) (fact 𝓤 DeliveryVisits))
       (and-then ! (load ! (from ! (stop !)) (look ! 8 refl)) (and-then ! (load ! (from ! (stop !)) (look ! 6 refl)) (and-then ! (load ! (from ! (stop !)) (look ! 4 refl)) (no-more !)))) cursor-val cursor-tells (λ c e is′.
       -- [the cursor; the token; the slice; room for _4; …; _3; …; _2; …; _1; …; room for _0; …]
       land ! (from ! (stop !)) (init ! 3 refl (cursor-typed 𝓤 H A W κ c is′)) $

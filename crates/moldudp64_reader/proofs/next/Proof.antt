@@ -19,7 +19,7 @@ use denote.Ref.{now}
 use denote.Triple.Statement.{Triple}
 use denote.Triple.Entry.{onEntry}
 use denote.Triple.Table.{cited}
-use Rattle.moldudp64_messages.specs.Cursor.{moved}
+use Rattle.moldudp64_messages.specs.Cursor.{advanced}
 use Rattle.moldudp64_messages.proofs.cursor.Cursor.next.Symbol as callee
 use Rattle.moldudp64_messages.proofs.cursor.Cursor.next.Met.{met}
 use Rattle.moldudp64_reader.specs.declared.Reader.{Reader}
@@ -33,7 +33,7 @@ use Rattle.moldudp64_reader.proofs.next.Code as code
 
 -- what the cursor's function says
 abbrev φ : Said CursorS
-φ κs c s r = r ≡ moved (now s) c
+φ κs c s r = r ≡ advanced (now s) c
 
 -- what is to be shown, as the contract says it
 abbrev Q : {M : Type 1} (𝓤 : URA M) (H : Heap 𝓤) → Atoms 𝓤 → (Memory → SProp 𝓤) → (Routine → Fun 𝓤) → Promise 𝓤 (ReaderS ∷ []) ReaderS

@@ -9,8 +9,8 @@ eiderwagon-mold-read-spec =
     (tie.spec
     (λ c κs. search reads)  -- read-requires
     (λ c κs. search reads)  -- datagram-words-requires
-    (λ c. search reads)  -- slice-aggregate-report
-    (λ c κs. search reads)  -- report-requires
+    (λ c. search reads)  -- slice-aggregate-answer
+    (λ c κs. search reads)  -- answer-requires
     (λ c. search reads)  -- same-length
     (λ c. search reads)  -- returns
     )

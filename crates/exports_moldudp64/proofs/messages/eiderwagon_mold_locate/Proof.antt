@@ -9,8 +9,8 @@ eiderwagon-mold-locate-spec =
     (tie.spec
     (λ c κs. search messages)  -- locate-requires
     (λ c κs. search messages)  -- located-words-requires
-    (λ c. search messages)  -- slice-aggregate-report
-    (λ c κs. search messages)  -- report-requires
+    (λ c. search messages)  -- slice-aggregate-answer
+    (λ c κs. search messages)  -- answer-requires
     (λ c. search messages)  -- same-length
     (λ c. search messages)  -- returns
     )

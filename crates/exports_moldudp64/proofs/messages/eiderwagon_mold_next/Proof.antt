@@ -10,8 +10,8 @@ eiderwagon-mold-next-spec =
     (λ c κs. search messages)  -- read-requires
     (λ c κs. search messages)  -- locate-requires
     (λ c κs. search messages)  -- located-words-requires
-    (λ c. search messages)  -- slice-aggregate-report
-    (λ c κs. search messages)  -- report-requires
+    (λ c. search messages)  -- slice-aggregate-answer
+    (λ c κs. search messages)  -- answer-requires
     (λ c κs. search messages)  -- next-requires
     (λ c κs. search messages)  -- write-requires
     (λ c. search messages)  -- same-length

@@ -11,8 +11,8 @@ eiderwagon-mold-read-request-spec =
     (tie.spec
     (λ c κs. search reads)  -- read-requires
     (λ c κs. search reads)  -- request-words-requires
-    (λ c. search reads)  -- slice-aggregate-report
-    (λ c κs. search reads)  -- report-requires
+    (λ c. search reads)  -- slice-aggregate-answer
+    (λ c κs. search reads)  -- answer-requires
     (λ c. search reads)  -- same-length
     (λ c. search reads)  -- returns
     )

@@ -15,7 +15,7 @@ eiderwagon-mold-write-heartbeat-spec =
     (λ c. search names)  -- slice-aggregate-write-messages
     (λ c. search names)  -- slice-aggregate-write-messages-2
     (λ c κs. search names)  -- write-messages-requires
-    (λ c κs. search names)  -- report-written-requires
+    (λ c κs. search names)  -- answer-written-requires
     (λ c. search names)  -- same-length
     (λ c. search names)  -- same-length-2
     (λ c. search names)  -- returns-2

@@ -14,7 +14,7 @@ eiderwagon-soup-write-login-spec =
     (λ c κs. search names)  -- ten-requires
     (λ c κs. search names)  -- ten-requires-2
     (λ c κs. search names)  -- write-login-requires
-    (λ c κs. search names)  -- report-written-requires
+    (λ c κs. search names)  -- answer-written-requires
     (λ c. search names)  -- same-length
     (λ c. search names)  -- same-length-2
     (λ c. search names)  -- returns-2

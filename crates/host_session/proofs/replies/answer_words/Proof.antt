@@ -1,49 +1,49 @@
 -- Each case by its number and values.
-use Rattle.soupbintcp_session.specs.Answer.{answerWords}
+use Rattle.soupbintcp_session.specs.Answer.{sessionAnswerWords}
 use Rattle.host_answers.specs.Answers.{padded, wordsAt}
-use Rattle.host_session.specs.Replies.{replyNumber}
+use Rattle.host_session.specs.Replies.{sessionAnswerNumber}
 use Rattle.host_session.proofs.Rules.{words}
 use Rattle.host_session.proofs.replies.answer_words.Statement.{statement}
 use Rattle.host_session.proofs.replies.answer_words.Tie as tie
 
 returns : tie.Need-returns
-unfolding answerWords wordsAt replyNumber padded
+unfolding sessionAnswerWords wordsAt sessionAnswerNumber padded
 returns c = search words
 
 returns-2 : tie.Need-returns-2
-unfolding answerWords wordsAt replyNumber padded
+unfolding sessionAnswerWords wordsAt sessionAnswerNumber padded
 returns-2 c = search words
 
 returns-3 : tie.Need-returns-3
-unfolding answerWords wordsAt replyNumber padded
+unfolding sessionAnswerWords wordsAt sessionAnswerNumber padded
 returns-3 c = search words
 
 returns-4 : tie.Need-returns-4
-unfolding answerWords wordsAt replyNumber padded
+unfolding sessionAnswerWords wordsAt sessionAnswerNumber padded
 returns-4 c = search words
 
 returns-5 : tie.Need-returns-5
-unfolding answerWords wordsAt replyNumber padded
+unfolding sessionAnswerWords wordsAt sessionAnswerNumber padded
 returns-5 c = search words
 
 returns-6 : tie.Need-returns-6
-unfolding answerWords wordsAt replyNumber padded
+unfolding sessionAnswerWords wordsAt sessionAnswerNumber padded
 returns-6 c = search words
 
 returns-7 : tie.Need-returns-7
-unfolding answerWords wordsAt replyNumber padded
+unfolding sessionAnswerWords wordsAt sessionAnswerNumber padded
 returns-7 c = search words
 
 returns-8 : tie.Need-returns-8
-unfolding answerWords wordsAt replyNumber padded
+unfolding sessionAnswerWords wordsAt sessionAnswerNumber padded
 returns-8 c = search words
 
 returns-9 : tie.Need-returns-9
-unfolding answerWords wordsAt replyNumber padded
+unfolding sessionAnswerWords wordsAt sessionAnswerNumber padded
 returns-9 c = search words
 
 returns-10 : tie.Need-returns-10
-unfolding answerWords wordsAt replyNumber padded
+unfolding sessionAnswerWords wordsAt sessionAnswerNumber padded
 returns-10 c = search words
 
 pub answer-words-spec : {M : Type 1} → statement M

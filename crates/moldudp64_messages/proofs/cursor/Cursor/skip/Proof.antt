@@ -1,12 +1,12 @@
 -- The moves that are left lead where all of them lead; a cursor that stays is there already.
 use mathlib.Core.Path.{_≡_}
-use Rattle.moldudp64_messages.specs.Cursor.{movedBy}
+use Rattle.moldudp64_messages.specs.Cursor.{advancedBy}
 use Rattle.moldudp64_messages.proofs.Rules.{moving}
 use Rattle.moldudp64_messages.proofs.cursor.Cursor.skip.Statement.{statement}
 use Rattle.moldudp64_messages.proofs.cursor.Cursor.skip.Tie as tie
 
 abbrev Inv-loop : tie.InvT-loop
-Inv-loop datagram cursor₀ left₀ cursor left = movedBy left datagram cursor ≡ movedBy left₀ datagram cursor₀
+Inv-loop datagram cursor₀ left₀ cursor left = advancedBy left datagram cursor ≡ advancedBy left₀ datagram cursor₀
 
 abbrev μ-loop : tie.MeasureT-loop
 μ-loop datagram cursor₀ left₀ cursor left = left
