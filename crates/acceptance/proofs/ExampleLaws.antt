@@ -25,7 +25,7 @@ use Rattle.soupbintcp.specs.Front.{frontPacket, frontAt, frontOf, packetAt, pac
 use Rattle.soupbintcp_writer.specs.Packets as soup
 use Rattle.login.specs.Account.{lowered, sameText, soundAccount, isOf, hasPassword, isKnown, verdictOf, lookupOf}
 use Rattle.login.specs.Decision.{sessionHolds, numberHolds, granted, decisionAt}
-use Rattle.soupbintcp_server.specs.Server.{serverStartRefusal, startServer, loginAt, waitingRow, rowAt, frontRow, stepAt, entryOf, serverStep}
+use Rattle.soupbintcp_server.specs.Server.{serverStartRefusal, startServer, loginAt, waitingRow, rowAt, frontRowAt, stepAt, entryOf, serverStep}
 use Rattle.acceptance.specs.Examples.{resultOf, ExampleRow, rows, EveryExample}
 use Rattle.acceptance.proofs.Same.{first-of, second-of, same, equal}
 
@@ -46,7 +46,7 @@ each (x ∷ rs) e r m =
 
 -- the test, computed
 passes : every rows ≡ true
-unfolding number bytes sameBytes firstBytes numberOf countOf header blockLength fits allFit afterBlocks messages blocksRefusal blocksOf kindOfCount blockCount refusalOf downstreamOf messagesOf mold.encoded table otherSession endBelow ownRefusal refusalFor answerOf receiverAfter messagesDeliveredAt isDigit digitsUpTo digits valueFrom areDigits isLetterOrDigit areLettersOrDigits leadingSpaces goodSession field.isNumber field.readNumber field.numberField wordLength areSpaces sound letterFor letterRow sends allows plainOf head.packetLength head.letterOf head.headOf hasFields sessionAt sessionBytes numberBytes blankAllowed leastNumberOf numberedOf numberFields withNumber fieldsAt fieldsOf frontPacket frontAt frontOf packetAt packetBytes sessionOf loginPart usernameOf passwordOf soup.headBytes soup.encoded lower lowered sameText soundAccount isOf hasPassword isKnown verdictOf lookupOf sessionHolds numberHolds granted decisionAt serverStartRefusal startServer loginAt waitingRow rowAt frontRow stepAt entryOf serverStep resultOf
+unfolding number bytes sameBytes firstBytes numberOf countOf header blockLength fits allFit afterBlocks messages blocksRefusal blocksOf kindOfCount blockCount refusalOf downstreamOf messagesOf mold.encoded table otherSession endBelow ownRefusal refusalFor answerOf receiverAfter messagesDeliveredAt isDigit digitsUpTo digits valueFrom areDigits isLetterOrDigit areLettersOrDigits leadingSpaces goodSession field.isNumber field.readNumber field.numberField wordLength areSpaces sound letterFor letterRow sends allows plainOf head.packetLength head.letterOf head.headOf hasFields sessionAt sessionBytes numberBytes blankAllowed leastNumberOf numberedOf numberFields withNumber fieldsAt fieldsOf frontPacket frontAt frontOf packetAt packetBytes sessionOf loginPart usernameOf passwordOf soup.headBytes soup.encoded lower lowered sameText soundAccount isOf hasPassword isKnown verdictOf lookupOf sessionHolds numberHolds granted decisionAt serverStartRefusal startServer loginAt waitingRow rowAt frontRowAt stepAt entryOf serverStep resultOf
 passes = refl
 
 pub every-example : EveryExample

@@ -1,5 +1,5 @@
-// What the tender asks for, by name. The functions have nothing to do: each promises one condition, so that the gate can't pass without
-// its proof, and `specs/Conditions.antt` is the one file to open.
+// What the tender asks for, by name. The functions have nothing to do: each promises one condition, so that the gate
+// can't pass without its proof, and `specs/Conditions.antt` is the one file to open.
 ghost use Rattle.acceptance.specs.Conditions.{Condition1, Condition2, Condition3, Condition3IsMeant};
 ghost use Rattle.acceptance.specs.Examples.{EveryExample};
 

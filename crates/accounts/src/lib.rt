@@ -15,7 +15,8 @@ ghost use Rattle.accounts.specs.Accounts.{usedOf, FlatIsTheSame};
 // How many records a table by value has.
 pub const RECORDS: usize = 4;
 
-// What a table says of an entry: the first sound record with its username decides, and 19 where there are too many records.
+// What a table says of an entry: the first sound record with its username decides, and 19 where there are too many
+// records.
 pub fn lookup(table: &[Account], entry: Account) -> Verdict
     ensures { λ r. ⌜ (verdictWords r ≡ lookupOf (now (table .entry)) entry) × FlatIsTheSame ⌝ }
 {

@@ -1,5 +1,5 @@
-// A capture that comes in pieces. What is there is fed; the bytes that were not used are kept, and fed again in front of the next
-// piece.
+// A capture that comes in pieces. What is there is fed; the bytes that were not used are kept, and fed again in front
+// of the next piece.
 use capture_records::records;
 use capture_records::records::Front;
 use capture_settings::settings;
@@ -16,7 +16,8 @@ ghost use mathlib.Core.Path.{_≡_};
 ghost use lib.ListN.{length};
 ghost use Rattle.wire.specs.Output.{Writes};
 ghost use Rattle.capture_tally.specs.Report.{freshOf};
-ghost use Rattle.capture.specs.Reading.{fed, startReading, takeOf, startedOf, openOf, endOf, advanceOf, waits, isOver, feedOf, finishOf, textOf};
+ghost use Rattle.capture.specs.Reading.{fed, startReading, takeOf, startedOf, openOf, endOf, advanceOf, waits};
+ghost use Rattle.capture.specs.Reading.{isOver, feedOf, finishOf, textOf};
 ghost use Rattle.capture.specs.Whole.{CapturePromises};
 
 // What comes next of a capture: its settings, or records; or nothing, at its end or where its settings are refused.
@@ -39,7 +40,8 @@ pub struct Fed {
     pub used: usize,
 }
 
-// The report after every whole record in front of some bytes, at most as many as are read, and how many bytes those take.
+// The report after every whole record in front of some bytes, at most as many as are read, and how many bytes those
+// take.
 fn take_records(start: Report, bytes: &[u8]) -> Fed
     ensures { λ r. ⌜ r ≡ takeOf start (now (bytes .entry)) ⌝ }
 {
@@ -52,7 +54,7 @@ fn take_records(start: Report, bytes: &[u8]) -> Fed
                 return Fed {
                     reading: Reading {
                         stage: Stage::Records,
-                        report: report,
+                        report,
                     },
                     used: bytes.len() - rest.len(),
                 };
@@ -67,7 +69,7 @@ fn take_records(start: Report, bytes: &[u8]) -> Fed
     Fed {
         reading: Reading {
             stage: Stage::Records,
-            report: report,
+            report,
         },
         used: bytes.len() - rest.len(),
     }
@@ -93,7 +95,7 @@ fn open(report: Report, bytes: &[u8]) -> Fed
         return Fed {
             reading: Reading {
                 stage: Stage::Refused,
-                report: report,
+                report,
             },
             used: bytes.len(),
         };
@@ -103,7 +105,7 @@ fn open(report: Report, bytes: &[u8]) -> Fed
     let fed = take_records(fresh(settings), &bytes[size..]);
     let reading = fed.reading;
     Fed {
-        reading: reading,
+        reading,
         used: size + fed.used,
     }
 }
@@ -213,7 +215,8 @@ impl Reading {
         }
     }
 
-    // Writes what a reading prints: the report, or that the settings are refused, as they also are while none were read.
+    // Writes what a reading prints: the report, or that the settings are refused, as they also are while none were
+    // read.
     pub fn write(self, out: &mut [u8]) -> Written
         ensures { λ r. ⌜ Writes r (now (out .entry)) (now (out .exit)) 0 0 (textOf self) ⌝ }
     {

@@ -4,8 +4,8 @@ ghost use mathlib.Core.Path.{_≡_};
 ghost use lib.ListN.{length};
 ghost use Rattle.capture_records.specs.Buffer.{keptSize, keptOf};
 
-// Moves the bytes from one place up to another to the front, and answers how many they are. Where these are no places of the
-// buffer, nothing is moved.
+// Moves the bytes from one place up to another to the front, and answers how many they are. Where these are no places
+// of the buffer, nothing is moved.
 pub fn keep(buf: &mut [u8], from: ByteOffset, to: ByteOffset) -> usize
     ensures { λ r. ⌜ r ≡ keptSize (length (now (buf .entry))) (from .0) (to .0) ⌝ }
     ensures moved { λ _. ⌜ now (buf .exit) ≡ keptOf (now (buf .entry)) (from .0) (to .0) ⌝ }

@@ -28,5 +28,5 @@ pub fn read(bytes: &[u8]) -> Front
     if bytes.len() < size {
         return Front::Short;
     }
-    Front::Whole { size: size }
+    Front::Whole { size }
 }

@@ -9,8 +9,8 @@ use wire::output::Written;
 ghost use Prim.Native.Nat.{_≤_};
 ghost use lib.ListN.{length};
 
-// Reads once behind the bytes that are there, and answers how many are there now: as many as before where the input ends or
-// the read fails.
+// Reads once behind the bytes that are there, and answers how many are there now: as many as before where the input
+// ends or the read fails.
 fn fill(buf: &mut [u8], have: usize) -> usize
     requires { ⌜ have ≤ length (now buf) ⌝ }
     ensures { λ r. ⌜ (have ≤ r) × (r ≤ length (now (buf .entry))) ⌝ }
@@ -19,8 +19,8 @@ fn fill(buf: &mut [u8], have: usize) -> usize
     have + io::count(got, &buf[have..])
 }
 
-// Reads all pieces. A proved loop has to end, and nothing says that the input does: the turns are counted down from a number that
-// no run uses up.
+// Reads all pieces. A proved loop has to end, and nothing says that the input does: the turns are counted down from a
+// number that no run uses up.
 fn read_all(buf: &mut [u8]) -> Reading {
     let mut reading = Reading::new();
     let mut have: usize = 0;

@@ -1,3 +1,4 @@
-// The settings at the front of a capture: the lines `session=`, `next=` and `limit=`. Nothing here speaks of a receiver.
+// The settings at the front of a capture: the lines `session=`, `next=` and `limit=`. Nothing here speaks of a
+// receiver.
 mod lines;
 pub mod settings;

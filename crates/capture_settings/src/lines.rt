@@ -7,7 +7,8 @@ ghost use Rattle.capture_settings.specs.Settings.{pastOf, isPrintable, l
 // The byte that ends a line.
 pub(crate) const LINE_FEED: u8 = 10;
 
-// A number of at least 1 up to a line feed: its value, 0 where there is none, and how many bytes it takes with the line feed.
+// A number of at least 1 up to a line feed: its value, 0 where there is none, and how many bytes it takes with the
+// line feed.
 pub struct Line {
     pub value: u64,
     pub size: usize,
@@ -56,10 +57,7 @@ pub(crate) fn number_line(s: &[u8]) -> Line
     while i < s.len() {
         let b = s[i];
         if b == LINE_FEED {
-            return Line {
-                value: value,
-                size: i + 1,
-            };
+            return Line { value, size: i + 1 };
         }
         match reading::append(value, b) {
             Appended::Value { value: v } => value = v,

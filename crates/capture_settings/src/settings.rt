@@ -69,7 +69,7 @@ fn numbers(session: [u8; SESSION_SIZE], s: &[u8]) -> Opened
     Opened {
         refusal: refusal::NONE,
         settings: Settings {
-            session: session,
+            session,
             next: SequenceNumber(n),
             limit: MessageCount(most as u16),
         },

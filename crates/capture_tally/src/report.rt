@@ -22,7 +22,7 @@ impl Report {
         ensures { λ r. ⌜ r ≡ freshOf receiver ⌝ }
     {
         Report {
-            receiver: receiver,
+            receiver,
             records: 0,
             tally: Tally {
                 delivered: 0,
@@ -55,8 +55,8 @@ impl Report {
         }
     }
 
-    // The report after a record that is cut short: one refusal, of which the receiver learns nothing. As it was, where it has the
-    // most records already.
+    // The report after a record that is cut short: one refusal, of which the receiver learns nothing. As it was,
+    // where it has the most records already.
     pub fn cut(self) -> Report
         ensures { λ r. ⌜ r ≡ cutOf self ⌝ }
     {
@@ -67,7 +67,7 @@ impl Report {
         let receiver = self.receiver;
         let so_far = self.tally;
         Report {
-            receiver: receiver,
+            receiver,
             records: read + 1,
             tally: so_far.plus(Tally {
                 delivered: 0,

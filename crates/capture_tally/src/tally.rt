@@ -2,7 +2,7 @@
 use receiver::receiver::Answer;
 ghost use mathlib.Core.Path.{_≡_};
 ghost use Rattle.receiver.specs.Table.{answerWords};
-ghost use Rattle.capture_tally.specs.Tally.{partsOf, plusOf, upTo};
+ghost use Rattle.capture_tally.specs.Tally.{tally, partsOf, plusOf, upTo};
 
 // The largest count.
 const LARGEST: u64 = u64::MAX;
@@ -27,14 +27,14 @@ fn sum(a: u64, b: u64) -> u64
 }
 
 fn counts(delivered: u64, old: u64, quiet: u64, asked: u64, refused: u64) -> Tally
-    ensures { λ r. ⌜ r ≡ record { delivered = delivered; old = old; quiet = quiet; asked = asked; refused = refused } ⌝ }
+    ensures { λ r. ⌜ r ≡ tally delivered old quiet asked refused ⌝ }
 {
     Tally {
-        delivered: delivered,
-        old: old,
-        quiet: quiet,
-        asked: asked,
-        refused: refused,
+        delivered,
+        old,
+        quiet,
+        asked,
+        refused,
     }
 }
 

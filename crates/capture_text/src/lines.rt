@@ -12,7 +12,8 @@ ghost use Rattle.capture_text.specs.Text.{LaysLine, numberLine, sessionL
 // A text.
 pub(crate) fn put_text(out: &mut [u8], at: ByteOffset, text: &[u8]) -> ByteOffset
     requires { ⌜ at .0 + length (now text) ≤ length (now out) ⌝ }
-    ensures { λ r. ⌜ LaysLine (r .0) (now (out .entry)) (now (out .exit)) (at .0) (now (text .entry)) (length (now (text .entry))) ⌝ }
+    ensures { λ r. ⌜ LaysLine (r .0) (now (out .entry)) (now (out .exit)) (at .0) (now (text .entry))
+        (length (now (text .entry))) ⌝ }
 {
     output::put_bytes(out, at, text);
     ByteOffset(at.0 + text.len())
@@ -32,7 +33,8 @@ fn put_number(out: &mut [u8], at: ByteOffset, n: u64) -> ByteOffset
 // A line with a number.
 pub(crate) fn put_number_line(out: &mut [u8], at: ByteOffset, key: &[u8], n: u64) -> ByteOffset
     requires { ⌜ at .0 + length (now key) + 21 ≤ length (now out) ⌝ }
-    ensures { λ r. ⌜ LaysLine (r .0) (now (out .entry)) (now (out .exit)) (at .0) (numberLine (now (key .entry)) n) (length (now (key .entry)) + 21) ⌝ }
+    ensures { λ r. ⌜ LaysLine (r .0) (now (out .entry)) (now (out .exit)) (at .0)
+        (numberLine (now (key .entry)) n) (length (now (key .entry)) + 21) ⌝ }
 {
     let a = put_text(out, at, key);
     let b = put_number(out, a, n);

@@ -28,8 +28,12 @@ pub extern "C" fn eiderwagon_capture_start(state: &mut [u8]) -> u32
 // Feeds some bytes, after which more may come: how many were used, and whether nothing that follows changes the report.
 #[no_mangle]
 pub extern "C" fn eiderwagon_capture_feed(state: &mut [u8], bytes: &[u8], words: &mut [u64]) -> u32
-    ensures { λ r. ⌜ AnswersWith r (now (words .entry)) (now (words .exit)) (ltb (length (now (state .entry))) readingSize) 0 (feedOf (readingIn (now (state .entry))) (now (bytes .entry)) .used ∷ flag (isOver (feedOf (readingIn (now (state .entry))) (now (bytes .entry)) .reading .stage)) ∷ []) ⌝ }
-    ensures keeps { λ r. ⌜ KeepsReading r (now (state .entry)) (now (state .exit)) (feedOf (readingIn (now (state .entry))) (now (bytes .entry)) .reading) ⌝ }
+    ensures { λ r. ⌜ AnswersWith r (now (words .entry)) (now (words .exit))
+        (ltb (length (now (state .entry))) readingSize) 0
+        (feedOf (readingIn (now (state .entry))) (now (bytes .entry)) .used ∷ flag
+        (isOver (feedOf (readingIn (now (state .entry))) (now (bytes .entry)) .reading .stage)) ∷ []) ⌝ }
+    ensures keeps { λ r. ⌜ KeepsReading r (now (state .entry)) (now (state .exit))
+        (feedOf (readingIn (now (state .entry))) (now (bytes .entry)) .reading) ⌝ }
 {
     let fed = host_capture::read(state).feed(bytes);
     let reading = fed.reading;
@@ -51,7 +55,8 @@ pub extern "C" fn eiderwagon_capture_feed(state: &mut [u8], bytes: &[u8], words:
 #[no_mangle]
 pub extern "C" fn eiderwagon_capture_finish(state: &mut [u8], bytes: &[u8]) -> u32
     ensures { λ r. ⌜ r ≡ codeOf (ltb (length (now (state .entry))) readingSize) 0 ⌝ }
-    ensures keeps { λ r. ⌜ KeepsReading r (now (state .entry)) (now (state .exit)) (finishOf (readingIn (now (state .entry))) (now (bytes .entry))) ⌝ }
+    ensures keeps { λ r. ⌜ KeepsReading r (now (state .entry)) (now (state .exit))
+        (finishOf (readingIn (now (state .entry))) (now (bytes .entry))) ⌝ }
 {
     let code = host_answers::code(state.len() < host_capture::SIZE, refusal::NONE);
     let finished = host_capture::read(state).finish(bytes);
@@ -62,7 +67,9 @@ pub extern "C" fn eiderwagon_capture_finish(state: &mut [u8], bytes: &[u8]) -> u
 // Writes what was read so far.
 #[no_mangle]
 pub extern "C" fn eiderwagon_capture_write(state: &[u8], out: &mut [u8], words: &mut [u64]) -> u32
-    ensures { λ r. ⌜ AnswersWriting r (now (words .entry)) (now (words .exit)) (now (out .entry)) (now (out .exit)) (ltb (length (now (state .entry))) readingSize) 0 (textOf (readingIn (now (state .entry)))) ⌝ }
+    ensures { λ r. ⌜ AnswersWriting r (now (words .entry)) (now (words .exit)) (now (out .entry))
+        (now (out .exit)) (ltb (length (now (state .entry))) readingSize) 0
+        (textOf (readingIn (now (state .entry)))) ⌝ }
 {
     if (state.len() < host_capture::SIZE) | (words.len() < WRITTEN_WORDS) {
         return SHORT;
@@ -77,7 +84,8 @@ pub extern "C" fn eiderwagon_capture_report(
     out: &mut [u8],
     words: &mut [u64],
 ) -> u32
-    ensures { λ r. ⌜ AnswersWriting r (now (words .entry)) (now (words .exit)) (now (out .entry)) (now (out .exit)) false 0 (captureText (now (capture .entry))) ⌝ }
+    ensures { λ r. ⌜ AnswersWriting r (now (words .entry)) (now (words .exit)) (now (out .entry))
+        (now (out .exit)) false 0 (captureText (now (capture .entry))) ⌝ }
 {
     if words.len() < WRITTEN_WORDS {
         return SHORT;

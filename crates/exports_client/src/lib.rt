@@ -1,5 +1,5 @@
-// The SoupBinTCP session at the client for hosts in other languages. `include/eiderwagon.h` says what each function takes and
-// answers.
+// The SoupBinTCP session at the client for hosts in other languages. `include/eiderwagon.h` says what each function
+// takes and answers.
 use host_session::replies;
 use soupbintcp_client::client::Client;
 use wire::kinds::SESSION_SIZE;
@@ -20,8 +20,11 @@ ghost use Rattle.host_session.specs.Replies.{sessionAnswerNumber, stepWords, Se
 // Starts a client.
 #[no_mangle]
 pub extern "C" fn eiderwagon_client_start(session: &[u8], number: u64, state: &mut [u8]) -> u32
-    ensures { λ r. ⌜ r ≡ codeOf (ltb (length (now (session .entry))) sessionSize || ltb (length (now (state .entry))) sessionStateSize) (clientStartRefusal (firstBytes sessionSize (now (session .entry))) number) ⌝ }
-    ensures keeps { λ r. ⌜ KeepsClient r (now (state .entry)) (now (state .exit)) (startClient (firstBytes sessionSize (now (session .entry))) number) ⌝ }
+    ensures { λ r. ⌜ r ≡ codeOf (ltb (length (now (session .entry))) sessionSize
+        || ltb (length (now (state .entry))) sessionStateSize)
+        (clientStartRefusal (firstBytes sessionSize (now (session .entry))) number) ⌝ }
+    ensures keeps { λ r. ⌜ KeepsClient r (now (state .entry)) (now (state .exit))
+        (startClient (firstBytes sessionSize (now (session .entry))) number) ⌝ }
 {
     let started = Client::new(parts::ten(session), SequenceNumber(number));
     let client = started.client;
@@ -34,8 +37,11 @@ pub extern "C" fn eiderwagon_client_start(session: &[u8], number: u64, state: &m
 // Takes the packet at the front of a server's stream.
 #[no_mangle]
 pub extern "C" fn eiderwagon_client_step(state: &mut [u8], stream: &[u8], words: &mut [u64]) -> u32
-    ensures { λ r. ⌜ Answers r (now (words .entry)) (now (words .exit)) (ltb (length (now (state .entry))) sessionStateSize) sessionAnswerNumber 5 (stepWords (clientStep (clientIn (now (state .entry))) (now (stream .entry)))) ⌝ }
-    ensures keeps { λ r. ⌜ KeepsClient r (now (state .entry)) (now (state .exit)) (clientStep (clientIn (now (state .entry))) (now (stream .entry)) .after) ⌝ }
+    ensures { λ r. ⌜ Answers r (now (words .entry)) (now (words .exit))
+        (ltb (length (now (state .entry))) sessionStateSize) sessionAnswerNumber 5
+        (stepWords (clientStep (clientIn (now (state .entry))) (now (stream .entry)))) ⌝ }
+    ensures keeps { λ r. ⌜ KeepsClient r (now (state .entry)) (now (state .exit))
+        (clientStep (clientIn (now (state .entry))) (now (stream .entry)) .after) ⌝ }
     ensures tells_apart { λ _. ⌜ SessionNumbersApart ⌝ }
 {
     let stepped = host_client::read(state).step(stream);

@@ -9,6 +9,13 @@ ghost use Rattle.moldudp64.specs.Downstream.{downstreamWords, downstreamOf};
 ghost use Rattle.host_answers.specs.Answers.{wordsOf, Answers};
 ghost use Rattle.exports_moldudp64.specs.Datagrams.{kindNumber, DatagramsApart};
 
+// What a datagram is, by number.
+const DATA: u64 = 1;
+
+const HEARTBEAT: u64 = 2;
+
+const END_OF_SESSION: u64 = 3;
+
 // The words of a datagram: what it is, its number and its count.
 const DATAGRAM_WORDS: usize = 3;
 
@@ -19,20 +26,21 @@ struct SaidDatagram {
 }
 
 fn datagram_words(read: Downstream) -> SaidDatagram
-    ensures { λ r. ⌜ (r .refusal .number ≡ downstreamWords read .refusal) × (r .words ≡ wordsOf kindNumber 3 (downstreamWords read)) ⌝ }
+    ensures { λ r. ⌜ (r .refusal .number ≡ downstreamWords read .refusal)
+        × (r .words ≡ wordsOf kindNumber 3 (downstreamWords read)) ⌝ }
 {
     match read {
         Downstream::Data { first, count } => SaidDatagram {
             refusal: refusal::NONE,
-            words: [1, first.0, count.0 as u64],
+            words: [DATA, first.0, count.0 as u64],
         },
         Downstream::Heartbeat { next } => SaidDatagram {
             refusal: refusal::NONE,
-            words: [2, next.0, 0],
+            words: [HEARTBEAT, next.0, 0],
         },
         Downstream::EndOfSession { next } => SaidDatagram {
             refusal: refusal::NONE,
-            words: [3, next.0, 0],
+            words: [END_OF_SESSION, next.0, 0],
         },
         Downstream::Refused(r) => SaidDatagram {
             refusal: r,
@@ -44,7 +52,8 @@ fn datagram_words(read: Downstream) -> SaidDatagram
 // Reads a datagram.
 #[no_mangle]
 pub extern "C" fn eiderwagon_mold_read(datagram: &[u8], words: &mut [u64]) -> u32
-    ensures { λ r. ⌜ Answers r (now (words .entry)) (now (words .exit)) false kindNumber 3 (downstreamOf (now (datagram .entry))) ⌝ }
+    ensures { λ r. ⌜ Answers r (now (words .entry)) (now (words .exit)) false kindNumber 3
+        (downstreamOf (now (datagram .entry))) ⌝ }
     ensures tells_apart { λ _. ⌜ DatagramsApart ⌝ }
 {
     let said = datagram_words(downstream::read(datagram));

@@ -29,7 +29,8 @@ fn located_words(found: Located) -> [u64; MESSAGE_WORDS]
 // Finds one message by its place.
 #[no_mangle]
 pub extern "C" fn eiderwagon_mold_locate(datagram: &[u8], place: u16, words: &mut [u64]) -> u32
-    ensures { λ r. ⌜ AnswersWith r (now (words .entry)) (now (words .exit)) false 0 (locatedWords (locateOf (now (datagram .entry)) place)) ⌝ }
+    ensures { λ r. ⌜ AnswersWith r (now (words .entry)) (now (words .exit)) false 0
+        (locatedWords (locateOf (now (datagram .entry)) place)) ⌝ }
 {
     let values = located_words(message::locate(datagram, MessageCount(place)));
     host_answers::answer(words, false, refusal::NONE, &values)
@@ -39,7 +40,8 @@ pub extern "C" fn eiderwagon_mold_locate(datagram: &[u8], place: u16, words: &mu
 #[no_mangle]
 pub extern "C" fn eiderwagon_mold_walk(datagram: &[u8], cursor: &mut [u8]) -> u32
     ensures { λ r. ⌜ r ≡ codeOf (ltb (length (now (cursor .entry))) cursorSize) 0 ⌝ }
-    ensures keeps { λ r. ⌜ KeepsCursor r (now (cursor .entry)) (now (cursor .exit)) (startOf (now (datagram .entry))) ⌝ }
+    ensures keeps { λ r. ⌜ KeepsCursor r (now (cursor .entry)) (now (cursor .exit))
+        (startOf (now (datagram .entry))) ⌝ }
 {
     let code = host_answers::code(cursor.len() < host_cursor::SIZE, refusal::NONE);
     host_cursor::write(cursor, code, Cursor::start(datagram));
@@ -49,8 +51,11 @@ pub extern "C" fn eiderwagon_mold_walk(datagram: &[u8], cursor: &mut [u8]) -> u3
 // Answers the message at a cursor, and moves the cursor to the next one.
 #[no_mangle]
 pub extern "C" fn eiderwagon_mold_next(cursor: &mut [u8], datagram: &[u8], words: &mut [u64]) -> u32
-    ensures { λ r. ⌜ AnswersWith r (now (words .entry)) (now (words .exit)) (ltb (length (now (cursor .entry))) cursorSize) 0 (locatedWords (located (now (datagram .entry)) (cursorIn (now (cursor .entry))))) ⌝ }
-    ensures keeps { λ r. ⌜ KeepsCursor r (now (cursor .entry)) (now (cursor .exit)) (advanced (now (datagram .entry)) (cursorIn (now (cursor .entry)))) ⌝ }
+    ensures { λ r. ⌜ AnswersWith r (now (words .entry)) (now (words .exit))
+        (ltb (length (now (cursor .entry))) cursorSize) 0
+        (locatedWords (located (now (datagram .entry)) (cursorIn (now (cursor .entry))))) ⌝ }
+    ensures keeps { λ r. ⌜ KeepsCursor r (now (cursor .entry)) (now (cursor .exit))
+        (advanced (now (datagram .entry)) (cursorIn (now (cursor .entry)))) ⌝ }
 {
     let at = host_cursor::read(cursor);
     let values = located_words(at.locate(datagram));

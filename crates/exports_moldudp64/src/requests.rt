@@ -18,7 +18,8 @@ struct SaidRequest {
 }
 
 fn request_words(read: Request) -> SaidRequest
-    ensures { λ r. ⌜ (r .refusal .number ≡ requestWords read .refusal) × (r .words ≡ padded 2 (requestWords read .values)) ⌝ }
+    ensures { λ r. ⌜ (r .refusal .number ≡ requestWords read .refusal)
+        × (r .words ≡ padded 2 (requestWords read .values)) ⌝ }
 {
     match read {
         Request::Wanted { first, count } => SaidRequest {
@@ -35,7 +36,8 @@ fn request_words(read: Request) -> SaidRequest
 // Reads a request.
 #[no_mangle]
 pub extern "C" fn eiderwagon_mold_read_request(request: &[u8], words: &mut [u64]) -> u32
-    ensures { λ r. ⌜ AnswersWith r (now (words .entry)) (now (words .exit)) false (requestOf (now (request .entry)) .refusal) (padded 2 (requestOf (now (request .entry)) .values)) ⌝ }
+    ensures { λ r. ⌜ AnswersWith r (now (words .entry)) (now (words .exit)) false
+        (requestOf (now (request .entry)) .refusal) (padded 2 (requestOf (now (request .entry)) .values)) ⌝ }
 {
     let said = request_words(request::read(request));
     let values = said.words;

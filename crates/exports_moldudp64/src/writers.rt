@@ -28,7 +28,11 @@ pub extern "C" fn eiderwagon_mold_write_data(
     out: &mut [u8],
     words: &mut [u64],
 ) -> u32
-    ensures { λ r. ⌜ AnswersWriting r (now (words .entry)) (now (words .exit)) (now (out .entry)) (now (out .exit)) (ltb (length (now (session .entry))) sessionSize) (packetGround first (now (lengths .entry)) (now (joined .entry))) (encodedCut (firstBytes sessionSize (now (session .entry))) first (now (lengths .entry)) (now (joined .entry))) ⌝ }
+    ensures { λ r. ⌜ AnswersWriting r (now (words .entry)) (now (words .exit)) (now (out .entry))
+        (now (out .exit)) (ltb (length (now (session .entry))) sessionSize)
+        (packetGround first (now (lengths .entry)) (now (joined .entry)))
+        (encodedCut (firstBytes sessionSize (now (session .entry))) first (now (lengths .entry))
+        (now (joined .entry))) ⌝ }
 {
     if (session.len() < SESSION_SIZE) | (words.len() < WRITTEN_WORDS) {
         return SHORT;
@@ -53,7 +57,9 @@ pub extern "C" fn eiderwagon_mold_write_heartbeat(
     out: &mut [u8],
     words: &mut [u64],
 ) -> u32
-    ensures { λ r. ⌜ AnswersWriting r (now (words .entry)) (now (words .exit)) (now (out .entry)) (now (out .exit)) (ltb (length (now (session .entry))) sessionSize) (packetGround next [] []) (encoded (firstBytes sessionSize (now (session .entry))) next []) ⌝ }
+    ensures { λ r. ⌜ AnswersWriting r (now (words .entry)) (now (words .exit)) (now (out .entry))
+        (now (out .exit)) (ltb (length (now (session .entry))) sessionSize) (packetGround next [] [])
+        (encoded (firstBytes sessionSize (now (session .entry))) next []) ⌝ }
 {
     if (session.len() < SESSION_SIZE) | (words.len() < WRITTEN_WORDS) {
         return SHORT;
@@ -79,7 +85,9 @@ pub extern "C" fn eiderwagon_mold_write_end(
     out: &mut [u8],
     words: &mut [u64],
 ) -> u32
-    ensures { λ r. ⌜ AnswersWriting r (now (words .entry)) (now (words .exit)) (now (out .entry)) (now (out .exit)) (ltb (length (now (session .entry))) sessionSize) (endGround next) (encodedEnd (firstBytes sessionSize (now (session .entry))) next) ⌝ }
+    ensures { λ r. ⌜ AnswersWriting r (now (words .entry)) (now (words .exit)) (now (out .entry))
+        (now (out .exit)) (ltb (length (now (session .entry))) sessionSize) (endGround next)
+        (encodedEnd (firstBytes sessionSize (now (session .entry))) next) ⌝ }
 {
     if (session.len() < SESSION_SIZE) | (words.len() < WRITTEN_WORDS) {
         return SHORT;
@@ -99,7 +107,9 @@ pub extern "C" fn eiderwagon_mold_write_request(
     out: &mut [u8],
     words: &mut [u64],
 ) -> u32
-    ensures { λ r. ⌜ AnswersWriting r (now (words .entry)) (now (words .exit)) (now (out .entry)) (now (out .exit)) (ltb (length (now (session .entry))) sessionSize) (requestGround first count) (header (firstBytes sessionSize (now (session .entry))) first count) ⌝ }
+    ensures { λ r. ⌜ AnswersWriting r (now (words .entry)) (now (words .exit)) (now (out .entry))
+        (now (out .exit)) (ltb (length (now (session .entry))) sessionSize) (requestGround first count)
+        (header (firstBytes sessionSize (now (session .entry))) first count) ⌝ }
 {
     if (session.len() < SESSION_SIZE) | (words.len() < WRITTEN_WORDS) {
         return SHORT;

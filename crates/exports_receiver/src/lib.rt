@@ -1,5 +1,5 @@
-// The receiver for hosts in other languages: started, given datagrams, and what it delivers of them. `include/eiderwagon.h` says
-// what each function takes and answers.
+// The receiver for hosts in other languages: started, given datagrams, and what it delivers of them.
+// `include/eiderwagon.h` says what each function takes and answers.
 use moldudp64_messages::cursor::Cursor;
 use receiver::delivery;
 use receiver::receiver::Answer;
@@ -25,6 +25,17 @@ ghost use Rattle.host_receiver.specs.Receiver.{receiverSize, receiverIn, KeepsR
 ghost use Rattle.exports_receiver.specs.Replies.{answerNumber, AnswerNumbersApart};
 ghost use Rattle.exports_receiver.specs.Run.{HandsOn};
 
+// What a receiver answers, by number.
+const DELIVER: u64 = 1;
+
+const OLD: u64 = 2;
+
+const QUIET: u64 = 3;
+
+const ASK: u64 = 4;
+
+const ENDED: u64 = 5;
+
 // The words of an answer: which it is, and its three values.
 const ANSWER_WORDS: usize = 4;
 
@@ -35,7 +46,8 @@ struct SaidAnswer {
 }
 
 fn answer_words(answer: Answer) -> SaidAnswer
-    ensures { λ r. ⌜ (r .refusal .number ≡ answerWords answer .refusal) × (r .words ≡ wordsOf answerNumber 4 (answerWords answer)) ⌝ }
+    ensures { λ r. ⌜ (r .refusal .number ≡ answerWords answer .refusal)
+        × (r .words ≡ wordsOf answerNumber 4 (answerWords answer)) ⌝ }
 {
     match answer {
         Answer::Deliver {
@@ -44,23 +56,23 @@ fn answer_words(answer: Answer) -> SaidAnswer
             skipped,
         } => SaidAnswer {
             refusal: refusal::NONE,
-            words: [1, first.0, count.0 as u64, skipped.0 as u64],
+            words: [DELIVER, first.0, count.0 as u64, skipped.0 as u64],
         },
         Answer::Old => SaidAnswer {
             refusal: refusal::NONE,
-            words: [2, 0, 0, 0],
+            words: [OLD, 0, 0, 0],
         },
         Answer::Quiet => SaidAnswer {
             refusal: refusal::NONE,
-            words: [3, 0, 0, 0],
+            words: [QUIET, 0, 0, 0],
         },
         Answer::Ask { from, count } => SaidAnswer {
             refusal: refusal::NONE,
-            words: [4, from.0, count.0 as u64, 0],
+            words: [ASK, from.0, count.0 as u64, 0],
         },
         Answer::Ended => SaidAnswer {
             refusal: refusal::NONE,
-            words: [5, 0, 0, 0],
+            words: [ENDED, 0, 0, 0],
         },
         Answer::Refused(r) => SaidAnswer {
             refusal: r,
@@ -77,8 +89,10 @@ pub extern "C" fn eiderwagon_receiver_start(
     limit: u16,
     state: &mut [u8],
 ) -> u32
-    ensures { λ r. ⌜ r ≡ codeOf (ltb (length (now (session .entry))) sessionSize || ltb (length (now (state .entry))) receiverSize) (receiverStartRefusal next limit) ⌝ }
-    ensures keeps { λ r. ⌜ KeepsReceiver r (now (state .entry)) (now (state .exit)) (startReceiver (firstBytes sessionSize (now (session .entry))) next limit) ⌝ }
+    ensures { λ r. ⌜ r ≡ codeOf (ltb (length (now (session .entry))) sessionSize
+        || ltb (length (now (state .entry))) receiverSize) (receiverStartRefusal next limit) ⌝ }
+    ensures keeps { λ r. ⌜ KeepsReceiver r (now (state .entry)) (now (state .exit))
+        (startReceiver (firstBytes sessionSize (now (session .entry))) next limit) ⌝ }
     ensures hands_on { λ _. ⌜ HandsOn ⌝ }
 {
     let started = Receiver::new(
@@ -100,8 +114,11 @@ pub extern "C" fn eiderwagon_receiver_take(
     datagram: &[u8],
     words: &mut [u64],
 ) -> u32
-    ensures { λ r. ⌜ Answers r (now (words .entry)) (now (words .exit)) (ltb (length (now (state .entry))) receiverSize) answerNumber 4 (answerOf (receiverIn (now (state .entry))) (now (datagram .entry))) ⌝ }
-    ensures keeps { λ r. ⌜ KeepsReceiver r (now (state .entry)) (now (state .exit)) (receiverAfter (receiverIn (now (state .entry))) (now (datagram .entry))) ⌝ }
+    ensures { λ r. ⌜ Answers r (now (words .entry)) (now (words .exit))
+        (ltb (length (now (state .entry))) receiverSize) answerNumber 4
+        (answerOf (receiverIn (now (state .entry))) (now (datagram .entry))) ⌝ }
+    ensures keeps { λ r. ⌜ KeepsReceiver r (now (state .entry)) (now (state .exit))
+        (receiverAfter (receiverIn (now (state .entry))) (now (datagram .entry))) ⌝ }
     ensures tells_apart { λ _. ⌜ AnswerNumbersApart ⌝ }
 {
     let taken = host_receiver::read(state).take(datagram);
@@ -128,7 +145,8 @@ pub extern "C" fn eiderwagon_receiver_walk(
     cursor: &mut [u8],
 ) -> u32
     ensures { λ r. ⌜ r ≡ codeOf (ltb (length (now (cursor .entry))) cursorSize) 0 ⌝ }
-    ensures keeps { λ r. ⌜ KeepsCursor r (now (cursor .entry)) (now (cursor .exit)) (deliveryCursor (now (datagram .entry)) count skipped) ⌝ }
+    ensures keeps { λ r. ⌜ KeepsCursor r (now (cursor .entry)) (now (cursor .exit))
+        (deliveryCursor (now (datagram .entry)) count skipped) ⌝ }
 {
     let code = host_answers::code(cursor.len() < host_cursor::SIZE, refusal::NONE);
     let first: Cursor = delivery::start(datagram, MessageCount(count), MessageCount(skipped));

@@ -1,5 +1,5 @@
-// The SoupBinTCP session at the server for hosts in other languages. `include/eiderwagon.h` says what each function takes and
-// answers.
+// The SoupBinTCP session at the server for hosts in other languages. `include/eiderwagon.h` says what each function
+// takes and answers.
 use host_session::replies;
 use soupbintcp_server::server::Server;
 use wire::kinds::SESSION_SIZE;
@@ -21,8 +21,11 @@ ghost use Rattle.host_session.specs.Replies.{sessionAnswerNumber, stepWords, Se
 // Starts a server.
 #[no_mangle]
 pub extern "C" fn eiderwagon_server_start(session: &[u8], last: u64, state: &mut [u8]) -> u32
-    ensures { λ r. ⌜ r ≡ codeOf (ltb (length (now (session .entry))) sessionSize || ltb (length (now (state .entry))) sessionStateSize) (serverStartRefusal (firstBytes sessionSize (now (session .entry))) last) ⌝ }
-    ensures keeps { λ r. ⌜ KeepsServer r (now (state .entry)) (now (state .exit)) (startServer (firstBytes sessionSize (now (session .entry))) last) ⌝ }
+    ensures { λ r. ⌜ r ≡ codeOf (ltb (length (now (session .entry))) sessionSize
+        || ltb (length (now (state .entry))) sessionStateSize)
+        (serverStartRefusal (firstBytes sessionSize (now (session .entry))) last) ⌝ }
+    ensures keeps { λ r. ⌜ KeepsServer r (now (state .entry)) (now (state .exit))
+        (startServer (firstBytes sessionSize (now (session .entry))) last) ⌝ }
 {
     let started = Server::new(parts::ten(session), SequenceNumber(last));
     let server = started.server;
@@ -40,8 +43,13 @@ pub extern "C" fn eiderwagon_server_step(
     stream: &[u8],
     words: &mut [u64],
 ) -> u32
-    ensures { λ r. ⌜ Answers r (now (words .entry)) (now (words .exit)) (ltb (length (now (state .entry))) sessionStateSize) sessionAnswerNumber 5 (stepWords (serverStep (accountsOf (now (accounts .entry))) (serverIn (now (state .entry))) (now (stream .entry)))) ⌝ }
-    ensures keeps { λ r. ⌜ KeepsServer r (now (state .entry)) (now (state .exit)) (serverStep (accountsOf (now (accounts .entry))) (serverIn (now (state .entry))) (now (stream .entry)) .after) ⌝ }
+    ensures { λ r. ⌜ Answers r (now (words .entry)) (now (words .exit))
+        (ltb (length (now (state .entry))) sessionStateSize) sessionAnswerNumber 5
+        (stepWords (serverStep (accountsOf (now (accounts .entry))) (serverIn (now (state .entry)))
+        (now (stream .entry)))) ⌝ }
+    ensures keeps { λ r. ⌜ KeepsServer r (now (state .entry)) (now (state .exit))
+        (serverStep (accountsOf (now (accounts .entry))) (serverIn (now (state .entry)))
+        (now (stream .entry)) .after) ⌝ }
     ensures tells_apart { λ _. ⌜ SessionNumbersApart ⌝ }
 {
     let stepped = host_server::read(state).step(accounts, stream);

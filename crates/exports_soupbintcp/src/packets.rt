@@ -56,7 +56,8 @@ fn packet_words(packet: Packet, size: u64) -> [u64; PACKET_WORDS]
 
 // What the front of a stream is.
 fn front_words(front: Front) -> Said
-    ensures { λ r. ⌜ (r .refusal .number ≡ frontWords front .refusal) × (r .words ≡ wordsOf frontNumber 3 (frontWords front)) ⌝ }
+    ensures { λ r. ⌜ (r .refusal .number ≡ frontWords front .refusal)
+        × (r .words ≡ wordsOf frontNumber 3 (frontWords front)) ⌝ }
 {
     match front {
         Front::Whole { packet, size } => Said {
@@ -77,7 +78,8 @@ fn front_words(front: Front) -> Said
 // Reads the packet at the front of a stream.
 #[no_mangle]
 pub extern "C" fn eiderwagon_soup_read(stream: &[u8], sender: u8, words: &mut [u64]) -> u32
-    ensures { λ r. ⌜ Answers r (now (words .entry)) (now (words .exit)) false frontNumber 3 (frontOf (senderOf sender) (now (stream .entry))) ⌝ }
+    ensures { λ r. ⌜ Answers r (now (words .entry)) (now (words .exit)) false frontNumber 3
+        (frontOf (senderOf sender) (now (stream .entry))) ⌝ }
     ensures tells_apart { λ _. ⌜ FrontsApart ⌝ }
 {
     let said = front_words(front::read(stream, sender_of(sender)));
@@ -98,7 +100,8 @@ fn stop_number(stop: Stop) -> u64
 // Passes all good packets at the front of a stream.
 #[no_mangle]
 pub extern "C" fn eiderwagon_soup_scan(stream: &[u8], sender: u8, words: &mut [u64]) -> u32
-    ensures { λ r. ⌜ AnswersWith r (now (words .entry)) (now (words .exit)) false 0 (scanWords (scanOf (senderOf sender) (now (stream .entry)))) ⌝ }
+    ensures { λ r. ⌜ AnswersWith r (now (words .entry)) (now (words .exit)) false 0
+        (scanWords (scanOf (senderOf sender) (now (stream .entry)))) ⌝ }
 {
     let scanned = scan::scan(stream, sender_of(sender));
     let stop = scanned.stop;

@@ -16,8 +16,11 @@ ghost use lib.Dec.{ltb};
 ghost use Rattle.wire.specs.Bounds.{sessionSize};
 ghost use Rattle.wire.specs.Parts.{firstBytes};
 ghost use Rattle.text_fields.specs.Sound.{usernameSize, passwordSize};
-ghost use Rattle.soupbintcp.specs.Letters.{letterDebug, letterAccepted, letterRejected, letterSequenced, letterServerHeartbeat, letterEnd, letterLogin, letterUnsequenced, letterClientHeartbeat, letterLogout};
-ghost use Rattle.soupbintcp_writer.specs.Packets.{encoded, payloadGround, acceptedGround, acceptedPayload, reasonGround, loginGround, loginPayload};
+ghost use Rattle.soupbintcp.specs.Letters.{letterDebug, letterAccepted, letterRejected, letterSequenced};
+ghost use Rattle.soupbintcp.specs.Letters.{letterServerHeartbeat, letterEnd, letterLogin, letterUnsequenced};
+ghost use Rattle.soupbintcp.specs.Letters.{letterClientHeartbeat, letterLogout};
+ghost use Rattle.soupbintcp_writer.specs.Packets.{encoded, payloadGround, acceptedGround, acceptedPayload};
+ghost use Rattle.soupbintcp_writer.specs.Packets.{reasonGround, loginGround, loginPayload};
 ghost use Rattle.host_answers.specs.Answers.{AnswersWriting};
 
 // Debug, of either end.
@@ -27,7 +30,9 @@ pub extern "C" fn eiderwagon_soup_write_debug(
     out: &mut [u8],
     words: &mut [u64],
 ) -> u32
-    ensures { λ r. ⌜ AnswersWriting r (now (words .entry)) (now (words .exit)) (now (out .entry)) (now (out .exit)) false (payloadGround (now (payload .entry))) (encoded letterDebug (now (payload .entry))) ⌝ }
+    ensures { λ r. ⌜ AnswersWriting r (now (words .entry)) (now (words .exit)) (now (out .entry))
+        (now (out .exit)) false (payloadGround (now (payload .entry)))
+        (encoded letterDebug (now (payload .entry))) ⌝ }
 {
     if words.len() < WRITTEN_WORDS {
         return SHORT;
@@ -43,7 +48,10 @@ pub extern "C" fn eiderwagon_soup_write_accepted(
     out: &mut [u8],
     words: &mut [u64],
 ) -> u32
-    ensures { λ r. ⌜ AnswersWriting r (now (words .entry)) (now (words .exit)) (now (out .entry)) (now (out .exit)) (ltb (length (now (session .entry))) sessionSize) (acceptedGround (firstBytes sessionSize (now (session .entry))) number) (encoded letterAccepted (acceptedPayload (firstBytes sessionSize (now (session .entry))) number)) ⌝ }
+    ensures { λ r. ⌜ AnswersWriting r (now (words .entry)) (now (words .exit)) (now (out .entry))
+        (now (out .exit)) (ltb (length (now (session .entry))) sessionSize)
+        (acceptedGround (firstBytes sessionSize (now (session .entry))) number)
+        (encoded letterAccepted (acceptedPayload (firstBytes sessionSize (now (session .entry))) number)) ⌝ }
 {
     if (session.len() < SESSION_SIZE) | (words.len() < WRITTEN_WORDS) {
         return SHORT;
@@ -61,7 +69,8 @@ pub extern "C" fn eiderwagon_soup_write_rejected(
     out: &mut [u8],
     words: &mut [u64],
 ) -> u32
-    ensures { λ r. ⌜ AnswersWriting r (now (words .entry)) (now (words .exit)) (now (out .entry)) (now (out .exit)) false (reasonGround reason) (encoded letterRejected (reason ∷ [])) ⌝ }
+    ensures { λ r. ⌜ AnswersWriting r (now (words .entry)) (now (words .exit)) (now (out .entry))
+        (now (out .exit)) false (reasonGround reason) (encoded letterRejected (reason ∷ [])) ⌝ }
 {
     if words.len() < WRITTEN_WORDS {
         return SHORT;
@@ -76,7 +85,9 @@ pub extern "C" fn eiderwagon_soup_write_sequenced(
     out: &mut [u8],
     words: &mut [u64],
 ) -> u32
-    ensures { λ r. ⌜ AnswersWriting r (now (words .entry)) (now (words .exit)) (now (out .entry)) (now (out .exit)) false (payloadGround (now (payload .entry))) (encoded letterSequenced (now (payload .entry))) ⌝ }
+    ensures { λ r. ⌜ AnswersWriting r (now (words .entry)) (now (words .exit)) (now (out .entry))
+        (now (out .exit)) false (payloadGround (now (payload .entry)))
+        (encoded letterSequenced (now (payload .entry))) ⌝ }
 {
     if words.len() < WRITTEN_WORDS {
         return SHORT;
@@ -87,7 +98,8 @@ pub extern "C" fn eiderwagon_soup_write_sequenced(
 // A heartbeat of the server.
 #[no_mangle]
 pub extern "C" fn eiderwagon_soup_write_server_heartbeat(out: &mut [u8], words: &mut [u64]) -> u32
-    ensures { λ r. ⌜ AnswersWriting r (now (words .entry)) (now (words .exit)) (now (out .entry)) (now (out .exit)) false 0 (encoded letterServerHeartbeat []) ⌝ }
+    ensures { λ r. ⌜ AnswersWriting r (now (words .entry)) (now (words .exit)) (now (out .entry))
+        (now (out .exit)) false 0 (encoded letterServerHeartbeat []) ⌝ }
 {
     if words.len() < WRITTEN_WORDS {
         return SHORT;
@@ -98,7 +110,8 @@ pub extern "C" fn eiderwagon_soup_write_server_heartbeat(out: &mut [u8], words: 
 // End of session.
 #[no_mangle]
 pub extern "C" fn eiderwagon_soup_write_end(out: &mut [u8], words: &mut [u64]) -> u32
-    ensures { λ r. ⌜ AnswersWriting r (now (words .entry)) (now (words .exit)) (now (out .entry)) (now (out .exit)) false 0 (encoded letterEnd []) ⌝ }
+    ensures { λ r. ⌜ AnswersWriting r (now (words .entry)) (now (words .exit)) (now (out .entry))
+        (now (out .exit)) false 0 (encoded letterEnd []) ⌝ }
 {
     if words.len() < WRITTEN_WORDS {
         return SHORT;
@@ -116,7 +129,14 @@ pub extern "C" fn eiderwagon_soup_write_login(
     out: &mut [u8],
     words: &mut [u64],
 ) -> u32
-    ensures { λ r. ⌜ AnswersWriting r (now (words .entry)) (now (words .exit)) (now (out .entry)) (now (out .exit)) (ltb (length (now (username .entry))) usernameSize || ltb (length (now (password .entry))) passwordSize || ltb (length (now (session .entry))) sessionSize) (loginGround (firstBytes usernameSize (now (username .entry))) (firstBytes passwordSize (now (password .entry))) (firstBytes sessionSize (now (session .entry)))) (encoded letterLogin (loginPayload (firstBytes usernameSize (now (username .entry))) (firstBytes passwordSize (now (password .entry))) (firstBytes sessionSize (now (session .entry))) number)) ⌝ }
+    ensures { λ r. ⌜ AnswersWriting r (now (words .entry)) (now (words .exit)) (now (out .entry))
+        (now (out .exit)) (ltb (length (now (username .entry))) usernameSize
+        || ltb (length (now (password .entry))) passwordSize || ltb (length (now (session .entry))) sessionSize)
+        (loginGround (firstBytes usernameSize (now (username .entry)))
+        (firstBytes passwordSize (now (password .entry))) (firstBytes sessionSize (now (session .entry))))
+        (encoded letterLogin (loginPayload (firstBytes usernameSize (now (username .entry)))
+        (firstBytes passwordSize (now (password .entry))) (firstBytes sessionSize (now (session .entry)))
+        number)) ⌝ }
 {
     let short = (username.len() < USERNAME_SIZE)
         | (password.len() < PASSWORD_SIZE)
@@ -140,7 +160,9 @@ pub extern "C" fn eiderwagon_soup_write_unsequenced(
     out: &mut [u8],
     words: &mut [u64],
 ) -> u32
-    ensures { λ r. ⌜ AnswersWriting r (now (words .entry)) (now (words .exit)) (now (out .entry)) (now (out .exit)) false (payloadGround (now (payload .entry))) (encoded letterUnsequenced (now (payload .entry))) ⌝ }
+    ensures { λ r. ⌜ AnswersWriting r (now (words .entry)) (now (words .exit)) (now (out .entry))
+        (now (out .exit)) false (payloadGround (now (payload .entry)))
+        (encoded letterUnsequenced (now (payload .entry))) ⌝ }
 {
     if words.len() < WRITTEN_WORDS {
         return SHORT;
@@ -151,7 +173,8 @@ pub extern "C" fn eiderwagon_soup_write_unsequenced(
 // A heartbeat of the client.
 #[no_mangle]
 pub extern "C" fn eiderwagon_soup_write_client_heartbeat(out: &mut [u8], words: &mut [u64]) -> u32
-    ensures { λ r. ⌜ AnswersWriting r (now (words .entry)) (now (words .exit)) (now (out .entry)) (now (out .exit)) false 0 (encoded letterClientHeartbeat []) ⌝ }
+    ensures { λ r. ⌜ AnswersWriting r (now (words .entry)) (now (words .exit)) (now (out .entry))
+        (now (out .exit)) false 0 (encoded letterClientHeartbeat []) ⌝ }
 {
     if words.len() < WRITTEN_WORDS {
         return SHORT;
@@ -162,7 +185,8 @@ pub extern "C" fn eiderwagon_soup_write_client_heartbeat(out: &mut [u8], words: 
 // Logout.
 #[no_mangle]
 pub extern "C" fn eiderwagon_soup_write_logout(out: &mut [u8], words: &mut [u64]) -> u32
-    ensures { λ r. ⌜ AnswersWriting r (now (words .entry)) (now (words .exit)) (now (out .entry)) (now (out .exit)) false 0 (encoded letterLogout []) ⌝ }
+    ensures { λ r. ⌜ AnswersWriting r (now (words .entry)) (now (words .exit)) (now (out .entry))
+        (now (out .exit)) false 0 (encoded letterLogout []) ⌝ }
 {
     if words.len() < WRITTEN_WORDS {
         return SHORT;

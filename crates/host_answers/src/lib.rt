@@ -1,7 +1,8 @@
-// What every exported function answers with: a code, 0 or the number of a refusal, and values laid into lent words on success
-// alone; and what the states that a host keeps share.
+// What every exported function answers with: a code, 0 or the number of a refusal, and values laid into lent words on
+// success alone; and what the states that a host keeps share.
 //
-// A state is bytes of a fixed layout. Any bytes are one, and it is laid on success alone: the code of the call that made it is given with it.
+// A state is bytes of a fixed layout. Any bytes are one, and it is laid on success alone: the code of the call that
+// made it is given with it.
 use wire::output::Written;
 use wire::refusal;
 use wire::refusal::Refusal;
@@ -57,7 +58,8 @@ fn lay(words: &mut [u64], values: &[u64])
 
 // Answers a refusal, or values.
 pub fn answer(words: &mut [u64], lacks: bool, refused: Refusal, values: &[u64]) -> u32
-    ensures { λ r. ⌜ AnswersWith r (now (words .entry)) (now (words .exit)) lacks (refused .number) (now (values .entry)) ⌝ }
+    ensures { λ r. ⌜ AnswersWith r (now (words .entry)) (now (words .exit)) lacks (refused .number)
+        (now (values .entry)) ⌝ }
 {
     let short = lacks | (words.len() < values.len());
     let number = code(short, refused);
@@ -69,7 +71,8 @@ pub fn answer(words: &mut [u64], lacks: bool, refused: Refusal, values: &[u64]) 
 
 // Answers what a writer answered: how many bytes it wrote, or its refusal.
 pub fn answer_written(words: &mut [u64], written: Written) -> u32
-    ensures { λ r. ⌜ AnswersWith r (now (words .entry)) (now (words .exit)) false (writtenWords written .refusal) (padded 1 (writtenWords written .values)) ⌝ }
+    ensures { λ r. ⌜ AnswersWith r (now (words .entry)) (now (words .exit)) false
+        (writtenWords written .refusal) (padded 1 (writtenWords written .values)) ⌝ }
     ensures promises { λ _. ⌜ HostPromises ⌝ }
 {
     match written {

@@ -18,7 +18,8 @@ ghost use Rattle.capture_records.specs.Records.{mostRecords};
 ghost use Rattle.capture_tally.specs.Tally.{tally};
 ghost use Rattle.host_answers.specs.Answers.{codeOf};
 ghost use Rattle.host_answers.specs.States.{StatePromises};
-ghost use Rattle.host_capture.specs.Reading.{readingSize, deliveredAt, stageOf, stageByte, tallyBytes, tallyIn, readingBytes, readingIn, KeepsReading, RestLaid, RestKept};
+ghost use Rattle.host_capture.specs.Reading.{readingSize, deliveredAt, stageOf, stageByte, tallyBytes, tallyIn};
+ghost use Rattle.host_capture.specs.Reading.{readingBytes, readingIn, KeepsReading, RestLaid, RestKept};
 
 // Bytes of a count.
 const COUNT: usize = 8;
@@ -41,14 +42,23 @@ const REFUSED_AT: ByteOffset = ByteOffset(host_receiver::SIZE + 1 + 5 * COUNT);
 // Bytes of a reading.
 pub const SIZE: usize = host_receiver::SIZE + 1 + 6 * COUNT;
 
-// 1 means that settings come next, 2 that records do, 3 that it is done, and every other byte that its settings are refused.
+// The stages by number: settings come next, records do, it is done, or its settings are refused.
+const SETTINGS: u8 = 1;
+
+const RECORDS: u8 = 2;
+
+const DONE: u8 = 3;
+
+const REFUSED: u8 = 0;
+
+// A byte that is no other stage's number is refused.
 fn stage_of(byte: u8) -> Stage
     ensures { λ r. ⌜ r ≡ stageOf byte ⌝ }
 {
     match byte {
-        1 => Stage::Settings,
-        2 => Stage::Records,
-        3 => Stage::Done,
+        SETTINGS => Stage::Settings,
+        RECORDS => Stage::Records,
+        DONE => Stage::Done,
         _ => Stage::Refused,
     }
 }
@@ -57,10 +67,10 @@ fn stage_byte(stage: Stage) -> u8
     ensures { λ r. ⌜ r ≡ stageByte stage ⌝ }
 {
     match stage {
-        Stage::Settings => 1,
-        Stage::Records => 2,
-        Stage::Done => 3,
-        Stage::Refused => 0,
+        Stage::Settings => SETTINGS,
+        Stage::Records => RECORDS,
+        Stage::Done => DONE,
+        Stage::Refused => REFUSED,
     }
 }
 
@@ -111,7 +121,8 @@ fn put_count(state: &mut [u8], at: ByteOffset, count: u64)
 // Lays the five counts, where there is room for them.
 fn put_tally(state: &mut [u8], delivered: u64, old: u64, quiet: u64, asked: u64, refused: u64)
     requires { ⌜ readingSize ≤ length (now state) ⌝ }
-    ensures { λ _. ⌜ now (state .exit) ≡ put (now (state .entry)) deliveredAt (tallyBytes (tally delivered old quiet asked refused)) ⌝ }
+    ensures { λ _. ⌜ now (state .exit) ≡ put (now (state .entry)) deliveredAt
+        (tallyBytes (tally delivered old quiet asked refused)) ⌝ }
 {
     put_count(state, DELIVERED_AT, delivered);
     put_count(state, OLD_AT, old);
@@ -132,7 +143,8 @@ fn put_rest(
     refused: u64,
 )
     requires { ⌜ readingSize ≤ length (now state) ⌝ }
-    ensures { λ _. ⌜ RestLaid (now (state .entry)) (now (state .exit)) stage records (tally delivered old quiet asked refused) ⌝ }
+    ensures { λ _. ⌜ RestLaid (now (state .entry)) (now (state .exit)) stage records
+        (tally delivered old quiet asked refused) ⌝ }
 {
     output::put_bytes(state, STAGE_AT, &[stage]);
     put_count(state, RECORDS_AT, records as u64);

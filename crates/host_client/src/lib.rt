@@ -12,14 +12,23 @@ ghost use Rattle.host_client.specs.Client.{clientStateOf, clientStateByt
 // Bytes of a client.
 pub const SIZE: usize = host_session::SIZE;
 
-// 1 is asked, 2 is in, 3 is ended, and every other byte closed.
+// The states by number.
+const ASKED: u8 = 1;
+
+const IN: u8 = 2;
+
+const ENDED: u8 = 3;
+
+const CLOSED: u8 = 0;
+
+// A byte that is no other state's number is closed.
 fn state_of(byte: u8) -> ClientState
     ensures { λ r. ⌜ r ≡ clientStateOf byte ⌝ }
 {
     match byte {
-        1 => ClientState::Asked,
-        2 => ClientState::In,
-        3 => ClientState::Ended,
+        ASKED => ClientState::Asked,
+        IN => ClientState::In,
+        ENDED => ClientState::Ended,
         _ => ClientState::Closed,
     }
 }
@@ -28,10 +37,10 @@ fn state_byte(state: ClientState) -> u8
     ensures { λ r. ⌜ r ≡ clientStateByte state ⌝ }
 {
     match state {
-        ClientState::Asked => 1,
-        ClientState::In => 2,
-        ClientState::Ended => 3,
-        ClientState::Closed => 0,
+        ClientState::Asked => ASKED,
+        ClientState::In => IN,
+        ClientState::Ended => ENDED,
+        ClientState::Closed => CLOSED,
     }
 }
 

@@ -43,7 +43,8 @@ pub fn read(state: &[u8]) -> Receiver
 // Lays the four fields of a receiver where there is room for them.
 fn put_fields(state: &mut [u8], session: [u8; SESSION_SIZE], next: u64, limit: u16, ended: bool)
     requires { ⌜ receiverSize ≤ length (now state) ⌝ }
-    ensures { λ _. ⌜ Lays (now (state .entry)) (now (state .exit)) receiverIn (receiverBytes (receiver session next limit ended)) (receiver session next limit ended) ⌝ }
+    ensures { λ _. ⌜ Lays (now (state .entry)) (now (state .exit)) receiverIn
+        (receiverBytes (receiver session next limit ended)) (receiver session next limit ended) ⌝ }
 {
     output::put_bytes(state, NAME_AT, &session);
     output::put64(state, NUMBER_AT, next);

@@ -12,13 +12,20 @@ ghost use Rattle.host_server.specs.Server.{serverStateOf, serverStateByt
 // Bytes of a server.
 pub const SIZE: usize = host_session::SIZE;
 
-// 1 is waiting, 2 is in, and every other byte closed.
+// The states by number.
+const WAITING: u8 = 1;
+
+const IN: u8 = 2;
+
+const CLOSED: u8 = 0;
+
+// A byte that is no other state's number is closed.
 fn state_of(byte: u8) -> ServerState
     ensures { λ r. ⌜ r ≡ serverStateOf byte ⌝ }
 {
     match byte {
-        1 => ServerState::Waiting,
-        2 => ServerState::In,
+        WAITING => ServerState::Waiting,
+        IN => ServerState::In,
         _ => ServerState::Closed,
     }
 }
@@ -27,9 +34,9 @@ fn state_byte(state: ServerState) -> u8
     ensures { λ r. ⌜ r ≡ serverStateByte state ⌝ }
 {
     match state {
-        ServerState::Waiting => 1,
-        ServerState::In => 2,
-        ServerState::Closed => 0,
+        ServerState::Waiting => WAITING,
+        ServerState::In => IN,
+        ServerState::Closed => CLOSED,
     }
 }
 

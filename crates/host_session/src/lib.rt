@@ -23,7 +23,8 @@ pub const SIZE: usize = SESSION_SIZE + NUMBER_SIZE + 1;
 // Lays the three fields where there is room for them.
 fn put_fields(state: &mut [u8], name: [u8; SESSION_SIZE], number: u64, phase: u8)
     requires { ⌜ sessionStateSize ≤ length (now state) ⌝ }
-    ensures { λ _. ⌜ Lays (now (state .entry)) (now (state .exit)) sessionStateIn (sessionStateBytes (sessionFields name number phase)) (sessionFields name number phase) ⌝ }
+    ensures { λ _. ⌜ Lays (now (state .entry)) (now (state .exit)) sessionStateIn
+        (sessionStateBytes (sessionFields name number phase)) (sessionFields name number phase) ⌝ }
 {
     output::put_bytes(state, NAME_AT, &name);
     output::put64(state, NUMBER_AT, number);
@@ -32,7 +33,8 @@ fn put_fields(state: &mut [u8], name: [u8; SESSION_SIZE], number: u64, phase: u8
 
 // Lays the three fields, where the code is 0.
 pub fn lay(state: &mut [u8], code: u32, name: [u8; SESSION_SIZE], number: u64, phase: u8)
-    ensures { λ _. ⌜ Keeps code (now (state .entry)) (now (state .exit)) sessionStateSize sessionStateIn (sessionStateBytes (sessionFields name number phase)) (sessionFields name number phase) ⌝ }
+    ensures { λ _. ⌜ Keeps code (now (state .entry)) (now (state .exit)) sessionStateSize sessionStateIn
+        (sessionStateBytes (sessionFields name number phase)) (sessionFields name number phase) ⌝ }
 {
     if code != 0 {
         return;

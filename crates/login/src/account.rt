@@ -4,7 +4,8 @@ use text_fields::sound;
 use text_fields::sound::PASSWORD_SIZE;
 use text_fields::sound::USERNAME_SIZE;
 ghost use mathlib.Core.Path.{_≡_};
-ghost use Rattle.login.specs.Account.{sameText, soundAccount, isOf, hasPassword, verdictWords, verdictOf, VerdictsApart};
+ghost use Rattle.login.specs.Account.{sameText, soundAccount, isOf, hasPassword, verdictWords, verdictOf};
+ghost use Rattle.login.specs.Account.{VerdictsApart};
 
 pub struct Account {
     pub username: [u8; USERNAME_SIZE],
@@ -23,7 +24,8 @@ pub enum Verdict {
     TooMany,
 }
 
-// Whether two fields have the same text. Every byte is compared, so that neither a zero, a space nor a difference ends it early.
+// Whether two fields have the same text. Every byte is compared, so that neither a zero, a space nor a difference
+// ends it early.
 fn is_same(a: &[u8], b: &[u8]) -> bool
     ensures { λ r. ⌜ r ≡ sameText (now (a .entry)) (now (b .entry)) ⌝ }
 {

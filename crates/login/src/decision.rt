@@ -1,5 +1,5 @@
-// The decision on a login, from what the table says of its entry, the session and number that it asks for, and the server's session
-// and last number.
+// The decision on a login, from what the table says of its entry, the session and number that it asks for, and the
+// server's session and last number.
 use crate::account::Verdict;
 use soupbintcp::packet;
 use wire::compare;
@@ -65,7 +65,8 @@ pub fn decide(
     session: [u8; SESSION_SIZE],
     last: SequenceNumber,
 ) -> Decision
-    ensures { λ r. ⌜ decisionWords r ≡ decisionOf (verdictWords verdict) (now (asked .entry)) (wanted .0) session (last .0) ⌝ }
+    ensures { λ r. ⌜ decisionWords r ≡ decisionOf (verdictWords verdict) (now (asked .entry)) (wanted .0)
+        session (last .0) ⌝ }
     ensures promises { λ _. ⌜ LoginPromises ⌝ }
 {
     match verdict {

@@ -12,7 +12,8 @@ use wire::refusal::Refusal;
 ghost use mathlib.Core.Path.{_≡_};
 ghost use Rattle.wire.specs.Words.{Injective};
 ghost use Rattle.wire.specs.Bytes.{sameBytes};
-ghost use Rattle.moldudp64.specs.Downstream.{blockCount, refusalOf, downstreamWords, downstreamOf, downstreamSession};
+ghost use Rattle.moldudp64.specs.Downstream.{blockCount, refusalOf, downstreamWords, downstreamOf};
+ghost use Rattle.moldudp64.specs.Downstream.{downstreamSession};
 
 // What a datagram says.
 pub enum Downstream {
@@ -87,7 +88,7 @@ pub fn read(datagram: &[u8]) -> Downstream
     }
     Downstream::Data {
         first: number,
-        count: count,
+        count,
     }
 }
 

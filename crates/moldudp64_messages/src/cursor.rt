@@ -8,7 +8,8 @@ use wire::kinds::ByteOffset;
 use wire::kinds::LENGTH_SIZE;
 use wire::kinds::MessageCount;
 ghost use mathlib.Core.Path.{_≡_};
-ghost use Rattle.moldudp64_messages.specs.Cursor.{located, advanced, advancedBy, firstOf, startOf, nowhere, part, WalksTheMessages, PartIsMessage, CountIsMessages};
+ghost use Rattle.moldudp64_messages.specs.Cursor.{located, advanced, advancedBy, firstOf, startOf, nowhere};
+ghost use Rattle.moldudp64_messages.specs.Cursor.{part, WalksTheMessages, PartIsMessage, CountIsMessages};
 
 // Whether a message is there, with the offset of its first data byte in the datagram and its length. Where none is,
 // both numbers are 0.

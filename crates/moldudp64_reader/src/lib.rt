@@ -1,5 +1,5 @@
-// A reader that keeps hold of a lent datagram and of its place there, for display code. Each function takes it apart and calls the
-// cursor's walk.
+// A reader that keeps hold of a lent datagram and of its place there, for display code. Each function takes it apart
+// and calls the cursor's walk.
 use moldudp64_messages::cursor::Cursor;
 use moldudp64_messages::cursor::Located;
 use receiver::delivery;
@@ -23,7 +23,9 @@ pub struct Shown {
 
 // A reader at the first message of a datagram.
 pub fn open<'a>(datagram: &'a [u8]) -> Reader<'a>
-    ensures { λ r. ⌜ (r .datagram ≡ datagram .entry) × (r .cursor ≡ startOf (now (datagram .entry))) × ReadsTheMessages ⌝ }
+    ensures { λ r. ⌜ (r .datagram ≡ datagram .entry)
+        × (r .cursor ≡ startOf (now (datagram .entry)))
+        × ReadsTheMessages ⌝ }
 {
     let cursor = Cursor::start(datagram);
     Reader { cursor, datagram }
@@ -31,7 +33,10 @@ pub fn open<'a>(datagram: &'a [u8]) -> Reader<'a>
 
 // A reader at the first message that a deliver answer doesn't skip: count and skipped are the answer's.
 pub fn deliver<'a>(datagram: &'a [u8], count: MessageCount, skipped: MessageCount) -> Reader<'a>
-    ensures { λ r. ⌜ (r .datagram ≡ datagram .entry) × (r .cursor ≡ deliveryCursor (now (datagram .entry)) (count .0) (skipped .0)) × DeliveryVisits × ReadsTheDelivery ⌝ }
+    ensures { λ r. ⌜ (r .datagram ≡ datagram .entry)
+        × (r .cursor ≡ deliveryCursor (now (datagram .entry)) (count .0) (skipped .0))
+        × DeliveryVisits
+        × ReadsTheDelivery ⌝ }
 {
     let cursor = delivery::start(datagram, count, skipped);
     Reader { cursor, datagram }
@@ -46,7 +51,8 @@ pub fn locate<'a>(reader: Reader<'a>) -> Located
 
 // The message as a part of the datagram; empty where none is there.
 pub fn message<'a>(reader: Reader<'a>) -> &'a [u8]
-    ensures { λ r. ⌜ now r ≡ part (now (reader .entry .datagram)) (located (now (reader .entry .datagram)) (reader .entry .cursor)) ⌝ }
+    ensures { λ r. ⌜ now r ≡ part (now (reader .entry .datagram))
+        (located (now (reader .entry .datagram)) (reader .entry .cursor)) ⌝ }
 {
     reader.cursor.message(reader.datagram)
 }
@@ -60,7 +66,8 @@ pub fn left<'a>(reader: Reader<'a>) -> MessageCount
 
 // The reader at the next message. It stays where none is there.
 pub fn next<'a>(reader: Reader<'a>) -> Reader<'a>
-    ensures { λ r. ⌜ (r .datagram ≡ reader .entry .datagram) × (r .cursor ≡ advanced (now (reader .entry .datagram)) (reader .entry .cursor)) ⌝ }
+    ensures { λ r. ⌜ (r .datagram ≡ reader .entry .datagram)
+        × (r .cursor ≡ advanced (now (reader .entry .datagram)) (reader .entry .cursor)) ⌝ }
 {
     let cursor = reader.cursor.next(reader.datagram);
     let datagram = reader.datagram;

@@ -75,8 +75,10 @@ fn ground(first: SequenceNumber, lengths: &[u16], joined: &[u8]) -> Refusal
 
 // Writes the blocks after the header: each turn takes what is left of the data after a message.
 fn put_blocks(out: &mut [u8], lengths: &[u16], joined: &[u8])
-    requires { ⌜ (total (now lengths) ≡ length (now joined)) × (headerSize + length (blocksOf (cut (now lengths) (now joined))) ≤ length (now out)) ⌝ }
-    ensures { λ _. ⌜ now (out .exit) ≡ put (now (out .entry)) headerSize (blocksOf (cut (now (lengths .entry)) (now (joined .entry)))) ⌝ }
+    requires { ⌜ (total (now lengths) ≡ length (now joined))
+        × (headerSize + length (blocksOf (cut (now lengths) (now joined))) ≤ length (now out)) ⌝ }
+    ensures { λ _. ⌜ now (out .exit) ≡ put (now (out .entry)) headerSize
+        (blocksOf (cut (now (lengths .entry)) (now (joined .entry)))) ⌝ }
 {
     let mut rest = joined;
     let mut at = SIZE;
@@ -101,7 +103,9 @@ pub fn write_messages(
     lengths: &[u16],
     joined: &[u8],
 ) -> Written
-    ensures { λ r. ⌜ Writes r (now (out .entry)) (now (out .exit)) (packetGround (first .0) (now (lengths .entry)) (now (joined .entry))) 0 (encodedCut session (first .0) (now (lengths .entry)) (now (joined .entry))) ⌝ }
+    ensures { λ r. ⌜ Writes r (now (out .entry)) (now (out .exit))
+        (packetGround (first .0) (now (lengths .entry)) (now (joined .entry))) 0
+        (encodedCut session (first .0) (now (lengths .entry)) (now (joined .entry))) ⌝ }
     ensures round_trip { λ _. ⌜ PacketRoundTrip ⌝ }
 {
     let refused = ground(first, lengths, joined);
@@ -115,7 +119,7 @@ pub fn write_messages(
     }
     header::put_header(out, session, first, MessageCount(count as u16));
     put_blocks(out, lengths, joined);
-    Written::Wrote { size: size }
+    Written::Wrote { size }
 }
 
 // Writes an end of session.
@@ -124,7 +128,8 @@ pub fn write_end_of_session(
     session: [u8; SESSION_SIZE],
     next: SequenceNumber,
 ) -> Written
-    ensures { λ r. ⌜ Writes r (now (out .entry)) (now (out .exit)) (endGround (next .0)) 0 (encodedEnd session (next .0)) ⌝ }
+    ensures { λ r. ⌜ Writes r (now (out .entry)) (now (out .exit)) (endGround (next .0)) 0
+        (encodedEnd session (next .0)) ⌝ }
     ensures round_trip { λ _. ⌜ EndRoundTrip ⌝ }
 {
     if next.0 == 0 {

@@ -19,7 +19,8 @@ pub fn write(
     first: SequenceNumber,
     count: MessageCount,
 ) -> Written
-    ensures { λ r. ⌜ Writes r (now (out .entry)) (now (out .exit)) (requestGround (first .0) (count .0)) 0 (header session (first .0) (count .0)) ⌝ }
+    ensures { λ r. ⌜ Writes r (now (out .entry)) (now (out .exit)) (requestGround (first .0) (count .0)) 0
+        (header session (first .0) (count .0)) ⌝ }
     ensures round_trip { λ _. ⌜ RequestRoundTrip ⌝ }
 {
     let refused = request::ground(first, count);

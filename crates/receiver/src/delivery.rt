@@ -7,8 +7,8 @@ ghost use Rattle.receiver.specs.Delivery.{deliveryCursor, DeliveryVisits
 // The largest count of 16 bits.
 const LARGEST_COUNT: u16 = 65535;
 
-// The cursor at the first message that a deliver answer delivers: count and skipped are the answer's, and the datagram is the
-// one that was taken.
+// The cursor at the first message that a deliver answer delivers: count and skipped are the answer's, and the
+// datagram is the one that was taken.
 pub fn start(datagram: &[u8], count: MessageCount, skipped: MessageCount) -> Cursor
     ensures { λ r. ⌜ r ≡ deliveryCursor (now (datagram .entry)) (count .0) (skipped .0) ⌝ }
     ensures visits { λ _. ⌜ DeliveryVisits ⌝ }

@@ -18,7 +18,9 @@ ghost use lib.ListN.{getD};
 ghost use Rattle.text_fields.specs.Number.{numberWords};
 ghost use Rattle.soupbintcp.specs.Letters.{plainOf, packetKind, packetValues};
 ghost use Rattle.soupbintcp.specs.Head.{headSize, letterOf};
-ghost use Rattle.soupbintcp.specs.Fields.{hasFields, sessionAt, sessionBytes, numberBytes, blankAllowed, leastNumberOf, numberedOf, withNumber, reasonFields, fieldsWords, fieldsAt};
+ghost use Rattle.soupbintcp.specs.Fields.{hasFields, sessionAt, sessionBytes, numberBytes, blankAllowed};
+ghost use Rattle.soupbintcp.specs.Fields.{leastNumberOf, numberedOf, withNumber, reasonFields, fieldsWords};
+ghost use Rattle.soupbintcp.specs.Fields.{fieldsAt};
 
 // What the fields make: a packet, or one of them is bad.
 pub enum Fields {
@@ -109,9 +111,9 @@ fn numbered(letter: u8, number: SequenceNumber) -> Packet
     ensures { λ r. ⌜ (packetKind r ≡ numberedOf letter) × (packetValues r ≡ number .0 ∷ []) ⌝ }
 {
     if letter == b'A' {
-        return Packet::Accepted { number: number };
+        return Packet::Accepted { number };
     }
-    Packet::Login { number: number }
+    Packet::Login { number }
 }
 
 // A and L: the session is good, and so is the number.
@@ -137,13 +139,14 @@ fn with_reason(reason: u8) -> Fields
         return Fields::Bad;
     }
     Fields::Good {
-        packet: Packet::Rejected { reason: reason },
+        packet: Packet::Rejected { reason },
     }
 }
 
 // What the fields of a packet that is there whole make, where its session and number were looked at.
 pub(crate) fn packet(stream: &[u8], letter: u8, good: bool, number: Number) -> Fields
-    ensures { λ r. ⌜ fieldsWords r ≡ fieldsAt letter (getD (now (stream .entry)) headSize 0) good (numberWords number) ⌝ }
+    ensures { λ r. ⌜ fieldsWords r ≡ fieldsAt letter (getD (now (stream .entry)) headSize 0) good
+        (numberWords number) ⌝ }
 {
     if has_fields(letter) {
         return with_number(letter, good, number);

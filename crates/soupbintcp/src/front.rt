@@ -17,7 +17,8 @@ use wire::refusal;
 use wire::refusal::Refusal;
 ghost use mathlib.Core.Path.{_≡_};
 ghost use Rattle.soupbintcp.specs.Fields.{fieldsWords, fieldsOf};
-ghost use Rattle.soupbintcp.specs.Front.{frontWords, frontOf, FrontPromises, packetBytes, loginPart, payloadOf, sessionOf, usernameOf, passwordOf};
+ghost use Rattle.soupbintcp.specs.Front.{frontWords, frontOf, FrontPromises, packetBytes, loginPart, payloadOf};
+ghost use Rattle.soupbintcp.specs.Front.{sessionOf, usernameOf, passwordOf};
 
 // What stands at the front of a stream.
 pub enum Front {
@@ -51,10 +52,7 @@ pub fn read(stream: &[u8], sender: Sender) -> Front
         Head::Whole { size } => size,
     };
     match read_fields(stream) {
-        Fields::Good { packet } => Front::Whole {
-            packet: packet,
-            size: size,
-        },
+        Fields::Good { packet } => Front::Whole { packet, size },
         Fields::Bad => Front::Refused(refusal::FIELD_BAD),
     }
 }

@@ -47,5 +47,5 @@ pub(crate) fn read(stream: &[u8], sender: Sender) -> Head
     if stream.len() < size {
         return Head::NeedMore;
     }
-    Head::Whole { size: size }
+    Head::Whole { size }
 }

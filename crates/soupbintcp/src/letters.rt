@@ -20,10 +20,10 @@ fn line(server: bool, client: bool, least: usize, most: usize) -> Row
     ensures { λ r. ⌜ r ≡ row server client least most ⌝ }
 {
     Row {
-        server: server,
-        client: client,
-        least: least,
-        most: most,
+        server,
+        client,
+        least,
+        most,
     }
 }
 

@@ -1,4 +1,5 @@
-// SoupBinTCP logical packets, read: the front of a stream, the parts of the packet there, and the scan over several packets.
+// SoupBinTCP logical packets, read: the front of a stream, the parts of the packet there, and the scan over several
+// packets.
 mod fields;
 pub mod front;
 mod head;

@@ -69,8 +69,8 @@ pub fn scan(stream: &[u8], sender: Sender) -> Scanned
         packets += 1;
     };
     Scanned {
-        packets: packets,
-        bytes: bytes,
-        stop: stop,
+        packets,
+        bytes,
+        stop,
     }
 }

@@ -18,7 +18,7 @@ use Rattle.soupbintcp.specs.Front as front
 use Rattle.soupbintcp.proofs.LetterLaws.{choice}
 use Rattle.soupbintcp.proofs.KindLaws.{its-letter}
 use Rattle.soupbintcp.proofs.ScanLaws.{FrontIs, stops-short, stops-at, passes, front-is}
-use Rattle.soupbintcp_session.specs.Answer.{SessionAnswerKind, wants-more, accepted, rejected, sequenced, heartbeat, debug, end-of-session, answerMessageAt, StepOutcome, stays, takes}
+use Rattle.soupbintcp_session.specs.Answer.{incoming, SessionAnswerKind, wants-more, accepted, rejected, sequenced, heartbeat, debug, end-of-session, answerMessageAt, StepOutcome, stays, takes}
 use Rattle.soupbintcp_session.proofs.FrontCases.{apart, InFront, front-stays, session-stays, Plain, a-rejection, a-heartbeat, a-debug, an-end, plain-takes, accepted-takes, sequenced-takes, plain-not-sequenced}
 use Rattle.soupbintcp_session.proofs.StepLaws.{Rests, waits, refusing, Does}
 use Rattle.soupbintcp_session.proofs.StepLaws as does
@@ -26,7 +26,7 @@ use Rattle.soupbintcp_session.proofs.RunLaws.{Steady}
 use Rattle.soupbintcp_client.specs.declared.client.ClientState.{ClientState}
 use Rattle.soupbintcp_client.specs.declared.client.ClientState.the-variants.{Asked, In, Ended, Closed}
 use Rattle.soupbintcp_client.specs.declared.client.Client.{Client}
-use Rattle.soupbintcp_client.specs.Client.{client, becomes, sessionAsked, numberAsked, acceptedRow, sequencedRow, askedRow, inRow, rowAt, clientRow, frontRow, clientStep}
+use Rattle.soupbintcp_client.specs.Client.{client, becomes, sessionAsked, numberAsked, acceptedRow, sequencedRow, askedRow, inRow, rowAt, clientRow, frontRowAt, clientStep}
 
 pub data ClientDoes (c : Client) (l : List ℕ) (o : StepOutcome Client) : Type 0 where
   rests : (w : Words SessionAnswerKind) → Rests w → o ≡ stays c w → ClientDoes c l o
@@ -65,7 +65,7 @@ module _ (c : Client) (l : List ℕ) (k : ℕ) (vs : List ℕ) (i : InFront Serv
       (λ e. choice D (numberAsked (c .number .0) (getD vs 0 0)) (λ f. logs-in k vs (firstBytes sessionSize (sessionOf Server l)) i a q e f refl) (λ f. refuses-it _))
       (λ e. refuses-it _)
 
-  asked-does : c .state ≡ Asked → D (askedRow c k (letterOf l) vs (sessionOf Server l))
+  asked-does : c .state ≡ Asked → D (askedRow c (incoming k (letterOf l) vs (sessionOf Server l)))
   unfolding askedRow
   asked-does q =
       choice D (eqb (letterOf l) 65) (λ e. accepted-does (eqb-true _ _ e) q) (λ e.
@@ -91,7 +91,7 @@ module _ (c : Client) (l : List ℕ) (k : ℕ) (vs : List ℕ) (i : InFront Serv
       (λ h. goes-by k vs (says end-of-session []) Ended i (apart (eqb-true _ _ h) refl) (eqb-false _ _ e) an-end (λ n. ended-apart) refl)
       (λ h. refuses-it _))))
 
-  row-does : (t : ClientState) → c .state ≡ t → D (rowAt t c k (letterOf l) vs (sessionOf Server l))
+  row-does : (t : ClientState) → c .state ≡ t → D (rowAt t c (incoming k (letterOf l) vs (sessionOf Server l)))
   unfolding rowAt
   row-does Asked q = asked-does q
   row-does In q = in-does q
@@ -102,16 +102,16 @@ module _ (c : Client) (l : List ℕ) (k : ℕ) (vs : List ℕ) (i : InFront Serv
 
 module _ (c : Client) (l : List ℕ) where
   short-rests : frontOf Server l ≡ says front.wants-more [] → clientStep c l ≡ stays c (says wants-more [])
-  unfolding clientStep frontRow
+  unfolding clientStep frontRowAt
   short-rests e = rw e refl
 
   fault-rests : (r : ℕ) → frontOf Server l ≡ refuses r → clientStep c l ≡ stays c (refuses r)
-  unfolding clientStep frontRow
+  unfolding clientStep frontRowAt
   fault-rests r e = rw e refl
 
   pub packet-row : (p : PacketKind) (k : ℕ) (vs : List ℕ) → frontOf Server l ≡ says (packet p) (k ∷ vs)
-      → clientStep c l ≡ clientRow c k (letterFor p) vs (sessionOf Server l)
-  unfolding clientStep frontRow
+      → clientStep c l ≡ clientRow c (incoming k (letterFor p) vs (sessionOf Server l))
+  unfolding clientStep frontRowAt
   packet-row p k vs e = rw e refl
 
   pub client-does : ClientDoes c l (clientStep c l)

@@ -23,13 +23,13 @@ use Rattle.soupbintcp.specs.Front.{frontWords, frontOf, sessionOf}
 use Rattle.soupbintcp.proofs.packet.Packet.{the-type}
 use Rattle.soupbintcp_session.specs.declared.answer.Answer.{Answer}
 use Rattle.soupbintcp_session.specs.declared.answer.Answer.the-variants.{NeedMore, Accepted, Rejected, Sequenced, Heartbeat, Debug, EndOfSession, Refused}
-use Rattle.soupbintcp_session.specs.Answer.{sessionAnswerWords}
+use Rattle.soupbintcp_session.specs.Answer.{incoming, sessionAnswerWords}
 use Rattle.soupbintcp_session.proofs.TagLaws.{tagFor, other-letter}
 use Rattle.soupbintcp_client.specs.declared.client.ClientState.{ClientState}
 use Rattle.soupbintcp_client.specs.declared.client.ClientState.the-variants.{Asked, In, Ended, Closed}
 use Rattle.soupbintcp_client.specs.declared.client.Client.{Client}
 use Rattle.soupbintcp_client.specs.declared.client.Stepped.{Stepped}
-use Rattle.soupbintcp_client.specs.Client.{client, becomes, clientStartRefusal, refusedClient, startClient, sessionAsked, numberAsked, acceptedRow, sequencedRow, askedRow, inRow, rowAt, frontRow, clientStep, ClientSteps}
+use Rattle.soupbintcp_client.specs.Client.{client, becomes, clientStartRefusal, refusedClient, startClient, sessionAsked, numberAsked, acceptedRow, sequencedRow, askedRow, inRow, rowAt, frontRowAt, clientStep, ClientSteps}
 
 -- what the code answers: a refusal, or a packet that is taken
 abbrev refuses-with : Client → ℕ → Stepped
@@ -115,17 +115,17 @@ module _ (c : Client) (size : ℕ) (given : List ℕ) (t : Bool) where
 
 module _ (c : Client) (p : Packet) (size : ℕ) (given : List ℕ) (r : Stepped) where
   pub asked-A : (n : SequenceNumber) (y : List ℕ) → p ≡ packet.Accepted n → y ≡ given → ClientSteps r (acceptedRow c size y (n .0))
-      → ClientSteps r (askedRow c size (letterFor (packetKind p)) (packetValues p) given)
+      → ClientSteps r (askedRow c (incoming size (letterFor (packetKind p)) (packetValues p) given))
   unfolding askedRow letterFor packetKind packetValues
   asked-A n y e f g = rw (e, ← f) g
 
   pub asked-J : (reason : ℕ) → p ≡ packet.Rejected reason → r ≡ goes-to (Rejected reason) size (becomes c Closed)
-      → ClientSteps r (askedRow c size (letterFor (packetKind p)) (packetValues p) given)
+      → ClientSteps r (askedRow c (incoming size (letterFor (packetKind p)) (packetValues p) given))
   unfolding askedRow letterFor packetKind packetValues sessionAnswerWords
   asked-J reason e f = rw (e, f) (exactly _)
 
   pub asked-plus : p ≡ packet.Debug → r ≡ goes-to Debug size (becomes c Asked)
-      → ClientSteps r (askedRow c size (letterFor (packetKind p)) (packetValues p) given)
+      → ClientSteps r (askedRow c (incoming size (letterFor (packetKind p)) (packetValues p) given))
   unfolding askedRow letterFor packetKind packetValues sessionAnswerWords
   asked-plus e f = rw (e, f) (exactly _)
 
@@ -133,7 +133,7 @@ abbrev not-asked : List ℕ
 not-asked = 3 ∷ 4 ∷ 5 ∷ 6 ∷ 7 ∷ 8 ∷ 9 ∷ []
 
 pub asked-other : (c : Client) (p : Packet) (size : ℕ) (given : List ℕ) (r : Stepped) → OneOf not-asked (tagOf the-type p) → r ≡ refuses-with c 31
-    → ClientSteps r (askedRow c size (letterFor (packetKind p)) (packetValues p) given)
+    → ClientSteps r (askedRow c (incoming size (letterFor (packetKind p)) (packetValues p) given))
 unfolding askedRow letterFor tagFor sessionAnswerWords
 asked-other c p size given r k e =
     rw (other-letter not-asked accepted p tt k, other-letter not-asked rejected p tt k, other-letter not-asked debug p tt k, e) (exactly _)
@@ -180,19 +180,19 @@ in-other c p size r k e =
 -- ---- the row of a state s: k is the packet's letter, vs its values
 
 module _ (s : ClientState) (c : Client) (size k : ℕ) (vs given : List ℕ) (r : Stepped) where
-  pub row-asked : s ≡ Asked → ClientSteps r (askedRow c size k vs given) → ClientSteps r (rowAt s c size k vs given)
+  pub row-asked : s ≡ Asked → ClientSteps r (askedRow c (incoming size k vs given)) → ClientSteps r (rowAt s c (incoming size k vs given))
   unfolding rowAt
   row-asked e f = rw e f
 
-  pub row-in : s ≡ In → ClientSteps r (inRow c size k) → ClientSteps r (rowAt s c size k vs given)
+  pub row-in : s ≡ In → ClientSteps r (inRow c size k) → ClientSteps r (rowAt s c (incoming size k vs given))
   unfolding rowAt
   row-in e f = rw e f
 
-  pub row-ended : s ≡ Ended → r ≡ refuses-with c 32 → ClientSteps r (rowAt s c size k vs given)
+  pub row-ended : s ≡ Ended → r ≡ refuses-with c 32 → ClientSteps r (rowAt s c (incoming size k vs given))
   unfolding rowAt sessionAnswerWords
   row-ended e f = rw (e, f) (exactly _)
 
-  pub row-closed : s ≡ Closed → r ≡ refuses-with c 32 → ClientSteps r (rowAt s c size k vs given)
+  pub row-closed : s ≡ Closed → r ≡ refuses-with c 32 → ClientSteps r (rowAt s c (incoming size k vs given))
   unfolding rowAt sessionAnswerWords
   row-closed e f = rw (e, f) (exactly _)
 
@@ -200,14 +200,14 @@ module _ (s : ClientState) (c : Client) (size k : ℕ) (vs given : List ℕ) (r 
 
 module _ (c : Client) (l : List ℕ) (x : Front) (r : Stepped) where
   pub step-more : frontWords x ≡ frontOf Server l → x ≡ front.NeedMore → r ≡ goes-to NeedMore 0 c → ClientSteps r (clientStep c l)
-  unfolding clientStep frontRow frontWords sessionAnswerWords
+  unfolding clientStep frontRowAt frontWords sessionAnswerWords
   step-more e f g = rw (← e, f, g) (exactly _)
 
   pub step-refused : (y : Refusal) → frontWords x ≡ frontOf Server l → x ≡ front.Refused y → r ≡ goes-to (Refused y) 0 c → ClientSteps r (clientStep c l)
-  unfolding clientStep frontRow frontWords sessionAnswerWords
+  unfolding clientStep frontRowAt frontWords sessionAnswerWords
   step-refused y e f g = rw (← e, f, g) (exactly _)
 
   pub step-packet : (p : Packet) (size : ℕ) → frontWords x ≡ frontOf Server l → x ≡ front.Whole p size
-      → ClientSteps r (rowAt (c .state) c size (letterFor (packetKind p)) (packetValues p) (sessionOf Server l)) → ClientSteps r (clientStep c l)
-  unfolding clientStep frontRow frontWords
+      → ClientSteps r (rowAt (c .state) c (incoming size (letterFor (packetKind p)) (packetValues p) (sessionOf Server l))) → ClientSteps r (clientStep c l)
+  unfolding clientStep frontRowAt frontWords
   step-packet p size e f g = rw (← e, f) g

@@ -17,7 +17,7 @@ use Rattle.soupbintcp.specs.declared.packet.Sender.the-variants.{Server}
 use Rattle.soupbintcp.specs.Letters.{accepted, sequenced, letterFor}
 use Rattle.soupbintcp.specs.Fields.{hasFields}
 use Rattle.soupbintcp.specs.Front.{sessionOf}
-use Rattle.soupbintcp_session.specs.Answer.{StepOutcome, stays, takes}
+use Rattle.soupbintcp_session.specs.Answer.{incoming, StepOutcome, stays, takes}
 use Rattle.soupbintcp_session.specs.Answer as reply
 use Rattle.soupbintcp_session.proofs.FrontCases.{numbered-in-front, accepted-takes, sequenced-takes, plain-not-accepted}
 use Rattle.soupbintcp_session.proofs.StepLaws.{never-rests, changes-nothing, takes-packets, hands-up}
@@ -70,20 +70,20 @@ number-fits c n = go (eqb (c .number .0) 0) refl
 
 asked-row : (c : Client) (size n : ℕ) (given : List ℕ) → c .state ≡ Asked → sessionAsked (c .session) given ≡ true
     → numberAsked (c .number .0) n ≡ true
-    → rowAt (c .state) c size 65 (n ∷ []) given ≡ takes size (says reply.accepted (n ∷ [])) (client (firstBytes 10 given) n In)
+    → rowAt (c .state) c (incoming size 65 (n ∷ []) given) ≡ takes size (says reply.accepted (n ∷ [])) (client (firstBytes 10 given) n In)
 unfolding rowAt askedRow acceptedRow
 asked-row c size n given e f g = rw (e, f, g) refl
 
 other-row : (c : Client) (size n : ℕ) (given : List ℕ) (x y : Bool) → c .state ≡ Asked → sessionAsked (c .session) given ≡ x
     → numberAsked (c .number .0) n ≡ y → (x ≡ true → y ≡ true → ⊥)
-    → rowAt (c .state) c size 65 (n ∷ []) given ≡ stays c (refuses 33)
+    → rowAt (c .state) c (incoming size 65 (n ∷ []) given) ≡ stays c (refuses 33)
 unfolding rowAt askedRow acceptedRow
 other-row c size n given true true e f g h = absurd (h refl refl)
 other-row c size n given true false e f g h = rw (e, f, g) refl
 other-row c size n given false y e f g h = rw (e, f) refl
 
 module _ (c : Client) (l : List ℕ) (size n : ℕ) (q : c .state ≡ Asked) (e : AcceptedInFront l size n) where
-  row-of-A : clientStep c l ≡ clientRow c size 65 (n ∷ []) (sessionOf Server l)
+  row-of-A : clientStep c l ≡ clientRow c (incoming size 65 (n ∷ []) (sessionOf Server l))
   unfolding letterFor
   row-of-A = cases.packet-row c l accepted size (n ∷ []) e
 

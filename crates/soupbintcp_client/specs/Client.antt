@@ -8,7 +8,7 @@ use lib.Dec.{ltb, eqb}
 use Rattle.wire.specs.Choice.{if_then_else_}
 use Rattle.wire.specs.Bounds.{blank, largestNumber, sessionSize}
 use Rattle.wire.specs.Refusals.{badSetting, packetNotTaken, stateClosed, loginNotAsked, numbersUsedUp}
-use Rattle.wire.specs.Words.{Case, answer, refused, says, refuses}
+use Rattle.wire.specs.Words.{Words, Case, answer, refused, says, refuses}
 use Rattle.wire.specs.Bytes.{sameBytes}
 use Rattle.wire.specs.Parts.{firstBytes}
 use Rattle.text_fields.specs.Session.{goodSession}
@@ -16,7 +16,7 @@ use Rattle.soupbintcp.specs.declared.packet.Sender.the-variants.{Server}
 use Rattle.soupbintcp.specs.Letters.{letterDebug, letterAccepted, letterRejected, letterSequenced, letterServerHeartbeat, letterEnd, letterFor}
 use Rattle.soupbintcp.specs.Head.{headSize}
 use Rattle.soupbintcp.specs.Front.{FrontKind, packet, wants-more, frontOf, sessionOf}
-use Rattle.soupbintcp_session.specs.Answer.{accepted, rejected, sequenced, heartbeat, debug, end-of-session, sessionAnswerWords, StepOutcome, stays, takes}
+use Rattle.soupbintcp_session.specs.Answer.{accepted, rejected, sequenced, heartbeat, debug, end-of-session, sessionAnswerWords, Incoming, incoming, StepOutcome, stays, takes}
 use Rattle.soupbintcp_session.specs.Answer as reply
 use Rattle.soupbintcp_client.specs.declared.client.ClientState.{ClientState}
 use Rattle.soupbintcp_client.specs.declared.client.ClientState.the-variants.{Asked, In, Ended, Closed}
@@ -51,7 +51,7 @@ refusedClient = client blank 1 Closed
 unfoldable pub startClient : List ℕ → ℕ → Client
 startClient name n = if eqb (clientStartRefusal name n) 0 then client name n Asked else refusedClient
 
--- ---- the table: a packet of this size and letter
+-- ---- the table
 
 -- A must carry the asked session unless that was blank
 unfoldable pub sessionAsked : List ℕ → List ℕ → Bool
@@ -74,12 +74,12 @@ sequencedRow c size =
     if eqb (c .number .0) largestNumber then stays c (refuses numbersUsedUp)
     else takes size (says sequenced (c .number .0 ∷ headSize ∷ (size - headSize) ∷ [])) (client (c .session) (c .number .0 + 1) In)
 
--- asked takes A, J and +; vs are the packet's values, and given is its session
-unfoldable pub askedRow : Client → ℕ → ℕ → List ℕ → List ℕ → StepOutcome Client
-askedRow c size letter vs given =
-    if eqb letter letterAccepted then acceptedRow c size given (getD vs 0 0)
-    else if eqb letter letterRejected then takes size (says rejected vs) (becomes c Closed)
-    else if eqb letter letterDebug then takes size (says debug []) (becomes c Asked)
+-- asked takes A, J and +
+unfoldable pub askedRow : Client → Incoming → StepOutcome Client
+askedRow c p =
+    if eqb (p .letter) letterAccepted then acceptedRow c (p .size) (p .session) (getD (p .values) 0 0)
+    else if eqb (p .letter) letterRejected then takes (p .size) (says rejected (p .values)) (becomes c Closed)
+    else if eqb (p .letter) letterDebug then takes (p .size) (says debug []) (becomes c Asked)
     else stays c (refuses packetNotTaken)
 
 -- in takes S, H, + and Z
@@ -91,25 +91,25 @@ inRow c size letter =
     else if eqb letter letterEnd then takes size (says end-of-session []) (becomes c Ended)
     else stays c (refuses packetNotTaken)
 
-unfoldable pub rowAt : ClientState → Client → ℕ → ℕ → List ℕ → List ℕ → StepOutcome Client
-rowAt Asked c size letter vs given = askedRow c size letter vs given
-rowAt In c size letter vs given = inRow c size letter
-rowAt Ended c size letter vs given = stays c (refuses stateClosed)
-rowAt Closed c size letter vs given = stays c (refuses stateClosed)
+unfoldable pub rowAt : ClientState → Client → Incoming → StepOutcome Client
+rowAt Asked c p = askedRow c p
+rowAt In c p = inRow c (p .size) (p .letter)
+rowAt Ended c p = stays c (refuses stateClosed)
+rowAt Closed c p = stays c (refuses stateClosed)
 
-abbrev pub clientRow : Client → ℕ → ℕ → List ℕ → List ℕ → StepOutcome Client
-clientRow c size letter vs given = rowAt (c .state) c size letter vs given
+abbrev pub clientRow : Client → Incoming → StepOutcome Client
+clientRow c p = rowAt (c .state) c p
 
 -- ---- a step, over the front of a stream l
 
--- need more and a refusal change nothing
-unfoldable pub frontRow : Client → List ℕ → Case FrontKind → ℕ → List ℕ → StepOutcome Client
-frontRow c given (answer (packet p)) r vs = clientRow c (getD vs 0 0) (letterFor p) (drop 1 vs) given
-frontRow c given (answer wants-more) r vs = stays c (says reply.wants-more [])
-frontRow c given refused r vs = stays c (refuses r)
+-- by what stands in front: need more and a refusal change nothing
+unfoldable pub frontRowAt : Client → List ℕ → Words FrontKind → Case FrontKind → StepOutcome Client
+frontRowAt c given w (answer (packet p)) = clientRow c (incoming (getD (w .values) 0 0) (letterFor p) (drop 1 (w .values)) given)
+frontRowAt c given w (answer wants-more) = stays c (says reply.wants-more [])
+frontRowAt c given w refused = stays c (refuses (w .refusal))
 
 unfoldable pub clientStep : Client → List ℕ → StepOutcome Client
-clientStep c l = frontRow c (sessionOf Server l) (frontOf Server l .which) (frontOf Server l .refusal) (frontOf Server l .values)
+clientStep c l = frontRowAt c (sessionOf Server l) (frontOf Server l) (frontOf Server l .which)
 
 -- the promise of a step that answers r
 pub record ClientSteps (r : Stepped) (o : StepOutcome Client) : Type 0 where

@@ -21,7 +21,10 @@ ghost use Rattle.soupbintcp.specs.Letters.{packetKind, packetValues, letterFor}
 ghost use Rattle.soupbintcp.specs.declared.packet.Sender.the-variants.{Server};
 ghost use Rattle.soupbintcp.specs.Head.{headSize};
 ghost use Rattle.soupbintcp.specs.Front.{sessionOf};
-ghost use Rattle.soupbintcp_client.specs.Client.{client, refusedClient, clientStartRefusal, startClient, sessionAsked, numberAsked, ClientSteps, acceptedRow, sequencedRow, askedRow, inRow, clientRow, clientStep};
+ghost use Rattle.soupbintcp_session.specs.Answer.{incoming};
+ghost use Rattle.soupbintcp_client.specs.Client.{client, refusedClient, clientStartRefusal, startClient};
+ghost use Rattle.soupbintcp_client.specs.Client.{sessionAsked, numberAsked, ClientSteps, acceptedRow};
+ghost use Rattle.soupbintcp_client.specs.Client.{sequencedRow, askedRow, inRow, clientRow, clientStep};
 ghost use Rattle.soupbintcp_client.specs.Statements.{ClientPromises};
 
 pub enum ClientState {
@@ -33,8 +36,8 @@ pub enum ClientState {
 }
 
 pub struct Client {
-    // Until A comes: the session and number that are asked for, blank for any session and 0 for any number. From A on: the
-    // session's name, and the number of the next message.
+    // Until A comes: the session and number that are asked for, blank for any session and 0 for any number. From A
+    // on: the session's name, and the number of the next message.
     pub session: [u8; SESSION_SIZE],
     pub number: SequenceNumber,
     pub state: ClientState,
@@ -75,7 +78,8 @@ impl Client {
 
     // A fresh client, or the refusal 19.
     pub fn new(session: [u8; SESSION_SIZE], number: SequenceNumber) -> Started
-        ensures { λ r. ⌜ (r .refusal .number ≡ clientStartRefusal session (number .0)) × (r .client ≡ startClient session (number .0)) ⌝ }
+        ensures { λ r. ⌜ (r .refusal .number ≡ clientStartRefusal session (number .0))
+            × (r .client ≡ startClient session (number .0)) ⌝ }
     {
         if !session::is_session(&session, true) {
             return refused_start();
@@ -89,8 +93,8 @@ impl Client {
         Started {
             refusal: refusal::NONE,
             client: Client {
-                session: session,
-                number: number,
+                session,
+                number,
                 state: ClientState::Asked,
             },
         }
@@ -113,7 +117,7 @@ impl Client {
         ensures { λ r. ⌜ r ≡ record { answer = answer; size = 0; client = self } ⌝ }
     {
         Stepped {
-            answer: answer,
+            answer,
             size: 0,
             client: self,
         }
@@ -127,16 +131,17 @@ impl Client {
         number: SequenceNumber,
         state: ClientState,
     ) -> Stepped
-        ensures { λ r. ⌜ r ≡ record { answer = answer; size = size; client = client (self .session) (number .0) state } ⌝ }
+        ensures { λ r. ⌜ r ≡ record { answer = answer; size = size; client = client (self .session) (number .0) state }
+            ⌝ }
     {
         let session = self.session;
         Stepped {
-            answer: answer,
-            size: size,
+            answer,
+            size,
             client: Client {
-                session: session,
-                number: number,
-                state: state,
+                session,
+                number,
+                state,
             },
         }
     }
@@ -144,7 +149,8 @@ impl Client {
     // The row of the table for the packet in front.
     fn take(self, packet: Packet, size: usize, stream: &[u8]) -> Stepped
         requires { ⌜ headSize ≤ size ⌝ }
-        ensures { λ r. ⌜ ClientSteps r (clientRow self size (letterFor (packetKind packet)) (packetValues packet) (sessionOf Server (now (stream .entry)))) ⌝ }
+        ensures { λ r. ⌜ ClientSteps r (clientRow self (incoming size (letterFor (packetKind packet))
+            (packetValues packet) (sessionOf Server (now (stream .entry))))) ⌝ }
     {
         let state = self.state;
         match state {
@@ -157,14 +163,15 @@ impl Client {
 
     // A login was asked for.
     fn take_asked(self, packet: Packet, size: usize, stream: &[u8]) -> Stepped
-        ensures { λ r. ⌜ ClientSteps r (askedRow self size (letterFor (packetKind packet)) (packetValues packet) (sessionOf Server (now (stream .entry)))) ⌝ }
+        ensures { λ r. ⌜ ClientSteps r (askedRow self (incoming size (letterFor (packetKind packet))
+            (packetValues packet) (sessionOf Server (now (stream .entry))))) ⌝ }
     {
         match packet {
             Packet::Accepted { number } => {
                 self.log_in(size, front::session(stream, Sender::Server), number)
             }
             Packet::Rejected { reason } => self.goes(
-                Answer::Rejected { reason: reason },
+                Answer::Rejected { reason },
                 size,
                 self.number,
                 ClientState::Closed,
@@ -205,11 +212,11 @@ impl Client {
             return self.stay(Answer::Refused(refusal::LOGIN_NOT_ASKED));
         }
         Stepped {
-            answer: Answer::Accepted { number: number },
-            size: size,
+            answer: Answer::Accepted { number },
+            size,
             client: Client {
                 session: parts::ten(given),
-                number: number,
+                number,
                 state: ClientState::In,
             },
         }
@@ -243,7 +250,7 @@ impl Client {
             return self.stay(Answer::Refused(refusal::NUMBERS_USED_UP));
         }
         let handed = Answer::Sequenced {
-            number: number,
+            number,
             at: ByteOffset(HEAD_SIZE),
             length: size - HEAD_SIZE,
         };

@@ -19,7 +19,7 @@ use Rattle.soupbintcp.proofs.ScanLaws.{FrontIs, stops-short, stops-at, passes, 
 use Rattle.login.specs.declared.account.Account.{Account}
 use Rattle.login.specs.Account.{VerdictKind, lookupOf}
 use Rattle.login.specs.Decision.{DecisionKind, accepted, rejected, decisionOf}
-use Rattle.soupbintcp_session.specs.Answer.{SessionAnswerKind, wants-more, unsequenced, heartbeat, debug, logged-out, answerMessageAt, StepOutcome, stays, takes}
+use Rattle.soupbintcp_session.specs.Answer.{incoming, SessionAnswerKind, wants-more, unsequenced, heartbeat, debug, logged-out, answerMessageAt, StepOutcome, stays, takes}
 use Rattle.soupbintcp_session.specs.Answer as reply
 use Rattle.soupbintcp_session.proofs.FrontCases.{InFront, front-stays, session-stays, username-stays, password-stays, Plain, a-rejection, a-heartbeat, a-debug, a-logout, plain-takes, accepted-takes, unsequenced-takes, plain-not-unsequenced}
 use Rattle.soupbintcp_session.proofs.StepLaws.{Rests, waits, refusing, Does}
@@ -28,7 +28,7 @@ use Rattle.soupbintcp_session.proofs.RunLaws.{Steady}
 use Rattle.soupbintcp_server.specs.declared.server.ServerState.{ServerState}
 use Rattle.soupbintcp_server.specs.declared.server.ServerState.the-variants.{Waiting, In, Closed}
 use Rattle.soupbintcp_server.specs.declared.server.Server.{Server}
-use Rattle.soupbintcp_server.specs.Server.{becomes, loginAt, waitingRow, inRow, rowAt, serverRow, frontRow, stepAt, stepWith, entryOf, serverStep}
+use Rattle.soupbintcp_server.specs.Server.{becomes, loginAt, waitingRow, inRow, rowAt, serverRow, frontRow, frontRowAt, stepAt, stepWith, entryOf, serverStep}
 use Rattle.soupbintcp_server.specs.Statements.{KeepsItsSettings}
 
 pub data ServerDoes (s : Server) (l : List ℕ) (x : Words VerdictKind) (o : StepOutcome Server) : Type 0 where
@@ -60,7 +60,7 @@ module _ (s : Server) (l : List ℕ) (x : Words VerdictKind) (k : ℕ) (vs : Lis
   login-does a q (answer rejected) r ws e = goes-by k vs (says reply.rejected ws) Closed i a-rejection (λ z. absurd (never-in z)) refl
   login-does a q refused r ws e = refuses-it r
 
-  waiting-does : s .state ≡ Waiting → D (waitingRow s k (letterOf l) vs x (sessionOf Client l))
+  waiting-does : s .state ≡ Waiting → D (waitingRow s x (incoming k (letterOf l) vs (sessionOf Client l)))
   unfolding waitingRow
   waiting-does q =
       choice D (eqb (letterOf l) 76) (λ e. login-does (eqb-true _ _ e) q _ _ _ refl) (λ e.
@@ -74,7 +74,7 @@ module _ (s : Server) (l : List ℕ) (x : Words VerdictKind) (k : ℕ) (vs : Lis
       choice D (eqb (letterOf l) 43) (λ g. goes-by k vs (says debug []) In i a-debug (λ z. q) refl) (λ g.
       choice D (eqb (letterOf l) 79) (λ h. goes-by k vs (says logged-out []) Closed i a-logout (λ z. q) refl) (λ h. refuses-it _))))
 
-  row-does : (t : ServerState) → s .state ≡ t → D (rowAt t s k (letterOf l) vs x (sessionOf Client l))
+  row-does : (t : ServerState) → s .state ≡ t → D (rowAt t s x (incoming k (letterOf l) vs (sessionOf Client l)))
   unfolding rowAt
   row-does Waiting q = waiting-does q
   row-does In q = in-does q
@@ -85,19 +85,19 @@ module _ (s : Server) (l : List ℕ) (x : Words VerdictKind) (k : ℕ) (vs : Lis
 module _ (s : Server) (x : Words VerdictKind) (l : List ℕ) where
   -- the front, where the table says something
   abbrev front-step : StepOutcome Server
-  front-step = frontRow s x (sessionOf Client l) (frontOf Client l .which) (frontOf Client l .refusal) (frontOf Client l .values)
+  front-step = frontRow s x (sessionOf Client l) (frontOf Client l)
 
   short-rests : frontOf Client l ≡ says front.wants-more [] → front-step ≡ stays s (says wants-more [])
-  unfolding frontRow
+  unfolding frontRowAt
   short-rests e = rw e refl
 
   fault-rests : (r : ℕ) → frontOf Client l ≡ refuses r → front-step ≡ stays s (refuses r)
-  unfolding frontRow
+  unfolding frontRowAt
   fault-rests r e = rw e refl
 
   pub packet-row : (p : PacketKind) (k : ℕ) (vs : List ℕ) → frontOf Client l ≡ says (packet p) (k ∷ vs)
-      → front-step ≡ serverRow s k (letterFor p) vs x (sessionOf Client l)
-  unfolding frontRow
+      → front-step ≡ serverRow s x (incoming k (letterFor p) vs (sessionOf Client l))
+  unfolding frontRowAt
   packet-row p k vs e = rw e refl
 
   front-does : ServerDoes s l x front-step

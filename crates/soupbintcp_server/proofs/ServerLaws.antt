@@ -29,13 +29,13 @@ use Rattle.login.specs.Account.{VerdictKind, verdictWords, lookupOf}
 use Rattle.login.specs.Decision.{decisionWords, decisionOf}
 use Rattle.soupbintcp_session.specs.declared.answer.Answer.{Answer}
 use Rattle.soupbintcp_session.specs.declared.answer.Answer.the-variants.{NeedMore, Accepted, Rejected, Unsequenced, Heartbeat, Debug, LoggedOut, Refused}
-use Rattle.soupbintcp_session.specs.Answer.{sessionAnswerWords}
+use Rattle.soupbintcp_session.specs.Answer.{incoming, sessionAnswerWords}
 use Rattle.soupbintcp_session.proofs.TagLaws.{tagFor, other-letter}
 use Rattle.soupbintcp_server.specs.declared.server.ServerState.{ServerState}
 use Rattle.soupbintcp_server.specs.declared.server.ServerState.the-variants.{Waiting, In, Closed}
 use Rattle.soupbintcp_server.specs.declared.server.Server.{Server}
 use Rattle.soupbintcp_server.specs.declared.server.Stepped.{Stepped}
-use Rattle.soupbintcp_server.specs.Server.{server, becomes, serverStartRefusal, refusedServer, startServer, loginAt, loginRow, waitingRow, inRow, rowAt, frontRow, stepAt, stepWith, entryOf, serverStep, ServerSteps}
+use Rattle.soupbintcp_server.specs.Server.{server, becomes, serverStartRefusal, refusedServer, startServer, loginAt, loginRow, waitingRow, inRow, rowAt, frontRow, frontRowAt, stepAt, stepWith, entryOf, serverStep, ServerSteps}
 
 -- what the code answers: a refusal, or a packet that is taken
 abbrev refuses-with : Server → ℕ → Stepped
@@ -107,12 +107,12 @@ module _ (s : Server) (d : Decision) (size : ℕ) (r : Stepped) where
 module _ (s : Server) (p : Packet) (size : ℕ) (w : Words VerdictKind) (asked : List ℕ) (r : Stepped) where
   pub waiting-L : (n : SequenceNumber) (y : List ℕ) (d : Decision) → p ≡ packet.Login n → y ≡ asked
       → decisionWords d ≡ decisionOf w y (n .0) (s .session) (s .last .0)
-      → ServerSteps r (loginRow s size (decisionWords d)) → ServerSteps r (waitingRow s size (letterFor (packetKind p)) (packetValues p) w asked)
+      → ServerSteps r (loginRow s size (decisionWords d)) → ServerSteps r (waitingRow s w (incoming size (letterFor (packetKind p)) (packetValues p) asked))
   unfolding waitingRow letterFor packetKind packetValues
   waiting-L n y d e f g h = rw (e, ← f, ← g) h
 
   pub waiting-plus : p ≡ packet.Debug → r ≡ goes-to Debug size (becomes s Waiting)
-      → ServerSteps r (waitingRow s size (letterFor (packetKind p)) (packetValues p) w asked)
+      → ServerSteps r (waitingRow s w (incoming size (letterFor (packetKind p)) (packetValues p) asked))
   unfolding waitingRow letterFor packetKind packetValues sessionAnswerWords
   waiting-plus e f = rw (e, f) (exactly _)
 
@@ -120,7 +120,7 @@ abbrev not-waiting : List ℕ
 not-waiting = 1 ∷ 2 ∷ 3 ∷ 4 ∷ 5 ∷ 7 ∷ 8 ∷ 9 ∷ []
 
 pub waiting-other : (s : Server) (p : Packet) (size : ℕ) (w : Words VerdictKind) (asked : List ℕ) (r : Stepped) → OneOf not-waiting (tagOf the-type p)
-    → r ≡ refuses-with s 31 → ServerSteps r (waitingRow s size (letterFor (packetKind p)) (packetValues p) w asked)
+    → r ≡ refuses-with s 31 → ServerSteps r (waitingRow s w (incoming size (letterFor (packetKind p)) (packetValues p) asked))
 unfolding waitingRow letterFor tagFor sessionAnswerWords
 waiting-other s p size w asked r k e = rw (other-letter not-waiting login p tt k, other-letter not-waiting debug p tt k, e) (exactly _)
 
@@ -157,15 +157,15 @@ server-in-other s p size r k e =
 -- ---- the row of a state t: k is the packet's letter, vs its values
 
 module _ (t : ServerState) (s : Server) (size k : ℕ) (vs : List ℕ) (w : Words VerdictKind) (asked : List ℕ) (r : Stepped) where
-  pub row-waiting : t ≡ Waiting → ServerSteps r (waitingRow s size k vs w asked) → ServerSteps r (rowAt t s size k vs w asked)
+  pub row-waiting : t ≡ Waiting → ServerSteps r (waitingRow s w (incoming size k vs asked)) → ServerSteps r (rowAt t s w (incoming size k vs asked))
   unfolding rowAt
   row-waiting e f = rw e f
 
-  pub server-row-in : t ≡ In → ServerSteps r (inRow s size k) → ServerSteps r (rowAt t s size k vs w asked)
+  pub server-row-in : t ≡ In → ServerSteps r (inRow s size k) → ServerSteps r (rowAt t s w (incoming size k vs asked))
   unfolding rowAt
   server-row-in e f = rw e f
 
-  pub server-row-closed : t ≡ Closed → r ≡ refuses-with s 32 → ServerSteps r (rowAt t s size k vs w asked)
+  pub server-row-closed : t ≡ Closed → r ≡ refuses-with s 32 → ServerSteps r (rowAt t s w (incoming size k vs asked))
   unfolding rowAt sessionAnswerWords
   server-row-closed e f = rw (e, f) (exactly _)
 
@@ -180,7 +180,7 @@ abbrev told : List ℕ
 told = 0 ∷ 1 ∷ []
 
 said-front : (s : Server) (l : List ℕ) (v : Verdict) → OneOf told (tagOf verdict-type v)
-    → frontRow s (verdictWords v) (sessionOf Client l) (frontOf Client l .which) (frontOf Client l .refusal) (frontOf Client l .values)
+    → frontRow s (verdictWords v) (sessionOf Client l) (frontOf Client l)
     ≡ stepWith s (verdictWords v) l
 unfolding stepAt verdictWords
 said-front s l verdict.Known k = refl
@@ -190,17 +190,17 @@ said-front s l verdict.TooMany k = absurd (miss told 2 tt k)
 module _ (s : Server) (l : List ℕ) (v : Verdict) (x : Front) (r : Stepped) where
   pub server-step-more : OneOf told (tagOf verdict-type v) → frontWords x ≡ frontOf Client l → x ≡ front.NeedMore → r ≡ goes-to NeedMore 0 s
       → ServerSteps r (stepWith s (verdictWords v) l)
-  unfolding frontRow frontWords sessionAnswerWords
+  unfolding frontRowAt frontWords sessionAnswerWords
   server-step-more k e f g = rw (← said-front s l v k, ← e, f, g) (exactly _)
 
   pub server-step-refused : (y : Refusal) → OneOf told (tagOf verdict-type v) → frontWords x ≡ frontOf Client l → x ≡ front.Refused y
       → r ≡ goes-to (Refused y) 0 s → ServerSteps r (stepWith s (verdictWords v) l)
-  unfolding frontRow frontWords sessionAnswerWords
+  unfolding frontRowAt frontWords sessionAnswerWords
   server-step-refused y k e f g = rw (← said-front s l v k, ← e, f, g) (exactly _)
 
   pub server-step-packet : (p : Packet) (size : ℕ) → OneOf told (tagOf verdict-type v) → frontWords x ≡ frontOf Client l → x ≡ front.Whole p size
-      → ServerSteps r (rowAt (s .state) s size (letterFor (packetKind p)) (packetValues p) (verdictWords v) (sessionOf Client l)) → ServerSteps r (stepWith s (verdictWords v) l)
-  unfolding frontRow frontWords
+      → ServerSteps r (rowAt (s .state) s (verdictWords v) (incoming size (letterFor (packetKind p)) (packetValues p) (sessionOf Client l))) → ServerSteps r (stepWith s (verdictWords v) l)
+  unfolding frontRowAt frontWords
   server-step-packet p size k e f g = rw (← said-front s l v k, ← e, f) g
 
 -- with a table of accounts: e is the entry in front

@@ -19,7 +19,7 @@ use Rattle.soupbintcp.specs.Front.{FrontKind, packet, wants-more, frontOf, sess
 use Rattle.login.specs.declared.account.Account.{Account}
 use Rattle.login.specs.Account.{VerdictKind, lookupOf}
 use Rattle.login.specs.Decision.{DecisionKind, accepted, rejected, decisionOf}
-use Rattle.soupbintcp_session.specs.Answer.{unsequenced, heartbeat, debug, logged-out, sessionAnswerWords, StepOutcome, stays, takes}
+use Rattle.soupbintcp_session.specs.Answer.{unsequenced, heartbeat, debug, logged-out, sessionAnswerWords, Incoming, incoming, StepOutcome, stays, takes}
 use Rattle.soupbintcp_session.specs.Answer as reply
 use Rattle.soupbintcp_server.specs.declared.server.ServerState.{ServerState}
 use Rattle.soupbintcp_server.specs.declared.server.ServerState.the-variants.{Waiting, In, Closed}
@@ -57,7 +57,7 @@ refusedServer = server blank 1 Closed
 unfoldable pub startServer : List ℕ → ℕ → Server
 startServer name last = if eqb (serverStartRefusal name last) 0 then server name last Waiting else refusedServer
 
--- ---- the table: a packet of this size and letter
+-- ---- the table
 
 -- a login, by what is decided: to in, or to closed on J
 unfoldable pub loginAt : Server → ℕ → Case DecisionKind → ℕ → List ℕ → StepOutcome Server
@@ -68,11 +68,12 @@ loginAt s size refused r vs = stays s (refuses r)
 abbrev pub loginRow : Server → ℕ → Words DecisionKind → StepOutcome Server
 loginRow s size w = loginAt s size (w .which) (w .refusal) (w .values)
 
--- waiting takes L and +; vs are the packet's values, verdict is what the table says of its entry, and asked its session
-unfoldable pub waitingRow : Server → ℕ → ℕ → List ℕ → Words VerdictKind → List ℕ → StepOutcome Server
-waitingRow s size letter vs verdict asked =
-    if eqb letter letterLogin then loginRow s size (decisionOf verdict asked (getD vs 0 0) (s .session) (s .last .0))
-    else if eqb letter letterDebug then takes size (says debug []) (becomes s Waiting)
+-- waiting takes L and +; verdict is what the table says of the packet's entry
+unfoldable pub waitingRow : Server → Words VerdictKind → Incoming → StepOutcome Server
+waitingRow s verdict p =
+    if eqb (p .letter) letterLogin
+    then loginRow s (p .size) (decisionOf verdict (p .session) (getD (p .values) 0 0) (s .session) (s .last .0))
+    else if eqb (p .letter) letterDebug then takes (p .size) (says debug []) (becomes s Waiting)
     else stays s (refuses packetNotTaken)
 
 -- in takes U, R, + and O
@@ -84,25 +85,28 @@ inRow s size letter =
     else if eqb letter letterLogout then takes size (says logged-out []) (becomes s Closed)
     else stays s (refuses packetNotTaken)
 
-unfoldable pub rowAt : ServerState → Server → ℕ → ℕ → List ℕ → Words VerdictKind → List ℕ → StepOutcome Server
-rowAt Waiting s size letter vs verdict asked = waitingRow s size letter vs verdict asked
-rowAt In s size letter vs verdict asked = inRow s size letter
-rowAt Closed s size letter vs verdict asked = stays s (refuses stateClosed)
+unfoldable pub rowAt : ServerState → Server → Words VerdictKind → Incoming → StepOutcome Server
+rowAt Waiting s verdict p = waitingRow s verdict p
+rowAt In s verdict p = inRow s (p .size) (p .letter)
+rowAt Closed s verdict p = stays s (refuses stateClosed)
 
-abbrev pub serverRow : Server → ℕ → ℕ → List ℕ → Words VerdictKind → List ℕ → StepOutcome Server
-serverRow s size letter vs verdict asked = rowAt (s .state) s size letter vs verdict asked
+abbrev pub serverRow : Server → Words VerdictKind → Incoming → StepOutcome Server
+serverRow s verdict p = rowAt (s .state) s verdict p
 
 -- ---- a step, over the front of a stream l
 
--- need more and a refusal change nothing
-unfoldable pub frontRow : Server → Words VerdictKind → List ℕ → Case FrontKind → ℕ → List ℕ → StepOutcome Server
-frontRow s verdict asked (answer (packet p)) r vs = serverRow s (getD vs 0 0) (letterFor p) (drop 1 vs) verdict asked
-frontRow s verdict asked (answer wants-more) r vs = stays s (says reply.wants-more [])
-frontRow s verdict asked refused r vs = stays s (refuses r)
+-- by what stands in front: need more and a refusal change nothing
+unfoldable pub frontRowAt : Server → Words VerdictKind → List ℕ → Words FrontKind → Case FrontKind → StepOutcome Server
+frontRowAt s verdict asked w (answer (packet p)) = serverRow s verdict (incoming (getD (w .values) 0 0) (letterFor p) (drop 1 (w .values)) asked)
+frontRowAt s verdict asked w (answer wants-more) = stays s (says reply.wants-more [])
+frontRowAt s verdict asked w refused = stays s (refuses (w .refusal))
+
+abbrev pub frontRow : Server → Words VerdictKind → List ℕ → Words FrontKind → StepOutcome Server
+frontRow s verdict asked w = frontRowAt s verdict asked w (w .which)
 
 -- 19 for the table comes first
 unfoldable pub stepAt : Case VerdictKind → Server → Words VerdictKind → List ℕ → StepOutcome Server
-stepAt (answer x) s verdict l = frontRow s verdict (sessionOf Client l) (frontOf Client l .which) (frontOf Client l .refusal) (frontOf Client l .values)
+stepAt (answer x) s verdict l = frontRow s verdict (sessionOf Client l) (frontOf Client l)
 stepAt refused s verdict l = stays s (refuses (verdict .refusal))
 
 -- from what the table says of the entry in front

@@ -28,7 +28,10 @@ ghost use Rattle.soupbintcp.specs.Letters.{packetKind, packetValues, letterFor}
 ghost use Rattle.soupbintcp.specs.declared.packet.Sender.the-variants.{Client};
 ghost use Rattle.soupbintcp.specs.Head.{headSize};
 ghost use Rattle.soupbintcp.specs.Front.{sessionOf};
-ghost use Rattle.soupbintcp_server.specs.Server.{server, refusedServer, serverStartRefusal, startServer, entryOf, ServerSteps, loginRow, waitingRow, inRow, serverRow, stepWith, serverStep};
+ghost use Rattle.soupbintcp_session.specs.Answer.{incoming};
+ghost use Rattle.soupbintcp_server.specs.Server.{server, refusedServer, serverStartRefusal, startServer};
+ghost use Rattle.soupbintcp_server.specs.Server.{entryOf, ServerSteps, loginRow, waitingRow, inRow, serverRow};
+ghost use Rattle.soupbintcp_server.specs.Server.{stepWith, serverStep};
 ghost use Rattle.soupbintcp_server.specs.Statements.{EntryIsItsFields, ServerPromises};
 
 pub enum ServerState {
@@ -51,8 +54,8 @@ pub struct Started {
     pub server: Server,
 }
 
-// The answer to the front of a stream, how many bytes it took, and the server to use next. An accepted login is answered to the
-// client with that server's session and the granted number.
+// The answer to the front of a stream, how many bytes it took, and the server to use next. An accepted login is
+// answered to the client with that server's session and the granted number.
 pub struct Stepped {
     pub answer: Answer,
     pub size: usize,
@@ -92,7 +95,8 @@ impl Server {
 
     // A fresh server, or the refusal 19.
     pub fn new(session: [u8; SESSION_SIZE], last: SequenceNumber) -> Started
-        ensures { λ r. ⌜ (r .refusal .number ≡ serverStartRefusal session (last .0)) × (r .server ≡ startServer session (last .0)) ⌝ }
+        ensures { λ r. ⌜ (r .refusal .number ≡ serverStartRefusal session (last .0))
+            × (r .server ≡ startServer session (last .0)) ⌝ }
     {
         if !session::is_session(&session, false) {
             return refused_start();
@@ -106,8 +110,8 @@ impl Server {
         Started {
             refusal: refusal::NONE,
             server: Server {
-                session: session,
-                last: last,
+                session,
+                last,
                 state: ServerState::Waiting,
             },
         }
@@ -121,8 +125,8 @@ impl Server {
         self.step_with(table::lookup(table, entry(stream)), stream)
     }
 
-    // The same from what a table says of the entry in front, so that the accounts may be kept in any form. The verdict it is given is
-    // believed: a caller has it from a lookup of the entry in front.
+    // The same from what a table says of the entry in front, so that the accounts may be kept in any form. The
+    // verdict it is given is believed: a caller has it from a lookup of the entry in front.
     pub fn step_with(self, verdict: Verdict, stream: &[u8]) -> Stepped
         ensures { λ r. ⌜ ServerSteps r (stepWith self (verdictWords verdict) (now (stream .entry))) ⌝ }
     {
@@ -141,7 +145,7 @@ impl Server {
         ensures { λ r. ⌜ r ≡ record { answer = answer; size = 0; server = self } ⌝ }
     {
         Stepped {
-            answer: answer,
+            answer,
             size: 0,
             server: self,
         }
@@ -149,17 +153,23 @@ impl Server {
 
     // A packet taken, and the state after it: the one place where the next server is made.
     fn goes(self, answer: Answer, size: usize, state: ServerState) -> Stepped
-        ensures { λ r. ⌜ r ≡ record { answer = answer; size = size; server = server (self .session) (self .last .0) state } ⌝ }
+        ensures { λ r. ⌜ r ≡ record {
+          answer = answer;
+          size = size;
+          server = server (self .session)
+              (self .last .0) state;
+        }
+            ⌝ }
     {
         let session = self.session;
         let last = self.last;
         Stepped {
-            answer: answer,
-            size: size,
+            answer,
+            size,
             server: Server {
-                session: session,
-                last: last,
-                state: state,
+                session,
+                last,
+                state,
             },
         }
     }
@@ -167,7 +177,9 @@ impl Server {
     // The row of the table for the packet in front.
     fn take(self, packet: Packet, size: usize, verdict: Verdict, stream: &[u8]) -> Stepped
         requires { ⌜ headSize ≤ size ⌝ }
-        ensures { λ r. ⌜ ServerSteps r (serverRow self size (letterFor (packetKind packet)) (packetValues packet) (verdictWords verdict) (sessionOf Client (now (stream .entry)))) ⌝ }
+        ensures { λ r. ⌜ ServerSteps r (serverRow self (verdictWords verdict)
+            (incoming size (letterFor (packetKind packet)) (packetValues packet)
+            (sessionOf Client (now (stream .entry))))) ⌝ }
     {
         let state = self.state;
         match state {
@@ -179,7 +191,9 @@ impl Server {
 
     // Waiting for a login.
     fn take_waiting(self, packet: Packet, size: usize, verdict: Verdict, stream: &[u8]) -> Stepped
-        ensures { λ r. ⌜ ServerSteps r (waitingRow self size (letterFor (packetKind packet)) (packetValues packet) (verdictWords verdict) (sessionOf Client (now (stream .entry)))) ⌝ }
+        ensures { λ r. ⌜ ServerSteps r (waitingRow self (verdictWords verdict)
+            (incoming size (letterFor (packetKind packet)) (packetValues packet)
+            (sessionOf Client (now (stream .entry))))) ⌝ }
     {
         match packet {
             Packet::Login { number } => {
@@ -202,14 +216,10 @@ impl Server {
     {
         match decision {
             Decision::Accepted { number } => {
-                self.goes(Answer::Accepted { number: number }, size, ServerState::In)
+                self.goes(Answer::Accepted { number }, size, ServerState::In)
             }
             Decision::Rejected { reason } => {
-                self.goes(
-                    Answer::Rejected { reason: reason },
-                    size,
-                    ServerState::Closed,
-                )
+                self.goes(Answer::Rejected { reason }, size, ServerState::Closed)
             }
             Decision::Refused(r) => self.stay(Answer::Refused(r)),
         }

@@ -43,6 +43,18 @@ answerMessageAt refused vs l = []
 abbrev pub answerMessage : Words SessionAnswerKind → List ℕ → List ℕ
 answerMessage w l = answerMessageAt (w .which) (w .values) l
 
+-- ---- the packet that a step takes
+
+-- its bytes, its letter, its values, and its session, which A and L have
+pub record Incoming : Type 0 where
+  pub size : ℕ
+  pub letter : ℕ
+  pub values : List ℕ
+  pub session : List ℕ
+
+abbrev pub incoming : ℕ → ℕ → List ℕ → List ℕ → Incoming
+incoming size letter vs session = record { size = size; letter = letter; values = vs; session = session }
+
 -- ---- a step of a session S: its answer, the bytes it takes, and the session after it
 
 pub record StepOutcome (S : Type 0) : Type 0 where

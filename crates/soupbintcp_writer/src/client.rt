@@ -35,7 +35,8 @@ const NUMBER_AT: ByteOffset = ByteOffset(HEAD_SIZE + USERNAME_SIZE + PASSWORD_SI
 
 // Writes an unsequenced message.
 pub fn write_unsequenced(out: &mut [u8], payload: &[u8]) -> Written
-    ensures { λ r. ⌜ Writes r (now (out .entry)) (now (out .exit)) (payloadGround (now (payload .entry))) 0 (encoded letterUnsequenced (now (payload .entry))) ⌝ }
+    ensures { λ r. ⌜ Writes r (now (out .entry)) (now (out .exit)) (payloadGround (now (payload .entry))) 0
+        (encoded letterUnsequenced (now (payload .entry))) ⌝ }
     ensures round_trip { λ _. ⌜ PayloadRoundTrip ⌝ }
 {
     packets::write_payload(out, b'U', payload)
@@ -105,7 +106,8 @@ fn write_parts(
     session: [u8; SESSION_SIZE],
     number: SequenceNumber,
 ) -> Written
-    ensures { λ r. ⌜ Writes r (now (out .entry)) (now (out .exit)) (loginGround username password session) 0 (encoded letterLogin (loginPayload username password session (number .0))) ⌝ }
+    ensures { λ r. ⌜ Writes r (now (out .entry)) (now (out .exit)) (loginGround username password session) 0
+        (encoded letterLogin (loginPayload username password session (number .0))) ⌝ }
 {
     if !is_good(username, password, session) {
         return Written::Refused(refusal::FIELD_NOT_WRITTEN);
@@ -121,7 +123,10 @@ fn write_parts(
 
 // Writes a login request.
 pub fn write_login(out: &mut [u8], login: Login) -> Written
-    ensures { λ r. ⌜ Writes r (now (out .entry)) (now (out .exit)) (loginGround (login .username) (login .password) (login .session)) 0 (encoded letterLogin (loginPayload (login .username) (login .password) (login .session) (login .number .0))) ⌝ }
+    ensures { λ r. ⌜ Writes r (now (out .entry)) (now (out .exit))
+        (loginGround (login .username) (login .password) (login .session)) 0
+        (encoded letterLogin (loginPayload (login .username) (login .password) (login .session)
+        (login .number .0))) ⌝ }
     ensures round_trip { λ _. ⌜ LoginRoundTrip ⌝ }
 {
     let username = login.username;

@@ -26,7 +26,8 @@ pub(crate) fn put_head(out: &mut [u8], letter: u8, payload: usize)
 
 // Writes a letter and a payload.
 pub(crate) fn write_payload(out: &mut [u8], letter: u8, payload: &[u8]) -> Written
-    ensures { λ r. ⌜ Writes r (now (out .entry)) (now (out .exit)) (payloadGround (now (payload .entry))) 0 (encoded letter (now (payload .entry))) ⌝ }
+    ensures { λ r. ⌜ Writes r (now (out .entry)) (now (out .exit)) (payloadGround (now (payload .entry))) 0
+        (encoded letter (now (payload .entry))) ⌝ }
 {
     let size = payload.len();
     if MOST_PAYLOAD < size {

@@ -13,9 +13,12 @@ use wire::output::Written;
 use wire::refusal;
 ghost use mathlib.Core.List.{[], _∷_};
 ghost use Rattle.wire.specs.Output.{Writes};
-ghost use Rattle.soupbintcp.specs.Letters.{letterAccepted, letterDebug, letterEnd, letterRejected, letterSequenced, letterServerHeartbeat};
-ghost use Rattle.soupbintcp_writer.specs.Packets.{encoded, payloadGround, acceptedGround, acceptedPayload, reasonGround};
-ghost use Rattle.soupbintcp_writer.specs.RoundTrips.{EveryPacketWritesBack, PayloadRoundTrip, LetterRoundTrip, AcceptedRoundTrip, RejectedRoundTrip};
+ghost use Rattle.soupbintcp.specs.Letters.{letterAccepted, letterDebug, letterEnd, letterRejected, letterSequenced};
+ghost use Rattle.soupbintcp.specs.Letters.{letterServerHeartbeat};
+ghost use Rattle.soupbintcp_writer.specs.Packets.{encoded, payloadGround, acceptedGround, acceptedPayload};
+ghost use Rattle.soupbintcp_writer.specs.Packets.{reasonGround};
+ghost use Rattle.soupbintcp_writer.specs.RoundTrips.{EveryPacketWritesBack, PayloadRoundTrip, LetterRoundTrip};
+ghost use Rattle.soupbintcp_writer.specs.RoundTrips.{AcceptedRoundTrip, RejectedRoundTrip};
 
 // Bytes of a login accepted: the head, the session and the number.
 const ACCEPTED_SIZE: usize = HEAD_SIZE + ACCEPTED_PAYLOAD;
@@ -25,7 +28,8 @@ const NUMBER_AT: ByteOffset = ByteOffset(HEAD_SIZE + SESSION_SIZE);
 
 // Writes a debug packet, which a client sends too.
 pub fn write_debug(out: &mut [u8], payload: &[u8]) -> Written
-    ensures { λ r. ⌜ Writes r (now (out .entry)) (now (out .exit)) (payloadGround (now (payload .entry))) 0 (encoded letterDebug (now (payload .entry))) ⌝ }
+    ensures { λ r. ⌜ Writes r (now (out .entry)) (now (out .exit)) (payloadGround (now (payload .entry))) 0
+        (encoded letterDebug (now (payload .entry))) ⌝ }
     ensures round_trip { λ _. ⌜ PayloadRoundTrip ⌝ }
     ensures every { λ _. ⌜ EveryPacketWritesBack ⌝ }
 {
@@ -34,7 +38,8 @@ pub fn write_debug(out: &mut [u8], payload: &[u8]) -> Written
 
 // Writes a sequenced message.
 pub fn write_sequenced(out: &mut [u8], payload: &[u8]) -> Written
-    ensures { λ r. ⌜ Writes r (now (out .entry)) (now (out .exit)) (payloadGround (now (payload .entry))) 0 (encoded letterSequenced (now (payload .entry))) ⌝ }
+    ensures { λ r. ⌜ Writes r (now (out .entry)) (now (out .exit)) (payloadGround (now (payload .entry))) 0
+        (encoded letterSequenced (now (payload .entry))) ⌝ }
     ensures round_trip { λ _. ⌜ PayloadRoundTrip ⌝ }
 {
     packets::write_payload(out, b'S', payload)
@@ -62,7 +67,8 @@ pub fn write_accepted(
     session: [u8; SESSION_SIZE],
     number: SequenceNumber,
 ) -> Written
-    ensures { λ r. ⌜ Writes r (now (out .entry)) (now (out .exit)) (acceptedGround session (number .0)) 0 (encoded letterAccepted (acceptedPayload session (number .0))) ⌝ }
+    ensures { λ r. ⌜ Writes r (now (out .entry)) (now (out .exit)) (acceptedGround session (number .0)) 0
+        (encoded letterAccepted (acceptedPayload session (number .0))) ⌝ }
     ensures round_trip { λ _. ⌜ AcceptedRoundTrip ⌝ }
 {
     if !session::is_session(&session, false) {
@@ -84,7 +90,8 @@ pub fn write_accepted(
 
 // Writes a login rejected.
 pub fn write_rejected(out: &mut [u8], reason: u8) -> Written
-    ensures { λ r. ⌜ Writes r (now (out .entry)) (now (out .exit)) (reasonGround reason) 0 (encoded letterRejected (reason ∷ [])) ⌝ }
+    ensures { λ r. ⌜ Writes r (now (out .entry)) (now (out .exit)) (reasonGround reason) 0
+        (encoded letterRejected (reason ∷ [])) ⌝ }
     ensures round_trip { λ _. ⌜ RejectedRoundTrip ⌝ }
 {
     if !packet::is_reason(reason) {

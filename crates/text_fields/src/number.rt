@@ -11,7 +11,8 @@ ghost use mathlib.Core.Path.{_≡_};
 ghost use lib.ListN.{replicate};
 ghost use Rattle.text_fields.specs.Letters.{space};
 ghost use Rattle.wire.specs.Output.{Writes};
-ghost use Rattle.text_fields.specs.Number.{numberFieldSize, digitStep, numberStep, numberWords, numberGood, readNumber, numberField, NumberFold, NumberLaws};
+ghost use Rattle.text_fields.specs.Number.{numberFieldSize, digitStep, numberStep, numberWords, numberGood};
+ghost use Rattle.text_fields.specs.Number.{readNumber, numberField, NumberFold, NumberLaws};
 
 // Bytes of a number field.
 pub const NUMBER_FIELD_SIZE: usize = 20;

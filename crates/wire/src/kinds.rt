@@ -15,8 +15,8 @@ pub const LEAST_NUMBER: SequenceNumber = SequenceNumber(1);
 // The largest sequence number, 2^64 - 1.
 pub const LARGEST_NUMBER: SequenceNumber = SequenceNumber(u64::MAX);
 
-// The bounds of a receiver's asking limit, which are the fewest and the most messages that a request asks for: none is 48,
-// and so is 65,535, the count of an end of session.
+// The bounds of a receiver's asking limit, which are the fewest and the most messages that a request asks for: none
+// is 48, and so is 65,535, the count of an end of session.
 pub const LEAST_LIMIT: MessageCount = MessageCount(1);
 
 pub const LARGEST_LIMIT: MessageCount = MessageCount(65534);

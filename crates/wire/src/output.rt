@@ -29,7 +29,7 @@ fn put_number(out: &mut [u8], at: ByteOffset, number: u64, size: usize) -> Writt
         out[from + left] = (rest % 256) as u8;
         rest = rest / 256;
     }
-    Written::Wrote { size: size }
+    Written::Wrote { size }
 }
 
 // Lays a 16-bit number.
@@ -66,5 +66,5 @@ pub fn put_bytes(out: &mut [u8], at: ByteOffset, src: &[u8]) -> Written
         out[from + i] = src[i];
         i += 1;
     }
-    Written::Wrote { size: size }
+    Written::Wrote { size }
 }
