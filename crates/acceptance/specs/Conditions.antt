@@ -10,7 +10,8 @@ use Rattle.receiver.specs.Receiver.{refusalFor, answerOf, receiverAfter}
 use Rattle.receiver.specs.Statements.{Refuses, FollowsTheTable, RequestExactlyWhen}
 use Rattle.receiver.specs.Condition3 as receiver
 use Rattle.receiver.specs.Witnesses.{NotVacuous, NotWeak}
-use Rattle.soupbintcp_writer.specs.RoundTrips.{EveryPacketWritesBack, PayloadRoundTrip, LetterRoundTrip, AcceptedRoundTrip, RejectedRoundTrip, LoginRoundTrip}
+use Rattle.soupbintcp_writer.specs.RoundTrips.{EveryPacketWritesBack, PayloadRoundTrip, LetterRoundTrip}
+use Rattle.soupbintcp_writer.specs.RoundTrips.{AcceptedRoundTrip, RejectedRoundTrip, LoginRoundTrip}
 use Rattle.login.specs.declared.account.Account.{Account}
 use Rattle.login.specs.Account.{VerdictKind}
 use Rattle.login.specs.Statements.{AcceptedExactlyWhen, NeverAccepted}
@@ -39,8 +40,9 @@ pub record HostStates : Type 0 where
   pub client : StatePromises KeepsClient sessionStateSize clientBytes
   pub reading : StatePromises KeepsReading readingSize readingBytes
 
--- Condition 1: a refusal changes neither state nor one lent byte. That every function ends and does nothing undefined, on any bytes, is
--- no statement: each function of each crate is proved, and no public one of a library has a `requires` (docs/ACCEPTANCE.md).
+-- Condition 1: a refusal changes neither state nor one lent byte. That every function ends and does nothing
+-- undefined, on any bytes, is no statement: each function of each crate is proved, and no public one of a library has
+-- a `requires` (docs/ACCEPTANCE.md).
 pub record Condition1 : Type 0 where
   -- every writer: the output is as it was
   pub writers : RefusalWritesNothing
@@ -54,8 +56,9 @@ pub record Condition1 : Type 0 where
   pub host-answers : RefusalChangesNothing
   pub host-states : HostStates
 
--- Condition 2. That bytes are read and written exactly as the layouts say is each reader's and writer's own promise, an equation with
--- its definition: `readOf`, `requestOf` (moldudp64) and `frontOf` (soupbintcp); `packet`, `endPacket`, `header` (moldudp64) and `packet` (soupbintcp_writer).
+-- Condition 2. That bytes are read and written exactly as the layouts say is each reader's and writer's own promise,
+-- an equation with its definition: `downstreamOf`, `requestOf` (moldudp64) and `frontOf` (soupbintcp); `encoded`,
+-- `encodedEnd`, `header` (moldudp64) and `encoded` (soupbintcp_writer).
 pub record Condition2 : Type 0 where
   -- what is written reads back as itself; what is accepted writes back to its own bytes, save the named exceptions
   pub datagrams : PacketRoundTrip
@@ -67,13 +70,16 @@ pub record Condition2 : Type 0 where
   pub accepted : AcceptedRoundTrip
   pub rejected : RejectedRoundTrip
   pub logins : LoginRoundTrip
-  -- a login that isn't refused is accepted exactly when the account, session and number rules hold: as decided, and at the server
+  -- a login that isn't refused is accepted exactly when the account, session and number rules hold: as decided, and
+  -- at the server
   pub decided-exactly-when : AcceptedExactlyWhen
   pub never-accepted : NeverAccepted
   pub accepted-exactly-when : LoginExactlyWhen
   -- nobody is in but by such a login, and messages are handed up only of one who is in
-  pub only-in : (table : List Account) (s : Server) (l : List ℕ) → serverStep table s l .after .state ≡ In → WasIn table s l
-  pub hands-up-only-in : (table : List Account) (s : Server) (l : List ℕ) → serverStep table s l .reply .which ≡ answer unsequenced → s .state ≡ In
+  pub only-in : (table : List Account) (s : Server) (l : List ℕ) → serverStep table s l .after .state ≡ In
+      → WasIn table s l
+  pub hands-up-only-in : (table : List Account) (s : Server) (l : List ℕ)
+      → serverStep table s l .reply .which ≡ answer unsequenced → s .state ≡ In
   -- the receiver answers, and moves its number, exactly as the table says
   pub follows-the-table : FollowsTheTable answerOf receiverAfter
   -- an accepted datagram draws a request exactly when its number lies above the expected one

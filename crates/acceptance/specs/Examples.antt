@@ -105,8 +105,8 @@ allOf b = record { username = replicate usernameSize b; password = replicate pas
 abbrev pub rejectedA : Words session.SessionAnswerKind
 rejectedA = says session.rejected (notAuthorized ∷ [])
 
--- a password of ten such bytes: J with A, where the record has another password, where it has that same one, where a good record follows
--- that one, where the whole record is blank, and where record and entry are such bytes alone
+-- a password of ten such bytes: J with A, where the record has another password, where it has that same one, where a
+-- good record follows that one, where the whole record is blank, and where record and entry are such bytes alone
 abbrev pub never : ℕ → List ExampleRow
 never b =
     exampleRow (logs-in (ann ∷ []) (annWith b)) rejectedA
@@ -124,7 +124,8 @@ rows =
     -- data 2 with 3 messages: n 3 delivers the messages 3 and 4, and n is 5; with n 5 it is old
     ∷ exampleRow (takes 3 100 (data-at 2 (two ∷ three ∷ four ∷ [])))
     (record { reply = says deliver (3 ∷ 2 ∷ 1 ∷ []); delivered = three ∷ four ∷ []; next = 5 })
-    ∷ exampleRow (takes 5 100 (data-at 2 (two ∷ three ∷ four ∷ []))) (record { reply = says old []; delivered = []; next = 5 })
+    ∷ exampleRow (takes 5 100 (data-at 2 (two ∷ three ∷ four ∷ [])))
+    (record { reply = says old []; delivered = []; next = 5 })
     -- n 1, heartbeat 2^64 - 1, limit 65,534: ask 1 for 65,534
     ∷ exampleRow (takes 1 65534 (data-at largestNumber [])) (asked 1 65534)
     -- data at 2^64 - 2: one message is read, two are 14
@@ -134,7 +135,8 @@ rows =
     ∷ exampleRow (reads (replicate 19 0)) (refuses datagramShort)
     ∷ exampleRow (reads (data-at 1 [] ++ (0 ∷ []))) (refuses bytesAfterBlocks)
     -- the number field of 2^64 - 1 is read, with its value; that of 2^64 is 25
-    ∷ exampleRow (fronts (loginStream ann (ascii "18446744073709551615"))) (says (packet login) ((headSize + loginPayloadSize) ∷ largestNumber ∷ []))
+    ∷ exampleRow (fronts (loginStream ann (ascii "18446744073709551615")))
+    (says (packet login) ((headSize + loginPayloadSize) ∷ largestNumber ∷ []))
     ∷ exampleRow (fronts (loginStream ann (ascii "18446744073709551616"))) (refuses fieldBad)
     -- the right password is accepted; ten zero bytes and ten spaces are not
     ∷ exampleRow (logs-in (ann ∷ []) ann) (says session.accepted (5 ∷ []))

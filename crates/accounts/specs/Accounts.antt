@@ -33,8 +33,9 @@ unfoldable pub flat : List Account → List ℕ
 flat [] = []
 flat (a ∷ t) = a .username ++ a .password ++ flat t
 
--- with bytes left over, which are no record, they are the same records, and so give the same answers; and every table that is lent as
--- bytes holds such records
+-- with bytes left over, which are no record, they are the same records, and so give the same answers; and every table
+-- that is lent as bytes holds such records
 pub record FlatIsTheSame : Type 0 where
-  pub records : (t : List Account) (left : List ℕ) → AllSized t → length left < accountSize → accountsOf (flat t ++ left) ≡ t
+  pub records : (t : List Account) (left : List ℕ) → AllSized t → length left < accountSize
+      → accountsOf (flat t ++ left) ≡ t
   pub sized : (l : List ℕ) → AllSized (accountsOf l)

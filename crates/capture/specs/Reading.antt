@@ -95,7 +95,8 @@ endAtStage Refused x left = reading Refused x
 
 -- the last bytes
 unfoldable pub finishOf : Reading → List ℕ → Reading
-finishOf s l = endAtStage (advanceOf s l .reading .stage) (advanceOf s l .reading .report) (length l - advanceOf s l .used)
+finishOf s l =
+    endAtStage (advanceOf s l .reading .stage) (advanceOf s l .reading .report) (length l - advanceOf s l .used)
 
 -- what it prints: while no settings were read, that they are refused
 unfoldable pub textAt : Stage → Report → List ℕ

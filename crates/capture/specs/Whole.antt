@@ -29,7 +29,8 @@ recordsReport r l = if isCut l then summedCut r (recordsOf l) else summed r (rec
 -- the settings start the receiver, and the records follow; bad settings are refused alone
 unfoldable pub captureOf : List ℕ → Reading
 captureOf l =
-    if eqb (settingsOf l .refusal .number) 0 then reading Done (recordsReport (startedOf (settingsOf l .settings)) (drop (settingsOf l .size) l))
+    if eqb (settingsOf l .refusal .number) 0
+    then reading Done (recordsReport (startedOf (settingsOf l .settings)) (drop (settingsOf l .size) l))
     else reading Refused (freshOf refusedReceiver)
 
 -- what the capture program prints
@@ -38,8 +39,8 @@ captureText l = textOf (captureOf l)
 
 -- ---- pieces
 
--- what a program does with pieces ps, where it kept the bytes l: each piece is fed behind what was kept, and what isn't used is
--- kept; what is left at the end is finished
+-- what a program does with pieces ps, where it kept the bytes l: each piece is fed behind what was kept, and what
+-- isn't used is kept; what is left at the end is finished
 unfoldable pub byPieces : Reading → List ℕ → List (List ℕ) → Reading
 byPieces s l [] = finishOf s l
 byPieces s l (p ∷ ps) = byPieces (feedOf s (l ++ p) .reading) (drop (feedOf s (l ++ p) .used) (l ++ p)) ps
@@ -57,18 +58,20 @@ StartTakesSettings = (l : List ℕ) → settingsOf l .refusal .number ≡ 0
 abbrev pub mostKept : ℕ
 mostKept = largestLength + lengthSize - 1
 
--- feeding uses what is there: while more records may be read, it leaves less than a record, so the memory needed is constant. Once
--- 2^32 - 1 records were read no byte is used any more: a caller that keeps what isn't used keeps all that follows, and has to stop
--- reading there, as a program does whose buffer is full
+-- feeding uses what is there: while more records may be read, it leaves less than a record, so the memory needed is
+-- constant. Once 2^32 - 1 records were read no byte is used any more: a caller that keeps what isn't used keeps all
+-- that follows, and has to stop reading there, as a program does whose buffer is full
 pub record KeepsLittle (s : Reading) (l : List ℕ) : Type 0 where
   pub used-within : feedOf s l .used ≤ length l
-  pub little : AreBytes l → feedOf s l .reading .report .records < mostRecords → length (drop (feedOf s l .used) l) ≤ mostKept
+  pub little : AreBytes l → feedOf s l .reading .report .records < mostRecords
+      → length (drop (feedOf s l .used) l) ≤ mostKept
 
 -- what is over stays as it is
 unfoldable pub OverStays : Type 0
 OverStays = (s : Reading) (l : List ℕ) → isOver (s .stage) ≡ true → (feedOf s l ≡ fed s (length l)) × (finishOf s l ≡ s)
 
--- every report fits: what any reading prints whose receiver's name has ten bytes, as its type holds, and what any capture prints
+-- every report fits: what any reading prints whose receiver's name has ten bytes, as its type holds, and what any
+-- capture prints
 pub record FitsTheRoom : Type 0 where
   pub any-reading : (s : Reading) → length (s .report .receiver .session) ≡ sessionSize → length (textOf s) ≤ room
   pub any-capture : (l : List ℕ) → length (captureText l) ≤ room

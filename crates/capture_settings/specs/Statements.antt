@@ -6,7 +6,8 @@ use mathlib.Core.Path.{_≡_}
 use lib.ListN.{length, drop}
 use Rattle.wire.specs.Bounds.{leastNumber, largestNumber, leastLimit, largestLimit, sessionSize}
 use Rattle.decimal.specs.Decimal.{digits}
-use Rattle.capture_settings.specs.Settings.{sessionKey, nextKey, limitKey, lineFeed, isPrintable, settings, fixedSize, settingsOf}
+use Rattle.capture_settings.specs.Settings.{sessionKey, nextKey, limitKey, lineFeed, isPrintable, settings}
+use Rattle.capture_settings.specs.Settings.{fixedSize, settingsOf}
 
 -- a line
 abbrev pub line : List ℕ → List ℕ → List ℕ
@@ -34,9 +35,14 @@ pub record ReadSo (l : List ℕ) (name : List ℕ) (n limit size : ℕ) : Type 0
 pub record ReadsExactly : Type 0 where
   pub reads : (name : List ℕ) (n limit : ℕ) (rest : List ℕ) → Good name n limit
       → settingsOf (settingsText name n limit ++ rest)
-      ≡ record { refusal = record { number = 0 }; settings = settings name n limit; size = length (settingsText name n limit) }
+      ≡ record {
+        refusal = record { number = 0 };
+        settings = settings name n limit;
+        size = length (settingsText name n limit);
+      }
   pub only : (l : List ℕ) → settingsOf l .refusal .number ≡ 0
-      → ReadSo l (settingsOf l .settings .session) (settingsOf l .settings .next .0) (settingsOf l .settings .limit .0) (settingsOf l .size)
+      → ReadSo l (settingsOf l .settings .session) (settingsOf l .settings .next .0)
+      (settingsOf l .settings .limit .0) (settingsOf l .size)
 
 -- the most bytes that good settings take: 2^64 - 1 has 20 digits, 65,534 has 5, and a line feed follows each
 abbrev pub longest : ℕ

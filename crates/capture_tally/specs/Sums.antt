@@ -25,18 +25,21 @@ unfoldable pub sumOf : (Tally → ℕ) → List (Words AnswerKind) → ℕ
 sumOf part [] = 0
 sumOf part (w ∷ ws) = part (partsOf w) + sumOf part ws
 
--- the report of a list of datagrams: the receiver after it, as many records, the messages that condition 3 delivers, and the sums
+-- the report of a list of datagrams: the receiver after it, as many records, the messages that condition 3 delivers,
+-- and the sums
 abbrev pub summed : Receiver → List Datagram → Report
 summed r ds =
     report (after plain r ds) (length ds)
-    (tally (length (delivered plain r ds)) (sumOf (λ t. t .old) (answersOf r ds)) (sumOf (λ t. t .quiet) (answersOf r ds))
+    (tally (length (delivered plain r ds)) (sumOf (λ t. t .old) (answersOf r ds))
+    (sumOf (λ t. t .quiet) (answersOf r ds))
     (sumOf (λ t. t .asked) (answersOf r ds)) (sumOf (λ t. t .refused) (answersOf r ds)))
 
 -- and with a record after it that is cut short
 abbrev pub summedCut : Receiver → List Datagram → Report
 summedCut r ds =
     report (after plain r ds) (length ds + 1)
-    (tally (length (delivered plain r ds)) (sumOf (λ t. t .old) (answersOf r ds)) (sumOf (λ t. t .quiet) (answersOf r ds))
+    (tally (length (delivered plain r ds)) (sumOf (λ t. t .old) (answersOf r ds))
+    (sumOf (λ t. t .quiet) (answersOf r ds))
     (sumOf (λ t. t .asked) (answersOf r ds)) (sumOf (λ t. t .refused) (answersOf r ds) + 1))
 
 -- for every receiver and every list that isn't too long, with a cut record after it or without: no sum is capped

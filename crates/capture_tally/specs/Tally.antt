@@ -39,5 +39,6 @@ upTo a b = if ltb largest (a + b) then largest else a + b
 -- two tallies together
 abbrev pub plusOf : Tally → Tally → Tally
 plusOf x y =
-    tally (upTo (x .delivered) (y .delivered)) (upTo (x .old) (y .old)) (upTo (x .quiet) (y .quiet)) (upTo (x .asked) (y .asked))
+    tally (upTo (x .delivered) (y .delivered)) (upTo (x .old) (y .old)) (upTo (x .quiet) (y .quiet))
+    (upTo (x .asked) (y .asked))
     (upTo (x .refused) (y .refused))

@@ -20,11 +20,13 @@ pub record TakeCall (l : List ℕ) (d : Datagram) (m : List ℕ) : Type 0 where
   pub answers : Answers code words laid false answerNumber 4 (answerOf (receiverIn l) d)
   pub keeps : KeepsReceiver code l m (receiverAfter (receiverIn l) d)
 
--- a list of datagrams: the first call is lent the bytes l, each later one those that the call before left, and the last leaves m
+-- a list of datagrams: the first call is lent the bytes l, each later one those that the call before left, and the
+-- last leaves m
 pub data Handed : List ℕ → List Datagram → List ℕ → Type 0 where
   none : {l : List ℕ} → Handed l [] l
   one : {l m n : List ℕ} {d : Datagram} {ds : List Datagram} → TakeCall l d m → Handed m ds n → Handed l (d ∷ ds) n
 
 -- the receiver in the bytes that are left is the one that condition 3 speaks of, for every list, whatever was refused
 unfoldable pub HandsOn : Type 0
-HandsOn = (l m : List ℕ) (ds : List Datagram) → receiverSize ≤ length l → Handed l ds m → receiverIn m ≡ after plain (receiverIn l) ds
+HandsOn = (l m : List ℕ) (ds : List Datagram) → receiverSize ≤ length l → Handed l ds m
+    → receiverIn m ≡ after plain (receiverIn l) ds

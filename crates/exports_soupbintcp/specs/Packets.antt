@@ -25,7 +25,8 @@ frontNumber wants-more = 0
 abbrev pub scanWords : Scan → List ℕ
 scanWords x = x .packets ∷ x .bytes ∷ x .stop .refusal ∷ []
 
--- ---- what is promised: the numbers tell all packets, and that more is needed, apart, and there is a word for each value
+-- ---- what is promised: the numbers tell all packets, and that more is needed, apart, and there is a word for each
+-- value
 
 pub record FrontsApart : Type 0 where
   pub numbers : Injective frontNumber

@@ -53,7 +53,8 @@ pub record AnswersWith (r : ℕ) (ws ws′ : List ℕ) (lacks : Bool) (g : ℕ) 
 abbrev pub Answers : {K : Type 0} → ℕ → List ℕ → List ℕ → Bool → (K → ℕ) → ℕ → Words K → Type 0
 Answers r ws ws′ lacks table n w = AnswersWith r ws ws′ lacks (w .refusal) (wordsOf table n w)
 
--- a writer: g is its own ground and bs are its bytes. The output l becomes l′, and the words say how many bytes were written
+-- a writer: g is its own ground and bs are its bytes. The output l becomes l′, and the words say how many bytes were
+-- written
 pub record AnswersWriting (r : ℕ) (ws ws′ l l′ : List ℕ) (lacks : Bool) (g : ℕ) (bs : List ℕ) : Type 0 where
   pub returns : r ≡ codeOf (lacks || ltb (length ws) 1) (writeRefusal g l 0 bs)
   pub words : ws′ ≡ onSuccess r (put ws 0 (length bs ∷ [])) ws
@@ -63,15 +64,19 @@ pub record AnswersWriting (r : ℕ) (ws ws′ l l′ : List ℕ) (lacks : Bool) 
 
 -- a refusal changes no word and no byte of an output, whatever the function
 pub record RefusalChangesNothing : Type 0 where
-  pub words : (r : ℕ) (ws ws′ : List ℕ) (lacks : Bool) (g : ℕ) (vs : List ℕ) → AnswersWith r ws ws′ lacks g vs → (r ≡ 0 → ⊥) → ws′ ≡ ws
-  pub writing : (r : ℕ) (ws ws′ l l′ : List ℕ) (lacks : Bool) (g : ℕ) (bs : List ℕ) → AnswersWriting r ws ws′ l l′ lacks g bs → (r ≡ 0 → ⊥)
+  pub words : (r : ℕ) (ws ws′ : List ℕ) (lacks : Bool) (g : ℕ) (vs : List ℕ) → AnswersWith r ws ws′ lacks g vs
+      → (r ≡ 0 → ⊥) → ws′ ≡ ws
+  pub writing : (r : ℕ) (ws ws′ l l′ : List ℕ) (lacks : Bool) (g : ℕ) (bs : List ℕ)
+      → AnswersWriting r ws ws′ l l′ lacks g bs → (r ≡ 0 → ⊥)
       → (ws′ ≡ ws) × (l′ ≡ l)
 
--- a success lays all of its words and changes none behind them; what is written stands in front, and nothing behind it changes
+-- a success lays all of its words and changes none behind them; what is written stands in front, and nothing behind
+-- it changes
 pub record SuccessLaysItsWords : Type 0 where
   pub words : (r : ℕ) (ws ws′ : List ℕ) (lacks : Bool) (g : ℕ) (vs : List ℕ) → AnswersWith r ws ws′ lacks g vs → r ≡ 0
       → ws′ ≡ vs ++ drop (length vs) ws
-  pub writing : (r : ℕ) (ws ws′ l l′ : List ℕ) (lacks : Bool) (g : ℕ) (bs : List ℕ) → AnswersWriting r ws ws′ l l′ lacks g bs → r ≡ 0
+  pub writing : (r : ℕ) (ws ws′ l l′ : List ℕ) (lacks : Bool) (g : ℕ) (bs : List ℕ)
+      → AnswersWriting r ws ws′ l l′ lacks g bs → r ≡ 0
       → (ws′ ≡ length bs ∷ drop 1 ws) × (l′ ≡ bs ++ drop (length bs) l)
 
 pub record HostPromises : Type 0 where

@@ -10,9 +10,10 @@ use Rattle.wire.specs.Bytes.{bytes}
 use Rattle.wire.specs.Output.{put}
 use Rattle.host_answers.specs.Answers.{onSuccess}
 
--- the promise of keeping a state x, whose bytes are bs, as many as its layout has, in the bytes l, which become m: they change on
--- success alone, and then the state that is read from them is x
-pub record Keeps {S : Type 0} (code : ℕ) (l m : List ℕ) (size : ℕ) (reads : List ℕ → S) (bs : List ℕ) (x : S) : Type 0 where
+-- the promise of keeping a state x, whose bytes are bs, as many as its layout has, in the bytes l, which become m:
+-- they change on success alone, and then the state that is read from them is x
+pub record Keeps {S : Type 0} (code : ℕ) (l m : List ℕ) (size : ℕ) (reads : List ℕ → S) (bs : List ℕ)
+    (x : S) : Type 0 where
   pub fits : length bs ≡ size
   pub leaves : m ≡ onSuccess code (put l 0 bs) l
   pub reads-back : code ≡ 0 → size ≤ length l → reads m ≡ x
@@ -25,10 +26,12 @@ Stays {S} keeps = (code : ℕ) (l m : List ℕ) (x : S) → keeps code l m x →
 
 -- a success lays the bytes of the state in front, and changes none behind them
 abbrev pub Stands : {S : Type 0} → (ℕ → List ℕ → List ℕ → S → Type 0) → ℕ → (S → List ℕ) → Type 0
-Stands {S} keeps size bytesOf = (code : ℕ) (l m : List ℕ) (x : S) → keeps code l m x → code ≡ 0 → size ≤ length l → m ≡ bytesOf x ++ drop size l
+Stands {S} keeps size bytesOf = (code : ℕ) (l m : List ℕ) (x : S) → keeps code l m x → code ≡ 0 → size ≤ length l
+    → m ≡ bytesOf x ++ drop size l
 
 -- both
-pub record StatePromises {S : Type 0} (keeps : ℕ → List ℕ → List ℕ → S → Type 0) (size : ℕ) (bytesOf : S → List ℕ) : Type 0 where
+pub record StatePromises {S : Type 0} (keeps : ℕ → List ℕ → List ℕ → S → Type 0) (size : ℕ)
+    (bytesOf : S → List ℕ) : Type 0 where
   pub stays : Stays keeps
   pub stands : Stands keeps size bytesOf
 

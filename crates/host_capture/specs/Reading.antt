@@ -59,12 +59,14 @@ stageByte Refused = 0
 
 unfoldable pub tallyBytes : Tally → List ℕ
 tallyBytes t =
-    bytes tallySize (t .delivered) ++ bytes tallySize (t .old) ++ bytes tallySize (t .quiet) ++ bytes tallySize (t .asked)
+    bytes tallySize (t .delivered) ++ bytes tallySize (t .old) ++ bytes tallySize (t .quiet)
+    ++ bytes tallySize (t .asked)
     ++ bytes tallySize (t .refused)
 
 unfoldable pub tallyIn : List ℕ → Tally
 tallyIn l =
-    tally (number l deliveredAt tallySize) (number l oldAt tallySize) (number l quietAt tallySize) (number l askedAt tallySize)
+    tally (number l deliveredAt tallySize) (number l oldAt tallySize) (number l quietAt tallySize)
+    (number l askedAt tallySize)
     (number l refusedAt tallySize)
 
 -- what follows the receiver: the byte of the stage, the records, the counts
@@ -72,12 +74,14 @@ unfoldable pub restBytes : ℕ → ℕ → Tally → List ℕ
 restBytes stage n t = (stage ∷ []) ++ bytes tallySize n ++ tallyBytes t
 
 unfoldable pub readingBytes : declared.Reading → List ℕ
-readingBytes x = receiverBytes (x .report .receiver) ++ restBytes (stageByte (x .stage)) (x .report .records) (x .report .tally)
+readingBytes x =
+    receiverBytes (x .report .receiver) ++ restBytes (stageByte (x .stage)) (x .report .records) (x .report .tally)
 
 -- any bytes are one; more records than are read count as the most
 unfoldable pub readingIn : List ℕ → declared.Reading
 readingIn l =
-    reading (stageOf (getD l stageAt 0)) (report (receiverIn l) (min (number l recordsAt tallySize) mostRecords) (tallyIn l))
+    reading (stageOf (getD l stageAt 0))
+    (report (receiverIn l) (min (number l recordsAt tallySize) mostRecords) (tallyIn l))
 
 abbrev pub KeepsReading : ℕ → List ℕ → List ℕ → declared.Reading → Type 0
 KeepsReading code l m x = Keeps code l m readingSize readingIn (readingBytes x) x

@@ -12,7 +12,11 @@ use Rattle.host_session.specs.Session.{sessionStateSize, sessionFields, session
 
 -- 1 asked, 2 in, 3 ended; every other byte is closed
 unfoldable pub clientStateOf : ℕ → ClientState
-clientStateOf b = if eqb b 1 then state.Asked else if eqb b 2 then state.In else if eqb b 3 then state.Ended else state.Closed
+clientStateOf b =
+    if eqb b 1 then state.Asked
+    else if eqb b 2 then state.In
+    else if eqb b 3 then state.Ended
+    else state.Closed
 
 unfoldable pub clientStateByte : ClientState → ℕ
 clientStateByte state.Asked = 1

@@ -24,7 +24,9 @@ receiverBytes r = frontBytes (r .session) (r .next .0) ++ bytes countSize (r .li
 
 -- any bytes are one
 unfoldable pub receiverIn : List ℕ → declared.Receiver
-receiverIn l = receiver (firstBytes sessionSize l) (number l frontNumberAt numberSize) (number l limitAt countSize) (flagOf (getD l endedAt 0))
+receiverIn l =
+    receiver (firstBytes sessionSize l) (number l frontNumberAt numberSize) (number l limitAt countSize)
+    (flagOf (getD l endedAt 0))
 
 abbrev pub KeepsReceiver : ℕ → List ℕ → List ℕ → declared.Receiver → Type 0
 KeepsReceiver code l m r = Keeps code l m receiverSize receiverIn (receiverBytes r) r

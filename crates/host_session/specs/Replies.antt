@@ -4,7 +4,9 @@ use mathlib.Core.List.{_∷_}
 use lib.ListN.{length}
 use Rattle.wire.specs.Words.{Words, Injective}
 use Rattle.soupbintcp_session.specs.declared.answer.Answer.{Answer}
-use Rattle.soupbintcp_session.specs.Answer.{sessionAnswerWords, SessionAnswerKind, wants-more, accepted, rejected, sequenced, unsequenced, heartbeat, debug, logged-out, end-of-session, StepOutcome}
+use Rattle.soupbintcp_session.specs.Answer.{sessionAnswerWords, SessionAnswerKind, wants-more, accepted, rejected}
+use Rattle.soupbintcp_session.specs.Answer.{sequenced, unsequenced, heartbeat, debug, logged-out, end-of-session}
+use Rattle.soupbintcp_session.specs.Answer.{StepOutcome}
 
 unfoldable pub sessionAnswerNumber : SessionAnswerKind → ℕ
 sessionAnswerNumber wants-more = 0

@@ -44,7 +44,8 @@ hasPassword a e = if soundAccount e then sameText (a .password) (e .password) el
 abbrev pub mostAccounts : ℕ
 mostAccounts = 1024
 
--- the first sound record with the username decides; no such record, another password, or an unsound entry: it isn't known
+-- the first sound record with the username decides; no such record, another password, or an unsound entry: it isn't
+-- known
 unfoldable pub isKnown : List Account → Account → Bool
 isKnown [] e = false
 isKnown (a ∷ t) e = if isOf a e then hasPassword a e else isKnown t e

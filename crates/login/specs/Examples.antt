@@ -19,7 +19,8 @@ filled size text = text ++ replicate (size - length text) space
 abbrev pub account : List ℕ → List ℕ → Account
 account username password = record { username = filled usernameSize username; password = filled passwordSize password }
 
--- `ann` with the password `pw1`, in small letters and in capitals; with another password; and with none, which isn't sound
+-- `ann` with the password `pw1`, in small letters and in capitals; with another password; and with none, which isn't
+-- sound
 abbrev pub ann : Account
 ann = account (ascii "ann") (ascii "pw1")
 
@@ -43,6 +44,10 @@ small = ascii "readroom01"
 abbrev pub attempts : List Account → Account → List ℕ → ℕ → Attempt
 attempts t e asked wanted = record { table = t; entry = e; asked = asked; wanted = wanted; session = ours; last = 5 }
 
+-- any number, where there is no message yet
+abbrev pub noMessageYet : Attempt
+noMessageYet = record { table = ann ∷ []; entry = ann; asked = ours; wanted = 0; session = ours; last = 0 }
+
 pub record LoginExamples : Type 0 where
   -- letters compare without case
   pub case-differs : loginOf (attempts (ann ∷ []) ANN ours 3) ≡ says accepted (3 ∷ [])
@@ -59,4 +64,4 @@ pub record LoginExamples : Type 0 where
   pub wanted-none : loginOf (attempts (ann ∷ []) ann ours 0) ≡ says accepted (5 ∷ [])
   pub wanted-next : loginOf (attempts (ann ∷ []) ann ours 6) ≡ says accepted (6 ∷ [])
   pub wanted-beyond : loginOf (attempts (ann ∷ []) ann ours 7) ≡ rejects sessionNotAvailable
-  pub no-message-yet : loginOf (record { table = ann ∷ []; entry = ann; asked = ours; wanted = 0; session = ours; last = 0 }) ≡ says accepted (1 ∷ [])
+  pub no-message-yet : loginOf noMessageYet ≡ says accepted (1 ∷ [])

@@ -68,8 +68,8 @@ pub record Rules (x : Attempt) : Type 0 where
 
 -- ---- what is promised
 
--- accepted with the granted number if all three hold, and only then; J with A where the account rule doesn't; J with S where it does
--- and another doesn't
+-- accepted with the granted number if all three hold, and only then; J with A where the account rule doesn't; J with
+-- S where it does and another doesn't
 pub record AcceptedExactlyWhen : Type 0 where
   pub when : (x : Attempt) → NotRefused x → Rules x → loginOf x ≡ says accepted (granted (x .wanted) (x .last) ∷ [])
   pub only-when : (x : Attempt) → loginOf x .which ≡ answer accepted → Rules x

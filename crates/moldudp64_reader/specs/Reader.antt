@@ -28,7 +28,10 @@ pub record StandsAt (l : List ℕ) (i : ℕ) (c : Cursor) : Type 0 where
 unfoldable pub ReadsTheMessages : Type 0
 ReadsTheMessages = (l : List ℕ) (i : ℕ) → StandsAt l i (advancedBy i l (startOf l))
 
--- one that is made from a deliver answer, and moved on i times, stands at message skipped + i, which has the number first + i
+-- one that is made from a deliver answer, and moved on i times, stands at message skipped + i, which has the number
+-- first + i
 unfoldable pub ReadsTheDelivery : Type 0
-ReadsTheDelivery = (r : Receiver) (l : List ℕ) (first count skipped i : ℕ) → AreBytes l → answerOf r l ≡ says deliver (first ∷ count ∷ skipped ∷ [])
-    → StandsAt l (skipped + i) (advancedBy i l (deliveryCursor l count skipped)) × (messageNumber l (skipped + i) ≡ first + i)
+ReadsTheDelivery = (r : Receiver) (l : List ℕ) (first count skipped i : ℕ) → AreBytes l
+    → answerOf r l ≡ says deliver (first ∷ count ∷ skipped ∷ [])
+    → StandsAt l (skipped + i) (advancedBy i l (deliveryCursor l count skipped))
+    × (messageNumber l (skipped + i) ≡ first + i)

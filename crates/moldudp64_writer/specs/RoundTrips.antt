@@ -9,13 +9,15 @@ use Rattle.wire.specs.Words.{says}
 use Rattle.wire.specs.Bytes.{joined, AreBytes}
 use Rattle.wire.specs.Output.{wrote, put, writeAnswer, writeOutput}
 use Rattle.moldudp64.specs.Header.{numberOf, countOf, header}
-use Rattle.moldudp64.specs.Downstream.{DownstreamKind, data-packet, heartbeat, end-of-session, kindOf, refusalOf, downstreamOf, downstreamSession, messagesOf}
+use Rattle.moldudp64.specs.Downstream.{DownstreamKind, data-packet, heartbeat, end-of-session, kindOf, refusalOf}
+use Rattle.moldudp64.specs.Downstream.{downstreamOf, downstreamSession, messagesOf}
 use Rattle.moldudp64.specs.Written.{encodedEnd}
 use Rattle.moldudp64_writer.specs.Writer.{encodedCut, cut, lengthsOf, packetGround, endGround}
 use Rattle.moldudp64.specs.Request.{wanted, requestGround, requestRefusal, requestOf, requestSession}
 
 -- the bytes p read as a datagram of this session, kind, values and messages
-pub record DatagramReadsAs (p session : List ℕ) (kind : DownstreamKind) (values : List ℕ) (ms : List (List ℕ)) : Type 0 where
+pub record DatagramReadsAs (p session : List ℕ) (kind : DownstreamKind) (values : List ℕ)
+    (ms : List (List ℕ)) : Type 0 where
   pub says-so : downstreamOf p ≡ says kind values
   pub its-session : downstreamSession p ≡ session
   pub its-messages : messagesOf p ≡ ms
@@ -62,7 +64,8 @@ pub record PacketFits (l : List ℕ) : Type 0 where
 unfoldable pub EndReadsBack : Type 0
 EndReadsBack = (l session : List ℕ) (n size : ℕ) → length session ≡ sessionSize → n < 2 ^ 64
     → writeAnswer (endGround n) l 0 (encodedEnd session n) ≡ says wrote (size ∷ [])
-    → DatagramReadsAs (take size (writeOutput (endGround n) l 0 (encodedEnd session n))) session end-of-session (n ∷ []) []
+    → DatagramReadsAs (take size (writeOutput (endGround n) l 0 (encodedEnd session n))) session end-of-session
+    (n ∷ []) []
 
 -- an end of session that is accepted is what the writer writes of its parts
 unfoldable pub EndWritesBack : Type 0

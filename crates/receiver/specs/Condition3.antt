@@ -22,9 +22,11 @@ machineOf answers step =
 abbrev pub plain : Machine Datagram
 plain = machineOf answerOf receiverAfter
 
--- for every session, and every receiver that is started on its name, without refusal, at a number from 1 to one past the last
+-- for every session, and every receiver that is started on its name, without refusal, at a number from 1 to one past
+-- the last
 unfoldable pub Condition3For : AnswerRule → StepRule → Type 0
-Condition3For answers step = (s : Session) (start limit : ℕ) → receiverStartRefusal start limit ≡ 0 → 1 ≤ start → start ≤ lastOf s + 1
+Condition3For answers step = (s : Session) (start limit : ℕ) → receiverStartRefusal start limit ≡ 0 → 1 ≤ start
+    → start ≤ lastOf s + 1
     → Faithful (machineOf answers step) s start (startReceiver (s .name) start limit)
 
 -- condition 3 of the receiver of the table

@@ -1,5 +1,5 @@
--- The words of condition 3 that hold for every receiver: a session, a datagram of condition 3's kind, and what a receiver
--- delivers over a list of datagrams.
+-- The words of condition 3 that hold for every receiver: a session, a datagram of condition 3's kind, and what a
+-- receiver delivers over a list of datagrams.
 use Prim.Native.Nat.{ℕ, _+_, _-_, _<_, _≤_}
 use mathlib.Core.Path.{_≡_}
 use mathlib.Core.List.{List, [], _∷_, _++_, List·Memᴰ}
@@ -7,7 +7,8 @@ use mathlib.Core.Bool.{Bool, true}
 use lib.ListN.{length, take, drop, getD}
 use Rattle.wire.specs.Bounds.{sessionSize}
 use Rattle.moldudp64.specs.Header.{numberOf}
-use Rattle.moldudp64.specs.Downstream.{data-packet, heartbeat, end-of-session, kindOf, refusalOf, messagesOf, messageNumber}
+use Rattle.moldudp64.specs.Downstream.{data-packet, heartbeat, end-of-session, kindOf, refusalOf, messagesOf}
+use Rattle.moldudp64.specs.Downstream.{messageNumber}
 
 abbrev pub Message : Type 0
 Message = List ℕ
@@ -39,7 +40,8 @@ pub data OfKind (s : Session) (d : Datagram) : Type 0 where
   not-well-formed : (refusalOf d ≡ 0 → ⊥) → OfKind s d
   another-name : (take sessionSize d ≡ s .name → ⊥) → OfKind s d
   any-heartbeat : kindOf d ≡ heartbeat → OfKind s d
-  true-data : kindOf d ≡ data-packet → ((i : ℕ) → i < length (messagesOf d) → IsMessage s (messageNumber d i) (getD (messagesOf d) i []))
+  true-data : kindOf d ≡ data-packet
+      → ((i : ℕ) → i < length (messagesOf d) → IsMessage s (messageNumber d i) (getD (messagesOf d) i []))
       → OfKind s d
   true-end : kindOf d ≡ end-of-session → numberOf d ≡ lastOf s + 1 → OfKind s d
 
@@ -50,8 +52,9 @@ All {E} Kind es = (e : E) → List·Memᴰ e es → Kind e
 abbrev pub AllOfKind : Session → List Datagram → Type 0
 AllOfKind s ds = All (OfKind s) ds
 
--- a receiver, whatever it keeps, that takes inputs of a type E one by one: what it is after one, what that one delivers, the
--- receiver's number, whether it is ended. Condition 3 is stated below for a receiver of datagrams alone, E = Datagram
+-- a receiver, whatever it keeps, that takes inputs of a type E one by one: what it is after one, what that one
+-- delivers, the receiver's number, whether it is ended. Condition 3 is stated below for a receiver of datagrams
+-- alone, E = Datagram
 pub record Machine (E : Type 0) : Type 1 where
   pub State : Type 0
   pub step : State → E → State

@@ -11,14 +11,16 @@ use Rattle.wire.specs.Bounds.{leastNumber, largestNumber, leastLimit, largestLi
 use Rattle.wire.specs.Words.{Words, refuses}
 use Rattle.wire.specs.Bytes.{sameBytes}
 use Rattle.moldudp64.specs.Header.{numberOf, countOf}
-use Rattle.moldudp64.specs.Downstream.{DownstreamKind, data-packet, heartbeat, end-of-session, kindOf, wellFormed, refusalOf}
+use Rattle.moldudp64.specs.Downstream.{DownstreamKind, data-packet, heartbeat, end-of-session, kindOf, wellFormed}
+use Rattle.moldudp64.specs.Downstream.{refusalOf}
 use Rattle.receiver.specs.declared.receiver.Receiver.{Receiver}
 use Rattle.receiver.specs.declared.receiver.Taken.{Taken}
 use Rattle.receiver.specs.Table.{AnswerKind, Outcome, table, answerWords}
 
 -- a receiver of this name, number, limit, ended or not
 abbrev pub receiver : List ℕ → ℕ → ℕ → Bool → Receiver
-receiver name n limit over = record { session = name; next = record { 0 = n }; limit = record { 0 = limit }; ended = over }
+receiver name n limit over =
+    record { session = name; next = record { 0 = n }; limit = record { 0 = limit }; ended = over }
 
 -- ---- the start
 
@@ -37,7 +39,8 @@ refusedReceiver = receiver blank 1 1 true
 
 -- a fresh receiver, or the refused one
 unfoldable pub startReceiver : List ℕ → ℕ → ℕ → Receiver
-startReceiver name n limit = if eqb (receiverStartRefusal n limit) 0 then receiver name n limit false else refusedReceiver
+startReceiver name n limit =
+    if eqb (receiverStartRefusal n limit) 0 then receiver name n limit false else refusedReceiver
 
 -- ---- a datagram l
 

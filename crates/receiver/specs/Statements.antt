@@ -35,12 +35,13 @@ pub record FollowsTheTable (answers : AnswerRule) (step : StepRule) : Type 0 whe
   pub refused : (r : Receiver) (l : List ℕ) → (refusalFor r l ≡ 0 → ⊥) → Refuses answers step r l
   pub accepts : (r : Receiver) (l : List ℕ) → refusalFor r l ≡ 0 → Follows answers step r l
 
--- an accepted datagram draws a request exactly when its number lies above the expected one: then from that one, for the smaller
--- of the distance and the limit
+-- an accepted datagram draws a request exactly when its number lies above the expected one: then from that one, for
+-- the smaller of the distance and the limit
 pub record RequestExactlyWhen (answers : AnswerRule) : Type 0 where
   pub when : (r : Receiver) (l : List ℕ) → refusalFor r l ≡ 0 → r .next .0 < numberOf l
       → answers r l ≡ says ask (r .next .0 ∷ askFor (r .limit .0) (r .next .0) (numberOf l) ∷ [])
-  pub only-when : (r : Receiver) (l : List ℕ) → refusalFor r l ≡ 0 → answers r l .which ≡ answer ask → r .next .0 < numberOf l
+  pub only-when : (r : Receiver) (l : List ℕ) → refusalFor r l ≡ 0 → answers r l .which ≡ answer ask
+      → r .next .0 < numberOf l
 
 -- the number never falls
 abbrev pub NumberNeverFalls : StepRule → Type 0
@@ -48,7 +49,8 @@ NumberNeverFalls step = (r : Receiver) (l : List ℕ) → r .next .0 ≤ step r 
 
 -- the request for an ask of a receiver whose settings are good is never refused
 abbrev pub AskIsARequest : AnswerRule → Type 0
-AskIsARequest answers = (r : Receiver) (l : List ℕ) (from count : ℕ) → receiverStartRefusal (r .next .0) (r .limit .0) ≡ 0
+AskIsARequest answers = (r : Receiver) (l : List ℕ) (from count : ℕ)
+    → receiverStartRefusal (r .next .0) (r .limit .0) ≡ 0
     → answers r l ≡ says ask (from ∷ count ∷ []) → requestGround from count ≡ 0
 
 -- settings that are good stay good, so that this holds after any list

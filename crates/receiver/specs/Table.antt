@@ -55,7 +55,10 @@ endedOutcome n = record { reply = says ended []; next = n; ends = true }
 
 -- the table; an end of session below n is refused and does not reach it
 unfoldable pub table : ℕ → ℕ → DownstreamKind → ℕ → ℕ → Outcome
-table limit n data-packet f c = if ltb n f then askOutcome limit n f else if ltb n (f + c) then deliverOutcome n f c else oldOutcome n
+table limit n data-packet f c =
+    if ltb n f then askOutcome limit n f
+    else if ltb n (f + c) then deliverOutcome n f c
+    else oldOutcome n
 table limit n heartbeat f c = if ltb n f then askOutcome limit n f else if ltb f n then oldOutcome n else quietOutcome n
 table limit n end-of-session f c = if ltb n f then askOutcome limit n f else endedOutcome n
 

@@ -15,7 +15,8 @@ use Rattle.receiver.specs.declared.receiver.Receiver.{Receiver}
 use Rattle.receiver.specs.Table.{deliver, old, ask, deliverOutcome}
 use Rattle.wire.specs.Text.{ascii}
 use Rattle.wire.specs.Bounds.{blank}
-use Rattle.receiver.specs.Receiver.{receiver, accepted, afterRow, receiverStartRefusal, startReceiver, answerOf, receiverAfter}
+use Rattle.receiver.specs.Receiver.{receiver, accepted, afterRow, receiverStartRefusal, startReceiver, answerOf}
+use Rattle.receiver.specs.Receiver.{receiverAfter}
 use Rattle.receiver.specs.Statements.{AnswerRule, StepRule, Follows}
 use Rattle.receiver.specs.Feed.{Datagram, Message, Session, AllOfKind, after, delivered}
 use Rattle.receiver.specs.Condition3.{plain, Condition3For}
@@ -50,8 +51,8 @@ endAt f = encodedEnd name f
 abbrev pub fresh : Receiver
 fresh = receiver name 1 100 false
 
--- ---- one list of condition 3's kind: a datagram lost because it came early, a doubled one, another session's data, a heartbeat that
--- is far off, broken bytes and an end; and what it delivers
+-- ---- one list of condition 3's kind: a datagram lost because it came early, a doubled one, another session's data,
+-- a heartbeat that is far off, broken bytes and an end; and what it delivers
 
 abbrev pub feed : List Datagram
 feed =
@@ -92,9 +93,9 @@ asksAlways r d = says ask (r .next .0 ∷ r .limit .0 ∷ [])
 
 -- ---- receivers that do too much or too little
 
--- answers at the first datagram that it delivers all three messages, as a receiver that gives everything at once would; its number is
--- then past them, and from there it goes by the table (what an answer delivers is the datagram's own messages, so this one claims
--- more than it gives)
+-- answers at the first datagram that it delivers all three messages, as a receiver that gives everything at once
+-- would; its number is then past them, and from there it goes by the table (what an answer delivers is the datagram's
+-- own messages, so this one claims more than it gives)
 abbrev pub allAtOnce : AnswerRule
 allAtOnce r d = if eqb (r .next .0) 1 then says deliver (1 ∷ 3 ∷ 0 ∷ []) else answerOf r d
 
@@ -131,9 +132,9 @@ jumps r d = if ahead r d then afterRow r (deliverOutcome (numberOf d) (numberOf 
 abbrev pub FollowsAtFirst : AnswerRule → StepRule → Type 0
 FollowsAtFirst answers step = Follows answers step fresh (dataAt 1 (a ∷ []))
 
--- the idle receivers meet condition 3 and break the table's row at the first message; the one that claims everything there breaks
--- that row; the one that delivers and never moves its number, the one that calls an overlap old and the one that jumps break
--- condition 3
+-- the idle receivers meet condition 3 and break the table's row at the first message; the one that claims everything
+-- there breaks that row; the one that delivers and never moves its number, the one that calls an overlap old and the
+-- one that jumps break condition 3
 pub record NotWeak : Type 0 where
   pub refuses-all : Condition3For refusesAll staysPut
   pub refuses-all-breaks : FollowsAtFirst refusesAll staysPut → ⊥

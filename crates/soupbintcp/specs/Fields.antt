@@ -13,7 +13,8 @@ use Rattle.text_fields.specs.Sound.{usernameSize, passwordSize}
 use Rattle.text_fields.specs.Number.{NumberKind, value, bad, numberFieldSize, readNumber}
 use Rattle.soupbintcp.specs.declared.fields.Fields.{Fields}
 use Rattle.soupbintcp.specs.declared.fields.Fields.the-variants.{Good, Bad}
-use Rattle.soupbintcp.specs.Letters.{PacketKind, accepted, rejected, login, packetKind, packetValues, letterAccepted, letterRejected, letterLogin, plainOf}
+use Rattle.soupbintcp.specs.Letters.{PacketKind, accepted, rejected, login, packetKind, packetValues}
+use Rattle.soupbintcp.specs.Letters.{letterAccepted, letterRejected, letterLogin, plainOf}
 use Rattle.soupbintcp.specs.Head.{headSize, letterOf}
 
 -- ---- where they stand

@@ -78,11 +78,13 @@ Stable = (s : Sender) (l m : List ℕ) → (frontOf s l .which ≡ answer wants-
 
 -- nor its bytes, and so none of its parts
 unfoldable pub StableBytes : Type 0
-StableBytes = (s : Sender) (l m : List ℕ) → (frontOf s l .which ≡ answer wants-more → ⊥) → packetBytes s (l ++ m) ≡ packetBytes s l
+StableBytes = (s : Sender) (l m : List ℕ) → (frontOf s l .which ≡ answer wants-more → ⊥)
+    → packetBytes s (l ++ m) ≡ packetBytes s l
 
 -- a packet's kind is the one that its letter stands for
 unfoldable pub KindOfLetter : Type 0
-KindOfLetter = (s : Sender) (l : List ℕ) (k : PacketKind) (size : ℕ) (vs : List ℕ) → frontOf s l ≡ says (packet k) (size ∷ vs) → letterOf l ≡ letterFor k
+KindOfLetter = (s : Sender) (l : List ℕ) (k : PacketKind) (size : ℕ) (vs : List ℕ)
+    → frontOf s l ≡ says (packet k) (size ∷ vs) → letterOf l ≡ letterFor k
 
 pub record FrontPromises : Type 0 where
   pub stable : Stable

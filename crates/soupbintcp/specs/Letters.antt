@@ -11,12 +11,15 @@ use Rattle.text_fields.specs.Sound.{usernameSize, passwordSize}
 use Rattle.soupbintcp.specs.declared.packet.Sender.{Sender}
 use Rattle.soupbintcp.specs.declared.packet.Sender.the-variants.{Server, Client}
 use Rattle.soupbintcp.specs.declared.packet.Packet.{Packet}
-use Rattle.soupbintcp.specs.declared.packet.Packet.the-variants.{Debug, Accepted, Rejected, Sequenced, ServerHeartbeat, EndOfSession, Login, Unsequenced, ClientHeartbeat, Logout}
+use Rattle.soupbintcp.specs.declared.packet.Packet.the-variants.{Debug, Accepted, Rejected, Sequenced}
+use Rattle.soupbintcp.specs.declared.packet.Packet.the-variants.{ServerHeartbeat, EndOfSession, Login}
+use Rattle.soupbintcp.specs.declared.packet.Packet.the-variants.{Unsequenced, ClientHeartbeat, Logout}
 use Rattle.soupbintcp.specs.declared.letters.Row.{Row}
 
 -- the kinds of packet
 pub data PacketKind : Type 0 where
-  debug accepted rejected sequenced server-heartbeat end-of-session login unsequenced client-heartbeat logout : PacketKind
+  debug accepted rejected sequenced server-heartbeat end-of-session : PacketKind
+  login unsequenced client-heartbeat logout : PacketKind
 
 unfoldable pub packetKind : Packet → PacketKind
 packetKind Debug = debug
@@ -103,7 +106,8 @@ rejectedPayloadSize = 1
 abbrev pub loginPayloadSize : ℕ
 loginPayloadSize = usernameSize + passwordSize + sessionSize + numberFieldSize
 
--- whether the server and the client send it, and the fewest and most bytes of its payload, which is the length without the letter
+-- whether the server and the client send it, and the fewest and most bytes of its payload, which is the length
+-- without the letter
 abbrev pub row : Bool → Bool → ℕ → ℕ → Row
 row server client least most = record { server = server; client = client; least = least; most = most }
 

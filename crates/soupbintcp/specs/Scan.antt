@@ -44,7 +44,8 @@ scanAt refused r size rest = stops (refuses r)
 unfoldable pub scanUpTo : Sender → ℕ → List ℕ → Scan
 scanUpTo s zero l = stops (says stopped-short [])
 scanUpTo s (suc f) l =
-    scanAt (frontOf s l .which) (frontOf s l .refusal) (getD (frontOf s l .values) 0 0) (λ size. scanUpTo s f (drop size l))
+    scanAt (frontOf s l .which) (frontOf s l .refusal) (getD (frontOf s l .values) 0 0)
+    (λ size. scanUpTo s f (drop size l))
 
 unfoldable pub scanOf : Sender → List ℕ → Scan
 scanOf s l = scanUpTo s (length l) l

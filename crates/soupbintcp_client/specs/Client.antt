@@ -13,10 +13,12 @@ use Rattle.wire.specs.Bytes.{sameBytes}
 use Rattle.wire.specs.Parts.{firstBytes}
 use Rattle.text_fields.specs.Session.{goodSession}
 use Rattle.soupbintcp.specs.declared.packet.Sender.the-variants.{Server}
-use Rattle.soupbintcp.specs.Letters.{letterDebug, letterAccepted, letterRejected, letterSequenced, letterServerHeartbeat, letterEnd, letterFor}
+use Rattle.soupbintcp.specs.Letters.{letterDebug, letterAccepted, letterRejected, letterSequenced}
+use Rattle.soupbintcp.specs.Letters.{letterServerHeartbeat, letterEnd, letterFor}
 use Rattle.soupbintcp.specs.Head.{headSize}
 use Rattle.soupbintcp.specs.Front.{FrontKind, packet, wants-more, frontOf, sessionOf}
-use Rattle.soupbintcp_session.specs.Answer.{accepted, rejected, sequenced, heartbeat, debug, end-of-session, sessionAnswerWords, Incoming, incoming, StepOutcome, stays, takes}
+use Rattle.soupbintcp_session.specs.Answer.{accepted, rejected, sequenced, heartbeat, debug, end-of-session}
+use Rattle.soupbintcp_session.specs.Answer.{sessionAnswerWords, Incoming, incoming, StepOutcome, stays, takes}
 use Rattle.soupbintcp_session.specs.Answer as reply
 use Rattle.soupbintcp_client.specs.declared.client.ClientState.{ClientState}
 use Rattle.soupbintcp_client.specs.declared.client.ClientState.the-variants.{Asked, In, Ended, Closed}
@@ -65,14 +67,17 @@ numberAsked asked given = if eqb asked 0 then true else eqb given asked
 unfoldable pub acceptedRow : Client → ℕ → List ℕ → ℕ → StepOutcome Client
 acceptedRow c size given n =
     if sessionAsked (c .session) given
-    then (if numberAsked (c .number .0) n then takes size (says accepted (n ∷ [])) (client (firstBytes sessionSize given) n In) else stays c (refuses loginNotAsked))
+    then (if numberAsked (c .number .0) n
+    then takes size (says accepted (n ∷ [])) (client (firstBytes sessionSize given) n In)
+    else stays c (refuses loginNotAsked))
     else stays c (refuses loginNotAsked)
 
 -- S: message n, then n + 1; 34 where n is 2^64 - 1
 unfoldable pub sequencedRow : Client → ℕ → StepOutcome Client
 sequencedRow c size =
     if eqb (c .number .0) largestNumber then stays c (refuses numbersUsedUp)
-    else takes size (says sequenced (c .number .0 ∷ headSize ∷ (size - headSize) ∷ [])) (client (c .session) (c .number .0 + 1) In)
+    else takes size (says sequenced (c .number .0 ∷ headSize ∷ (size - headSize) ∷ []))
+    (client (c .session) (c .number .0 + 1) In)
 
 -- asked takes A, J and +
 unfoldable pub askedRow : Client → Incoming → StepOutcome Client
@@ -104,7 +109,8 @@ clientRow c p = rowAt (c .state) c p
 
 -- by what stands in front: need more and a refusal change nothing
 unfoldable pub frontRowAt : Client → List ℕ → Words FrontKind → Case FrontKind → StepOutcome Client
-frontRowAt c given w (answer (packet p)) = clientRow c (incoming (getD (w .values) 0 0) (letterFor p) (drop 1 (w .values)) given)
+frontRowAt c given w (answer (packet p)) =
+    clientRow c (incoming (getD (w .values) 0 0) (letterFor p) (drop 1 (w .values)) given)
 frontRowAt c given w (answer wants-more) = stays c (says reply.wants-more [])
 frontRowAt c given w refused = stays c (refuses (w .refusal))
 

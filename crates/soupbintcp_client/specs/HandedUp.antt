@@ -10,7 +10,8 @@ use Rattle.soupbintcp.specs.declared.packet.Sender.the-variants.{Server}
 use Rattle.soupbintcp.specs.Letters.{letterAccepted, letterSequenced}
 use Rattle.soupbintcp.specs.Head.{headSize, letterOf}
 use Rattle.soupbintcp.specs.Front.{frontOf}
-use Rattle.soupbintcp_session.specs.Answer.{SessionAnswerKind, wants-more, accepted, rejected, sequenced, unsequenced, heartbeat, debug, logged-out, end-of-session, answerMessage}
+use Rattle.soupbintcp_session.specs.Answer.{SessionAnswerKind, wants-more, accepted, rejected, sequenced, unsequenced}
+use Rattle.soupbintcp_session.specs.Answer.{heartbeat, debug, logged-out, end-of-session, answerMessage}
 use Rattle.soupbintcp_session.specs.Stream.{Taking}
 
 -- ---- what the answers hand up
@@ -41,7 +42,8 @@ isSequenced refused = false
 unfoldable pub handedUp : List Taking → List Numbered
 handedUp [] = []
 handedUp (x ∷ xs) =
-    if isSequenced (x .reply .which) then record { number = getD (x .reply .values) 0 0; message = answerMessage (x .reply) (x .bytes) } ∷ handedUp xs
+    if isSequenced (x .reply .which)
+    then record { number = getD (x .reply .values) 0 0; message = answerMessage (x .reply) (x .bytes) } ∷ handedUp xs
     else handedUp xs
 
 -- ---- the same from the packets alone

@@ -58,16 +58,22 @@ SequencedInFront l size = frontOf Server l ≡ says (packet Letters.sequenced) (
 
 -- in takes every S: message n, then n + 1; 34 where n is 2^64 - 1
 pub record TakesS : Type 0 where
-  pub when : (c : Client) (l : List ℕ) (size : ℕ) → c .state ≡ In → SequencedInFront l size → (c .number .0 ≡ largestNumber → ⊥)
-      → clientStep c l ≡ takes size (says sequenced (c .number .0 ∷ headSize ∷ (size - headSize) ∷ [])) (client (c .session) (c .number .0 + 1) In)
-  pub else-34 : (c : Client) (l : List ℕ) (size : ℕ) → c .state ≡ In → SequencedInFront l size → c .number .0 ≡ largestNumber
+  pub when : (c : Client) (l : List ℕ) (size : ℕ) → c .state ≡ In → SequencedInFront l size
+      → (c .number .0 ≡ largestNumber → ⊥)
+      → clientStep c l
+      ≡ takes size (says sequenced (c .number .0 ∷ headSize ∷ (size - headSize) ∷ []))
+      (client (c .session) (c .number .0 + 1) In)
+  pub else-34 : (c : Client) (l : List ℕ) (size : ℕ) → c .state ≡ In → SequencedInFront l size
+      → c .number .0 ≡ largestNumber
       → clientStep c l ≡ stays c (refuses numbersUsedUp)
 
--- over a stream: the payloads of S are handed up, each once and in order, under the numbers from the granted one on, and the client's
--- number is one past the last of them
+-- over a stream: the payloads of S are handed up, each once and in order, under the numbers from the granted one on,
+-- and the client's number is one past the last of them
 pub record HandsUpInOrder (c : Client) (r : Run Client) : Type 0 where
-  pub in-order : handedUp (r .taken) ≡ numberedFrom (grantedIn (c .number .0) (packetsOf (r .taken))) (sequencedIn (packetsOf (r .taken)))
-  pub counted : r .after .number .0 ≡ grantedIn (c .number .0) (packetsOf (r .taken)) + length (sequencedIn (packetsOf (r .taken)))
+  pub in-order : handedUp (r .taken)
+      ≡ numberedFrom (grantedIn (c .number .0) (packetsOf (r .taken))) (sequencedIn (packetsOf (r .taken)))
+  pub counted : r .after .number .0
+      ≡ grantedIn (c .number .0) (packetsOf (r .taken)) + length (sequencedIn (packetsOf (r .taken)))
 
 pub record ClientPromises : Type 0 where
   pub takes-from-A : TakesFromA

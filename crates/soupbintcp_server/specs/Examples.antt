@@ -1,4 +1,5 @@
--- A whole stream at the server, from its start: `ann` logs in, sends a message and logs out; what follows is left where it is.
+-- A whole stream at the server, from its start: `ann` logs in, sends a message and logs out; what follows is left
+-- where it is.
 use Prim.Native.Nat.{ℕ}
 use mathlib.Core.List.{List, [], _∷_, _++_}
 use mathlib.Core.Path.{_≡_}
@@ -34,6 +35,7 @@ repliesOf [] = []
 repliesOf (x ∷ xs) = x .reply ∷ repliesOf xs
 
 pub record ServerExample : Type 0 where
-  pub answers : repliesOf (served .taken) ≡ says accepted (5 ∷ []) ∷ says unsequenced (3 ∷ 1 ∷ []) ∷ says logged-out [] ∷ []
+  pub answers : repliesOf (served .taken)
+      ≡ says accepted (5 ∷ []) ∷ says unsequenced (3 ∷ 1 ∷ []) ∷ says logged-out [] ∷ []
   pub closes : served .after ≡ server ours 5 Closed
   pub leaves : served .rest ≡ afterLogout

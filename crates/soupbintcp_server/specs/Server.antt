@@ -13,13 +13,15 @@ use Rattle.wire.specs.Parts.{firstBytes}
 use Rattle.text_fields.specs.Session.{goodSession}
 use Rattle.text_fields.specs.Sound.{usernameSize, passwordSize}
 use Rattle.soupbintcp.specs.declared.packet.Sender.the-variants.{Client}
-use Rattle.soupbintcp.specs.Letters.{letterDebug, letterLogin, letterUnsequenced, letterClientHeartbeat, letterLogout, letterFor}
+use Rattle.soupbintcp.specs.Letters.{letterDebug, letterLogin, letterUnsequenced, letterClientHeartbeat, letterLogout}
+use Rattle.soupbintcp.specs.Letters.{letterFor}
 use Rattle.soupbintcp.specs.Head.{headSize}
 use Rattle.soupbintcp.specs.Front.{FrontKind, packet, wants-more, frontOf, sessionOf, usernameOf, passwordOf}
 use Rattle.login.specs.declared.account.Account.{Account}
 use Rattle.login.specs.Account.{VerdictKind, lookupOf}
 use Rattle.login.specs.Decision.{DecisionKind, accepted, rejected, decisionOf}
-use Rattle.soupbintcp_session.specs.Answer.{unsequenced, heartbeat, debug, logged-out, sessionAnswerWords, Incoming, incoming, StepOutcome, stays, takes}
+use Rattle.soupbintcp_session.specs.Answer.{unsequenced, heartbeat, debug, logged-out, sessionAnswerWords, Incoming}
+use Rattle.soupbintcp_session.specs.Answer.{incoming, StepOutcome, stays, takes}
 use Rattle.soupbintcp_session.specs.Answer as reply
 use Rattle.soupbintcp_server.specs.declared.server.ServerState.{ServerState}
 use Rattle.soupbintcp_server.specs.declared.server.ServerState.the-variants.{Waiting, In, Closed}
@@ -79,7 +81,8 @@ waitingRow s verdict p =
 -- in takes U, R, + and O
 unfoldable pub inRow : Server → ℕ → ℕ → StepOutcome Server
 inRow s size letter =
-    if eqb letter letterUnsequenced then takes size (says unsequenced (headSize ∷ (size - headSize) ∷ [])) (becomes s In)
+    if eqb letter letterUnsequenced
+    then takes size (says unsequenced (headSize ∷ (size - headSize) ∷ [])) (becomes s In)
     else if eqb letter letterClientHeartbeat then takes size (says heartbeat []) (becomes s In)
     else if eqb letter letterDebug then takes size (says debug []) (becomes s In)
     else if eqb letter letterLogout then takes size (says logged-out []) (becomes s Closed)
@@ -97,7 +100,8 @@ serverRow s verdict p = rowAt (s .state) s verdict p
 
 -- by what stands in front: need more and a refusal change nothing
 unfoldable pub frontRowAt : Server → Words VerdictKind → List ℕ → Words FrontKind → Case FrontKind → StepOutcome Server
-frontRowAt s verdict asked w (answer (packet p)) = serverRow s verdict (incoming (getD (w .values) 0 0) (letterFor p) (drop 1 (w .values)) asked)
+frontRowAt s verdict asked w (answer (packet p)) =
+    serverRow s verdict (incoming (getD (w .values) 0 0) (letterFor p) (drop 1 (w .values)) asked)
 frontRowAt s verdict asked w (answer wants-more) = stays s (says reply.wants-more [])
 frontRowAt s verdict asked w refused = stays s (refuses (w .refusal))
 
@@ -115,7 +119,11 @@ stepWith s verdict l = stepAt (verdict .which) s verdict l
 
 -- the entry of the login request in front; zero bytes where there is none
 unfoldable pub entryOf : List ℕ → Account
-entryOf l = record { username = firstBytes usernameSize (usernameOf Client l); password = firstBytes passwordSize (passwordOf Client l) }
+entryOf l =
+    record {
+      username = firstBytes usernameSize (usernameOf Client l);
+      password = firstBytes passwordSize (passwordOf Client l);
+    }
 
 -- with a table of account records
 unfoldable pub serverStep : List Account → Server → List ℕ → StepOutcome Server

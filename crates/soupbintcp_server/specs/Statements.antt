@@ -34,7 +34,14 @@ EntryIsItsFields = (l : List ℕ) (size n : ℕ) → LoginInFront l size n → e
 -- what it attempts
 abbrev pub attemptOf : List Account → Server → List ℕ → ℕ → Attempt
 attemptOf t s l n =
-    record { table = t; entry = entryFields l; asked = sessionOf Client l; wanted = n; session = s .session; last = s .last .0 }
+    record {
+      table = t;
+      entry = entryFields l;
+      asked = sessionOf Client l;
+      wanted = n;
+      session = s .session;
+      last = s .last .0;
+    }
 
 -- a login request that a waiting server accepts
 pub record Accepts (t : List Account) (s : Server) (l : List ℕ) : Type 0 where
@@ -44,13 +51,14 @@ pub record Accepts (t : List Account) (s : Server) (l : List ℕ) : Type 0 where
   pub front : LoginInFront l size number
   pub rules : Rules (attemptOf t s l number)
 
--- a login that isn't refused is accepted exactly when the account, session and number rules hold; J with A where the account rule
--- doesn't, and J with S where it does and another doesn't
+-- a login that isn't refused is accepted exactly when the account, session and number rules hold; J with A where the
+-- account rule doesn't, and J with S where it does and another doesn't
 pub record LoginExactlyWhen : Type 0 where
   pub when : (t : List Account) (s : Server) (l : List ℕ) (size n : ℕ) → s .state ≡ Waiting → LoginInFront l size n
       → NotRefused (attemptOf t s l n) → Rules (attemptOf t s l n)
       → serverStep t s l ≡ takes size (says accepted (granted n (s .last .0) ∷ [])) (becomes s In)
-  pub only-when : (t : List Account) (s : Server) (l : List ℕ) → serverStep t s l .reply .which ≡ answer accepted → Accepts t s l
+  pub only-when : (t : List Account) (s : Server) (l : List ℕ) → serverStep t s l .reply .which ≡ answer accepted
+      → Accepts t s l
   pub else-A : (t : List Account) (s : Server) (l : List ℕ) (size n : ℕ) → s .state ≡ Waiting → LoginInFront l size n
       → NotRefused (attemptOf t s l n) → (AccountRule (attemptOf t s l n) → ⊥)
       → serverStep t s l ≡ takes size (says rejected (notAuthorized ∷ [])) (becomes s Closed)
@@ -58,21 +66,25 @@ pub record LoginExactlyWhen : Type 0 where
       → NotRefused (attemptOf t s l n) → AccountRule (attemptOf t s l n) → (Rules (attemptOf t s l n) → ⊥)
       → serverStep t s l ≡ takes size (says rejected (sessionNotAvailable ∷ [])) (becomes s Closed)
   -- a username or a password that is no text gets J with A, whatever the table holds
-  pub no-username : (t : List Account) (s : Server) (l : List ℕ) (size n : ℕ) → s .state ≡ Waiting → LoginInFront l size n
+  pub no-username : (t : List Account) (s : Server) (l : List ℕ) (size n : ℕ) → s .state ≡ Waiting
+      → LoginInFront l size n
       → NotRefused (attemptOf t s l n) → NoText (usernameOf Client l)
       → serverStep t s l ≡ takes size (says rejected (notAuthorized ∷ [])) (becomes s Closed)
-  pub no-password : (t : List Account) (s : Server) (l : List ℕ) (size n : ℕ) → s .state ≡ Waiting → LoginInFront l size n
+  pub no-password : (t : List Account) (s : Server) (l : List ℕ) (size n : ℕ) → s .state ≡ Waiting
+      → LoginInFront l size n
       → NotRefused (attemptOf t s l n) → NoText (passwordOf Client l)
       → serverStep t s l ≡ takes size (says rejected (notAuthorized ∷ [])) (becomes s Closed)
   -- 19 comes first, in every state and on every stream
-  pub too-many : (t : List Account) (s : Server) (l : List ℕ) → mostAccounts < length t → serverStep t s l ≡ stays s (refuses badSetting)
+  pub too-many : (t : List Account) (s : Server) (l : List ℕ) → mostAccounts < length t
+      → serverStep t s l ≡ stays s (refuses badSetting)
 
 -- why a server is in after a step: it was in, or it accepts the login request in front
 pub data WasIn (t : List Account) (s : Server) (l : List ℕ) : Type 0 where
   before : s .state ≡ In → WasIn t s l
   by-login : Accepts t s l → WasIn t s l
 
--- no step changes the session's name or the last number, so that a login accepted can be written with the server that is handed back
+-- no step changes the session's name or the last number, so that a login accepted can be written with the server that
+-- is handed back
 pub record KeepsItsSettings (s x : Server) : Type 0 where
   pub session : x .session ≡ s .session
   pub last : x .last ≡ s .last
@@ -82,11 +94,13 @@ pub record ServerPromises : Type 0 where
   pub login-exactly-when : LoginExactlyWhen
   -- nobody is in but by a login that meets the rules, and messages are handed up only of one who is in
   pub only-in : (t : List Account) (s : Server) (l : List ℕ) → serverStep t s l .after .state ≡ In → WasIn t s l
-  pub hands-up-only-in : (t : List Account) (s : Server) (l : List ℕ) → serverStep t s l .reply .which ≡ answer unsequenced → s .state ≡ In
+  pub hands-up-only-in : (t : List Account) (s : Server) (l : List ℕ)
+      → serverStep t s l .reply .which ≡ answer unsequenced → s .state ≡ In
   pub example : ServerExample
   pub changes-nothing : (t : List Account) → ChangesNothing Server (serverStep t)
   -- so does a step with any verdict on the entry in front
-  pub changes-nothing-with : (verdict : List ℕ → Words VerdictKind) → ChangesNothing Server (λ s l. stepWith s (verdict l) l)
+  pub changes-nothing-with : (verdict : List ℕ → Words VerdictKind)
+      → ChangesNothing Server (λ s l. stepWith s (verdict l) l)
   pub takes-packets : (t : List Account) → TakesPackets Server (serverStep t) Client
   pub keeps : (t : List Account) (s : Server) (l : List ℕ) → KeepsItsSettings s (serverStep t s l .after)
   pub hands-up-payload : (t : List Account) → HandsUpPayload Server (serverStep t) Client unsequenced

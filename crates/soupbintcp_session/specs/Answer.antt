@@ -4,7 +4,10 @@ use mathlib.Core.List.{List, [], _∷_}
 use lib.ListN.{getD, take, drop}
 use Rattle.wire.specs.Words.{Words, Case, answer, refused, says, refusedWords, Injective}
 use Rattle.soupbintcp_session.specs.declared.answer.Answer.{Answer}
-use Rattle.soupbintcp_session.specs.declared.answer.Answer.the-variants.{NeedMore, Accepted, Rejected, Sequenced, Unsequenced, Heartbeat, Debug, LoggedOut, EndOfSession, Refused}
+use Rattle.soupbintcp_session.specs.declared.answer.Answer.the-variants.{NeedMore, Accepted, Rejected}
+use Rattle.soupbintcp_session.specs.declared.answer.Answer.the-variants.{Sequenced, Unsequenced, Heartbeat}
+use Rattle.soupbintcp_session.specs.declared.answer.Answer.the-variants.{Debug, LoggedOut, EndOfSession}
+use Rattle.soupbintcp_session.specs.declared.answer.Answer.the-variants.{Refused}
 
 -- the answers, but for a refusal
 pub data SessionAnswerKind : Type 0 where

@@ -13,8 +13,10 @@ use Rattle.soupbintcp_session.specs.Stream.{Stepping, stopped, run, runP
 
 -- need more and a refusal: no other number, no bytes taken, and the session as it was
 pub record ChangesNothing (S : Type 0) (step : Stepping S) : Type 0 where
-  pub need-more : (s : S) (l : List ℕ) → step s l .reply .which ≡ answer wants-more → step s l ≡ stays s (says wants-more [])
-  pub refusal : (s : S) (l : List ℕ) → step s l .reply .which ≡ refused → step s l ≡ stays s (refuses (step s l .reply .refusal))
+  pub need-more : (s : S) (l : List ℕ) → step s l .reply .which ≡ answer wants-more
+      → step s l ≡ stays s (says wants-more [])
+  pub refusal : (s : S) (l : List ℕ) → step s l .reply .which ≡ refused
+      → step s l ≡ stays s (refuses (step s l .reply .refusal))
 
 -- an answer that takes nothing
 pub data TakesNothing : Case SessionAnswerKind → Type 0 where
@@ -28,11 +30,13 @@ pub record TakesPacket (S : Type 0) (step : Stepping S) (from : Sender) (s : S) 
   pub some : headSize ≤ step s l .size
 
 abbrev pub TakesPackets : (S : Type 0) → Stepping S → Sender → Type 0
-TakesPackets S step from = (s : S) (l : List ℕ) → (TakesNothing (step s l .reply .which) → ⊥) → TakesPacket S step from s l
+TakesPackets S step from = (s : S) (l : List ℕ) → (TakesNothing (step s l .reply .which) → ⊥)
+    → TakesPacket S step from s l
 
 -- a message that is handed up is the payload of the packet in front
 abbrev pub HandsUpPayload : (S : Type 0) → Stepping S → Sender → SessionAnswerKind → Type 0
-HandsUpPayload S step from kind = (s : S) (l : List ℕ) → step s l .reply .which ≡ answer kind → answerMessage (step s l .reply) l ≡ payloadOf from l
+HandsUpPayload S step from kind = (s : S) (l : List ℕ) → step s l .reply .which ≡ answer kind
+    → answerMessage (step s l .reply) l ≡ payloadOf from l
 
 -- a stream in pieces, however it is cut, gives what it gives whole
 abbrev pub AnyStreamCutting : (S : Type 0) → Stepping S → Type 0

@@ -1,4 +1,5 @@
--- What is written reads back as itself; what is accepted writes back to its own bytes, but for the exceptions that document 01 names.
+-- What is written reads back as itself; what is accepted writes back to its own bytes, but for the exceptions that
+-- document 01 names.
 use Prim.Native.Nat.{ℕ, _+_, _≤_}
 use mathlib.Core.List.{List, [], _∷_, _++_}
 use mathlib.Core.Bool.{true}
@@ -11,12 +12,16 @@ use Rattle.text_fields.specs.Number.{NoLeadingZero}
 use Rattle.text_fields.specs.Sound.{usernameSize, passwordSize, soundUsername, soundPassword}
 use Rattle.soupbintcp.specs.declared.packet.Sender.{Sender}
 use Rattle.soupbintcp.specs.declared.packet.Sender.the-variants.{Server, Client}
-use Rattle.soupbintcp.specs.Letters.{PacketKind, debug, accepted, rejected, sequenced, server-heartbeat, end-of-session, login, unsequenced, client-heartbeat, logout, letterAccepted, letterRejected, letterLogin, letterFor, mostPayload, acceptedPayloadSize, rejectedPayloadSize, loginPayloadSize, letterRow, sends}
+use Rattle.soupbintcp.specs.Letters.{PacketKind, debug, accepted, rejected, sequenced, server-heartbeat}
+use Rattle.soupbintcp.specs.Letters.{end-of-session, login, unsequenced, client-heartbeat, logout, letterAccepted}
+use Rattle.soupbintcp.specs.Letters.{letterRejected, letterLogin, letterFor, mostPayload, acceptedPayloadSize}
+use Rattle.soupbintcp.specs.Letters.{rejectedPayloadSize, loginPayloadSize, letterRow, sends}
 use Rattle.soupbintcp.specs.Head.{headSize}
 use Rattle.soupbintcp.specs.Fields.{numberBytes}
 use Rattle.soupbintcp.specs.Front.{packet, frontOf, payloadOf, sessionOf, usernameOf, passwordOf}
 use Rattle.soupbintcp_writer.specs.Packets as written
-use Rattle.soupbintcp_writer.specs.Packets.{payloadGround, acceptedGround, acceptedPayload, reasonGround, loginGround, loginPayload}
+use Rattle.soupbintcp_writer.specs.Packets.{payloadGround, acceptedGround, acceptedPayload, reasonGround}
+use Rattle.soupbintcp_writer.specs.Packets.{loginGround, loginPayload}
 
 -- a packet that a sender sends with a payload of none to n bytes, as the table of letters has it
 pub record PayloadUpTo (s : Sender) (k : PacketKind) (n : ℕ) : Type 0 where
@@ -75,10 +80,13 @@ pub record LetterRoundTrip : Type 0 where
 -- J
 pub record RejectedRoundTrip : Type 0 where
   pub reads-back : (reason : ℕ) (rest : List ℕ) → reasonGround reason ≡ 0
-      → ReadsAs Server (written.encoded letterRejected (reason ∷ []) ++ rest) rejected ((headSize + rejectedPayloadSize) ∷ reason ∷ []) (reason ∷ [])
-  pub writes-back : (l : List ℕ) (size reason : ℕ) → AreBytes l → frontOf Server l ≡ says (packet rejected) (size ∷ reason ∷ [])
+      → ReadsAs Server (written.encoded letterRejected (reason ∷ []) ++ rest) rejected
+      ((headSize + rejectedPayloadSize) ∷ reason ∷ []) (reason ∷ [])
+  pub writes-back : (l : List ℕ) (size reason : ℕ) → AreBytes l
+      → frontOf Server l ≡ says (packet rejected) (size ∷ reason ∷ [])
       → written.encoded letterRejected (reason ∷ []) ≡ take size l
-  pub may-be-written : (l : List ℕ) (size reason : ℕ) → frontOf Server l ≡ says (packet rejected) (size ∷ reason ∷ []) → reasonGround reason ≡ 0
+  pub may-be-written : (l : List ℕ) (size reason : ℕ)
+      → frontOf Server l ≡ says (packet rejected) (size ∷ reason ∷ []) → reasonGround reason ≡ 0
 
 -- ---- A
 
@@ -93,16 +101,19 @@ abbrev pub acceptedBytes : List ℕ → ℕ → List ℕ
 acceptedBytes session n = written.encoded letterAccepted (acceptedPayload session n)
 
 pub record AcceptedReads (session : List ℕ) (n : ℕ) (rest : List ℕ) : Type 0 where
-  pub front : frontOf Server (acceptedBytes session n ++ rest) ≡ says (packet accepted) ((headSize + acceptedPayloadSize) ∷ n ∷ [])
+  pub front : frontOf Server (acceptedBytes session n ++ rest)
+      ≡ says (packet accepted) ((headSize + acceptedPayloadSize) ∷ n ∷ [])
   pub its-session : sessionOf Server (acceptedBytes session n ++ rest) ≡ session
 
 -- an A that is read writes back to its own bytes, save a number with leading zeros
 pub record AcceptedRoundTrip : Type 0 where
-  pub reads-back : (session : List ℕ) (n : ℕ) (rest : List ℕ) → length session ≡ sessionSize → n ≤ largestNumber → acceptedGround session n ≡ 0
+  pub reads-back : (session : List ℕ) (n : ℕ) (rest : List ℕ) → length session ≡ sessionSize → n ≤ largestNumber
+      → acceptedGround session n ≡ 0
       → AcceptedReads session n rest
   pub writes-back : (l : List ℕ) (size n : ℕ) → AreBytes l → frontOf Server l ≡ says (packet accepted) (size ∷ n ∷ [])
       → NoLeadingZero (numberBytes letterAccepted l) → acceptedBytes (sessionOf Server l) n ≡ take size l
-  pub may-be-written : (l : List ℕ) (size n : ℕ) → frontOf Server l ≡ says (packet accepted) (size ∷ n ∷ []) → AcceptedFits l n
+  pub may-be-written : (l : List ℕ) (size n : ℕ) → frontOf Server l ≡ says (packet accepted) (size ∷ n ∷ [])
+      → AcceptedFits l n
 
 -- ---- L
 
@@ -119,15 +130,17 @@ abbrev pub loginBytes : List ℕ → List ℕ → List ℕ → ℕ → List ℕ
 loginBytes username password session n = written.encoded letterLogin (loginPayload username password session n)
 
 pub record LoginReads (username password session : List ℕ) (n : ℕ) (rest : List ℕ) : Type 0 where
-  pub front : frontOf Client (loginBytes username password session n ++ rest) ≡ says (packet login) ((headSize + loginPayloadSize) ∷ n ∷ [])
+  pub front : frontOf Client (loginBytes username password session n ++ rest)
+      ≡ says (packet login) ((headSize + loginPayloadSize) ∷ n ∷ [])
   pub its-username : usernameOf Client (loginBytes username password session n ++ rest) ≡ username
   pub its-password : passwordOf Client (loginBytes username password session n ++ rest) ≡ password
   pub its-session : sessionOf Client (loginBytes username password session n ++ rest) ≡ session
 
--- an L that is read writes back to its own bytes, save a number with leading zeros; it may be written, save an unsound username or
--- password
+-- an L that is read writes back to its own bytes, save a number with leading zeros; it may be written, save an
+-- unsound username or password
 pub record LoginRoundTrip : Type 0 where
-  pub reads-back : (username password session : List ℕ) (n : ℕ) (rest : List ℕ) → length username ≡ usernameSize → length password ≡ passwordSize
+  pub reads-back : (username password session : List ℕ) (n : ℕ) (rest : List ℕ) → length username ≡ usernameSize
+      → length password ≡ passwordSize
       → length session ≡ sessionSize → n ≤ largestNumber → loginGround username password session ≡ 0
       → LoginReads username password session n rest
   pub writes-back : (l : List ℕ) (size n : ℕ) → AreBytes l → frontOf Client l ≡ says (packet login) (size ∷ n ∷ [])

@@ -79,7 +79,9 @@ NoLeadingZero l = 1 < length (afterSpaces l) → getD (afterSpaces l) 0 0 ≡ le
 
 pub record NumberLaws : Type 0 where
   -- a written number reads back as itself
-  pub reads-back : (n least : ℕ) → n ≤ largestNumber → least ≤ n → readNumber least (numberField n) ≡ says value (n ∷ [])
+  pub reads-back : (n least : ℕ) → n ≤ largestNumber → least ≤ n
+      → readNumber least (numberField n) ≡ says value (n ∷ [])
   -- a field without leading zeros that reads to a value is what the writer writes
-  pub writes-back : (l : List ℕ) (n least : ℕ) → length l ≡ numberFieldSize → readNumber least l ≡ says value (n ∷ []) → NoLeadingZero l → numberField n ≡ l
+  pub writes-back : (l : List ℕ) (n least : ℕ) → length l ≡ numberFieldSize
+      → readNumber least l ≡ says value (n ∷ []) → NoLeadingZero l → numberField n ≡ l
   pub tells-apart : Injective numberWords

@@ -12,7 +12,8 @@ use Rattle.text_fields.specs.Letters.{isLetterOrDigit, areLettersOrDigit
 
 -- letters or digits follow the spaces; all spaces only where it may be blank
 unfoldable pub goodSession : Bool → List ℕ → Bool
-goodSession blankAllowed l = areLettersOrDigits (afterSpaces l) && (if eqb (length (afterSpaces l)) 0 then blankAllowed else true)
+goodSession blankAllowed l =
+    areLettersOrDigits (afterSpaces l) && (if eqb (length (afterSpaces l)) 0 then blankAllowed else true)
 
 -- ---- byte by byte
 
@@ -32,5 +33,6 @@ sessionGood blankAllowed Bad = false
 
 -- byte by byte is the same, and what is bad once stays so
 pub record SessionFold : Type 0 where
-  pub same : (blankAllowed : Bool) (l : List ℕ) → sessionGood blankAllowed (sessionFrom Blank l) ≡ goodSession blankAllowed l
+  pub same : (blankAllowed : Bool) (l : List ℕ)
+      → sessionGood blankAllowed (sessionFrom Blank l) ≡ goodSession blankAllowed l
   pub bad-stays : (l : List ℕ) → sessionFrom Bad l ≡ Bad

@@ -35,8 +35,8 @@ blank = replicate sessionSize (letter " ")
 abbrev pub largestCount : ℕ
 largestCount = 65535
 
--- the bounds of a receiver's asking limit, which are the fewest and the most messages that a request asks for: none is 48, and so is
--- 65,535, the count of an end of session
+-- the bounds of a receiver's asking limit, which are the fewest and the most messages that a request asks for: none
+-- is 48, and so is 65,535, the count of an end of session
 abbrev pub leastLimit : ℕ
 leastLimit = 1
 
