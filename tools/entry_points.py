@@ -17,7 +17,7 @@ import sys
 ROOT = pathlib.Path(__file__).resolve().parent.parent
 LIST = ROOT / "docs/ENTRY-POINTS.md"
 # what the vector programs share: no library of the tender's, and without promises (docs/DECISIONS.md)
-UNPROMISED = {"vector_lines", "vector_sessions"}
+UNPROMISED = {"vector_lines", "vector_calls"}
 FUNCTION = re.compile(r"^( *)(?:#\[\w+\] )*pub (?:extern \"C\" |const |unsafe )*fn (\w+)", re.M)
 # a header ends where a line opens the body, alone or behind the signature
 BODY = re.compile(r"^ *\{\}?$|[^{}]*[^{} ] \{\}?$", re.M)

@@ -21,7 +21,7 @@ import tempfile
 
 ROOT = pathlib.Path(__file__).resolve().parent.parent
 # what the vector programs share promises nothing, so no change of it can be refused for a promise
-UNPROMISED = {"vector_lines", "vector_sessions"}
+UNPROMISED = {"vector_lines", "vector_calls"}
 OPERATORS = {
     "<": ["<=", ">"], "<=": ["<", ">="], "==": ["!="], "!=": ["=="],
     "+": ["-"], "-": ["+"], "*": ["+"], "/": ["*"], "%": ["/"], "&": ["|"], "+=": ["-="], "-=": ["+="],

@@ -1,6 +1,6 @@
-"""Accounts, tables of them and packets that the vectors of the login and of the session are made of."""
-from vector_session_rules import KNOWN, UNKNOWN
-from vectors_soupbintcp import BLANK, GOOD, ROOM, UNSOUND, accepted, login, packet, raw
+"""Accounts, tables of them and packets that the vectors of the sessions are made of."""
+from session_rules import RECORD
+from streams import BLANK, GOOD, ROOM, UNSOUND, accepted, login, packet, raw
 
 USER, WORD = b"reader", b"Secret12"
 OTHER = b"READROOM02"
@@ -16,8 +16,12 @@ GUEST = account(b"guest", b"welcome")
 NO_WORD = account(USER, b"")  # a blank password
 ZERO_WORD = account(USER, bytes(10))
 SPACES = account(b"", b"")
-ZEROS = bytes(16)
+ZEROS = bytes(RECORD)
 BAD_RECORDS = SPACES + ZEROS + NO_WORD + ZERO_WORD
+
+# Many records of one byte keep a line short: sixteen equal letters are a sound record, sixteen zero bytes aren't.
+SOUND_RECORD = b"a" * RECORD
+UNSOUND_RECORD = ZEROS
 
 # passwords beside the one of the record, each with whether it is that
 WORDS = [
@@ -50,22 +54,21 @@ WORDS = [
 assert all(len(word) == 10 for _, word, _ in WORDS)
 
 
-def small_tables(vectors, known):
-    """Lookups in tables of at most four records; `known` asks for the verdict of an entry and of records."""
-    vectors.section("unsound entries, the record being the same")
-    for name, field in UNSOUND:
-        vectors.heading(name)
-        known(UNKNOWN, account(field[:6], WORD), account(field[:6], WORD), READER)
-        known(UNKNOWN, account(USER, field), account(USER, field), READER)
+def small_tables():
+    """Lookups in tables of at most four records: a section, whether the entry is known, the entry and the records."""
+    section = "unsound entries, the record being the same"
+    for _, field in UNSOUND:
+        for entry in (account(field[:6], WORD), account(USER, field)):
+            yield section, False, entry, entry, READER
 
-    vectors.section("usernames that differ in case")
+    section = "usernames that differ in case"
     for name in (b"READER", b"Reader", b"rEADEr"):
-        known(KNOWN, account(name, b"SECRET12"), READER)
-        known(KNOWN, READER, account(name, b"sEcReT12"))
-    known(UNKNOWN, account(b"READE"), READER)
-    known(UNKNOWN, account(b"reade\x00"), READER)
+        yield section, True, account(name, b"SECRET12"), READER
+        yield section, True, READER, account(name, b"sEcReT12")
+    yield section, False, account(b"READE"), READER
+    yield section, False, account(b"reade\x00"), READER
 
-    vectors.section("the first sound record with the username decides")
+    section = "the first sound record with the username decides"
     first, second = account(USER, b"first"), account(b"READER", b"second")
     for records, right_one, wrong_one in (
         ((first, second), first, second),
@@ -74,25 +77,26 @@ def small_tables(vectors, known):
         ((first, first, second), first, second),
         ((first, second, second), first, second),
     ):
-        known(KNOWN, right_one, *records)
-        known(UNKNOWN, wrong_one, *records)
-    vectors.heading("an unsound record before is skipped")
+        yield section, True, right_one, *records
+        yield section, False, wrong_one, *records
+    section = "an unsound record before is skipped"
     for word in (b"", bytes(10), b"a b", b" ab", b"ab\x00", b"ab-"):
         bad = account(USER, word)
-        known(KNOWN, first, bad, first, second)
-        known(UNKNOWN, second, bad, first, second)
-        known(UNKNOWN, bad, bad, first, second)
-        known(UNKNOWN, bad, bad)
-        known(KNOWN, first, first, bad)
-    vectors.heading("a record with an unsound username before")
+        yield section, True, first, bad, first, second
+        yield section, False, second, bad, first, second
+        yield section, False, bad, bad, first, second
+        yield section, False, bad, bad
+        yield section, True, first, first, bad
+    section = "a record with an unsound username before"
     for name in (b"", bytes(6), b"reade\x00", b" eader", b"rea er", b"reade-"):
-        known(KNOWN, READER, account(name, b"Secret12"), READER)
-        known(UNKNOWN, account(name, b"Secret12"), account(name, b"Secret12"), READER)
-    vectors.heading("the password of another user")
-    known(UNKNOWN, account(b"guest", WORD), READER, GUEST)
-    known(UNKNOWN, account(b"guest", WORD), GUEST, READER)
-    known(KNOWN, GUEST, READER, GUEST)
-    known(UNKNOWN, account(b"nobody", WORD), READER, GUEST)
+        bad = account(name, WORD)
+        yield section, True, READER, bad, READER
+        yield section, False, bad, bad, READER
+    section = "the password of another user"
+    yield section, False, account(b"guest", WORD), READER, GUEST
+    yield section, False, account(b"guest", WORD), GUEST, READER
+    yield section, True, GUEST, READER, GUEST
+    yield section, False, account(b"nobody", WORD), READER, GUEST
 
 
 # ---- packets that a step meets
@@ -100,10 +104,10 @@ def small_tables(vectors, known):
 # the login request of the account
 LOGIN = login(ROOM, b"3", USER, WORD)
 
-# a packet of every letter: its name, its sender (the client, where it is both) and its bytes
+# a packet of every letter: its letter, its sender (the client, where it is both) and its bytes
 LETTERS = [
-    *((name, "client", LOGIN if name == "login" else data) for name, data in GOOD["client"].items()),
-    *((name, "server", data) for name, data in GOOD["server"].items() if name != "debug"),
+    *((letter, "client", LOGIN if letter == "L" else data) for letter, data in GOOD["client"].items()),
+    *((letter, "server", data) for letter, data in GOOD["server"].items() if letter != "+"),
 ]
 
 # what the reader of each one's stream refuses
@@ -133,4 +137,9 @@ BROKEN = {
 }
 
 # fronts of a packet
-SHORT = [("no bytes", b""), ("one byte", b"\x00"), ("a length alone", b"\x00\x05"), ("half of a message", b"\x00\x05+no")]
+SHORT = [
+    ("no bytes", b""),
+    ("one byte", b"\x00"),
+    ("a length alone", b"\x00\x05"),
+    ("half of a message", b"\x00\x05+no"),
+]

@@ -1,6 +1,6 @@
-"""Captures and their parts, good and bad settings among them."""
-from vector_datagrams import ROOM
-from vector_rules import TOP
+"""Captures and their parts, good and bad settings among them, that the vectors of captures are made of."""
+from datagrams import ROOM
+from mold_rules import TOP
 
 
 def lines(session=ROOM, next=1, limit=100):

@@ -1,0 +1,13 @@
+// Captures.
+use crate::NO_FUNCTION;
+
+pub(crate) fn call(function: u64, a: &[u8], lent: &mut [u8], words: &mut [u64]) -> u32 {
+    match function {
+        100 => exports_capture::eiderwagon_capture_start(lent),
+        101 => exports_capture::eiderwagon_capture_feed(lent, a, words),
+        102 => exports_capture::eiderwagon_capture_finish(lent, a),
+        103 => exports_capture::eiderwagon_capture_write(a, lent, words),
+        104 => exports_capture::eiderwagon_capture_report(a, lent, words),
+        _ => NO_FUNCTION,
+    }
+}

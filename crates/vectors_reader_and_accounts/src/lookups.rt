@@ -1,0 +1,55 @@
+// The lookup in a table of account records: `a` is the table, zero bytes where it gives fewer records than there are, `b`
+// the entry, `n` how many records are used.
+use accounts::RECORDS;
+use login::account::Account;
+use login::account::Verdict;
+use login::table::RECORD_SIZE;
+use text_fields::sound::PASSWORD_SIZE;
+use text_fields::sound::USERNAME_SIZE;
+use vector_lines::parse;
+use vector_lines::print;
+use wire::kinds::ByteOffset;
+use wire::parts;
+
+// Bytes of a table.
+pub(crate) const TABLE_SIZE: usize = RECORDS * RECORD_SIZE;
+
+// The account at a place.
+fn account(bytes: &[u8], at: usize) -> Account {
+    let record = parts::part(bytes, ByteOffset(at), RECORD_SIZE);
+    Account {
+        username: parts::six(record),
+        password: parts::ten(parts::part(record, ByteOffset(USERNAME_SIZE), PASSWORD_SIZE)),
+    }
+}
+
+// The records of a table.
+pub(crate) fn by_value(table: &[u8]) -> [Account; RECORDS] {
+    [
+        account(table, 0),
+        account(table, RECORD_SIZE),
+        account(table, 2 * RECORD_SIZE),
+        account(table, 3 * RECORD_SIZE),
+    ]
+}
+
+// How many records are used.
+pub(crate) fn used(fields: &[u8]) -> usize {
+    parse::number(fields, b'n') as usize
+}
+
+fn told(verdict: Verdict) {
+    match verdict {
+        Verdict::Known => print::text(b"known"),
+        Verdict::Unknown => print::text(b"unknown"),
+        Verdict::TooMany => print::text(b"too-many"),
+    }
+}
+
+pub(crate) fn ask(fields: &[u8]) {
+    let mut table = [0u8; TABLE_SIZE];
+    parse::bytes(fields, b'a', &mut table);
+    let mut entry = [0u8; RECORD_SIZE];
+    parse::bytes(fields, b'b', &mut entry);
+    told(accounts::lookup_among(by_value(&table), used(fields), account(&entry, 0)));
+}
