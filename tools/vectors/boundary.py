@@ -1,6 +1,6 @@
-"""The boundary as `include/eiderwagon.h` has it: how states lie in bytes, what codes mean, how many words each function sets and
-when a buffer is too short. No other module knows these: where the boundary changes, this one does. What is answered comes
-from document 01's rules."""
+"""The boundary as `include/eiderwagon.h` has it: how states lie in bytes, what codes mean, how many words each function
+sets and when a buffer is too short. No other module knows these: where the boundary changes, this one does. What is
+answered comes from document 01's rules."""
 import struct
 
 import capture_rules as capture
@@ -46,6 +46,7 @@ COUNTS = struct.Struct(">B6Q")  # behind a receiver: the stage's code, records, 
 
 CURSOR_SIZE, RECEIVER_SIZE, SERVER_SIZE, CLIENT_SIZE = CURSOR.size, RECEIVER.size, SESSION.size, SESSION.size
 CAPTURE_SIZE = RECEIVER.size + COUNTS.size
+ENDED_TOO = 2  # a code that no call writes, and that means ended like the one that they do
 # fixed sizes of inputs
 NAME_SIZE, USERNAME_SIZE, PASSWORD_SIZE = 10, 6, 10
 
@@ -171,11 +172,12 @@ def capture_feed(s, a):
 
 
 class Function:
-    """A function that hosts call: its number in the program; its rule, from a line's fields to the words and to what it lays
-    at the front of the lent bytes; how many words it sets, and the names of the first; and the fixed sizes of its fields.
+    """A function that hosts call: its number in the program; its rule, from a line's fields to the words and to what it
+    lays at the front of the lent bytes; how many words it sets, and the names of the first one; and the fixed sizes of
+    its fields.
 
-    41 comes before every other ground for words or a field of a fixed size that are too short, and after every other ground
-    for an output that is."""
+    41 comes before every other ground for words or a field of a fixed size that are too short, and after every other
+    ground for an output that is."""
 
     def __init__(self, number, rule, words=0, names=None, **sizes):
         self.number, self.rule, self.words, self.names, self.sizes = number, rule, words, names, sizes

@@ -3,7 +3,17 @@ import itertools
 import pathlib
 
 from boundary import CAPTURE_SIZE, reading_bytes, reading_in
-from capture_rules import COUNTS, LONGEST, MOST_RECORDS, REFUSED_TEXT, Reading, Report, Tally, capture_text, reading_text
+from capture_rules import (
+    COUNTS,
+    LONGEST,
+    MOST_RECORDS,
+    REFUSED_TEXT,
+    Reading,
+    Report,
+    Tally,
+    capture_text,
+    reading_text,
+)
 from captures import BAD_SETTINGS, GOOD_SETTINGS, capture, lines, record
 from datagrams import FULLEST, LARGEST, REFUSED, ROOM, data_of, end, heartbeat, packet
 from lines import room
@@ -18,8 +28,8 @@ ALL = 200000  # a piece that holds a whole capture
 
 
 def whole(v, name, data, *pieces, more=4, **expected):
-    """A capture with what some lines of its report have to say, written into so many bytes more than that has; and the same
-    capture in pieces of some sizes."""
+    """A capture with what some lines of its report have to say, written into so many bytes more than that has; and the
+    same capture in pieces of some sizes."""
     text = capture_text(data)
     for key, value in expected.items():
         assert f"{key}={value}\n" in text.decode(), (name, text)
@@ -57,8 +67,6 @@ def document(v):
     whole(v, "41: one byte short", example, more=-1)
     whole(v, "41: no room", example, more=-len(text))
     whole(v, "much room", example, 2, 11, 22, 260, 261, more=500 - len(text))
-    v.heading("41: too few words")
-    v.ask("capture_report", (41,), a=example, s=room(len(text)), spare=-1)
 
 
 DOCUMENT_TEXT = b"""\
@@ -123,7 +131,8 @@ def names(v):
         ("0x20 and 0x7E", b" ~ ~ ~ ~ ~"),
         ("digits", b"0123456789"),
     ):
-        data = capture(data_of(1, 1, session=session), data_of(2, 1), heartbeat(2, session=session), start=lines(session))
+        datagrams = (data_of(1, 1, session=session), data_of(2, 1), heartbeat(2, session=session))
+        data = capture(*datagrams, start=lines(session))
         whole(v, name, data, session=session.decode(), next=2, delivered=1, quiet=1, refused=1)
 
 
@@ -348,22 +357,6 @@ def reading(v):
             reader.write(out)
 
 
-def short_states(v):
-    v.section("41: a state one byte short, too few words")
-    short = room(CAPTURE_SIZE - 1)
-    v.ask("capture_start", (41,), s=short)
-    v.ask("capture_feed", (41,), s=short, a=b"")
-    v.ask("capture_feed", (41,), s=room(CAPTURE_SIZE), a=b"", spare=-1)
-    v.ask("capture_finish", (41,), s=short, a=b"")
-    v.ask("capture_write", (41,), a=short, s=room(256))
-    v.ask("capture_write", (41,), a=room(CAPTURE_SIZE), s=room(256), spare=-1)
-    v.heading("as many words as are set; bytes past the state are not touched; any other code is settings refused")
-    v.ask("capture_feed", (0, 1), s=room(CAPTURE_SIZE + 2), a=b"", spare=0)
-    v.ask("capture_start", s=room(CAPTURE_SIZE + 2))
-    v.ask("capture_finish", s=room(CAPTURE_SIZE + 2), a=b"")
-    v.ask("capture_write", a=room(CAPTURE_SIZE), s=room(256))
-
-
 def reports(v):
     reader = Reader(v)
     fresh = (ROOM, 3, 100, False)
@@ -451,7 +444,6 @@ GROUPS = (
     largest,
     long_captures,
     reading,
-    short_states,
     reports,
     texts,
 )

@@ -36,15 +36,6 @@ def starts(v):
         for session in (ROOM, BLANK):
             start(v, (), session, number, 1)
         start(v, (19,), b"READROOM  ", number, 1)
-    v.section("41, before every other ground")
-    start(v, (41,), bytes(9), 7)
-    start(v, (41,), bytes(10), 7, -1)
-    v.ask("client_step", (41,), s=room(CLIENT_SIZE - 1), a=raw(0, b"S"))
-    v.ask("client_step", (41,), s=room(CLIENT_SIZE), a=raw(0, b"S"), spare=-1)
-    v.heading("as many words as are set; bytes past the state are not touched; any other code is closed")
-    asked = client_bytes(Client(ROOM, 7, "asked"))
-    v.ask("client_step", ("accepted", 33, 7), s=asked + b"\x07\x08", a=accepted(), spare=0)
-    v.ask("client_step", (32,), s=room(CLIENT_SIZE), a=accepted())
 
 
 # what each state answers to each of the server's letters, and the client after it where that is another

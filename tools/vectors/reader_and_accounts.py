@@ -1,5 +1,5 @@
-"""Vectors of the program `vectors_reader_and_accounts`: a reader over a datagram, and the lookup and the server's step over account
-records, none of which an exported function reaches. Answers are in words."""
+"""Vectors of the program `vectors_reader_and_accounts`: a reader over a datagram, and the lookup and the server's step
+over account records, none of which an exported function reaches. Answers are in words."""
 import itertools
 import typing
 
@@ -207,7 +207,8 @@ def logins(v):
     for session in (ROOM, BLANK, OTHER):
         logs_in(unavailable if session == OTHER else good, READER, GUEST, READER, session=session)
         logs_in(refused, READER, GUEST, session=session)
-    for last, wanted, number in ((0, 0, 1), (0, 1, 1), (5, 0, 5), (5, 6, 6), (TOP - 1, TOP, TOP), (TOP - 1, 0, TOP - 1)):
+    granted = ((0, 0, 1), (0, 1, 1), (5, 0, 5), (5, 6, 6), (TOP - 1, TOP, TOP), (TOP - 1, 0, TOP - 1))
+    for last, wanted, number in granted:
         logs_in(f"accepted number={number}", READER, READER, wanted=b"%d" % wanted, last=last)
     for last, wanted in ((0, 2), (5, 7), (5, TOP), (TOP - 2, TOP)):
         logs_in(unavailable, READER, READER, wanted=b"%d" % wanted, last=last)

@@ -216,15 +216,6 @@ def starts(v):
         v.heading(f"last {last}")
         start(v, () if last < TOP else (19,), ROOM, last, 1)
         start(v, (19,), BLANK, last, 1)
-    v.section("41, before every other ground")
-    start(v, (41,), BLANK[:9], 5)
-    start(v, (41,), BLANK, 5, -1)
-    v.ask("server_step", (41,), s=room(SERVER_SIZE - 1), a=TOO_MANY, b=b"")
-    v.ask("server_step", (41,), s=room(SERVER_SIZE), a=TOO_MANY, b=b"", spare=-1)
-    v.heading("as many words as are set; bytes past the state are not touched; any other code is closed")
-    waiting = server_bytes(Server(ROOM, 5, "waiting"))
-    v.ask("server_step", ("accepted", 49, 3), s=waiting + b"\x07\x08", a=READER, b=LOGIN, spare=0)
-    v.ask("server_step", (32,), s=room(SERVER_SIZE), a=READER, b=LOGIN)
 
 
 def start(v, expected, session, last, more=0):

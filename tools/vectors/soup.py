@@ -334,7 +334,6 @@ def plain_written(v):
         ("client", b"O", "soup_write_logout"),
     ):
         rooms(v, letter.decode(), function, sender, packet(letter))
-        v.ask(function, (41,), s=room(3), spare=-1)
     for sender, letter, function in (
         ("server", b"+", "soup_write_debug"),
         ("server", b"S", "soup_write_sequenced"),
@@ -351,7 +350,6 @@ def plain_written(v):
             ("22: 8,192 bytes", 8192, b"m" * 8192),
         ):
             v.case(name, function, a=payload, s=room(size))
-        v.case("41 before 22: no words", function, a=b"m" * 4097, s=room(8192), spare=-1)
     v.heading("a debug packet is read from the client too")
     read(v, "client", packet(b"+", b"note"), "+", 7)
 
@@ -372,8 +370,6 @@ def accepted_written(v):
         else:
             both(v, 46, f"a session: {name}", function, 33, a=field, n=7)
     both(v, 46, "both bad", function, 33, a=BLANK, n=0)
-    v.case("41 before 46: a session of nine bytes, all spaces", function, a=BLANK[:9], n=0, s=room(33))
-    v.case("41 before 46: too few words", function, a=BLANK, n=0, s=room(33), spare=-1)
 
 
 def rejected_written(v):
@@ -385,7 +381,6 @@ def rejected_written(v):
         else:
             both(v, 46, name, "soup_write_rejected", 4, n=reason)
         v.ask("soup_write_rejected", n=reason, s=room(5))
-    v.case("41 before 46: too few words", "soup_write_rejected", n=0, s=room(5), spare=-1)
 
 
 def login_written(v):
@@ -421,8 +416,6 @@ def login_written(v):
     both(v, 46, "password, a byte 0 in its last place", function, 49, **{**good, "b": b"secret123\x00"})
     both(v, 46, "password, a letter behind a space in its last place", function, 49, **{**good, "b": b"secret12 3"})
     both(v, 46, "all of it bad", function, 49, a=b" " * 6, b=BLANK, c=b"READ ROOM1", n=0)
-    v.heading("41 before 46: too few words")
-    v.ask(function, (41,), **{**good, "a": b" " * 6}, s=room(49), spare=-1)
 
 
 def text_fields(v):
@@ -432,7 +425,7 @@ def text_fields(v):
     def written_login(username=USER, password=word, session=BLANK, number=0):
         v.ask("soup_write_login", a=username, b=password, c=session, n=number, s=room(60))
 
-    v.section("session fields, blank not allowed and allowed; of other sizes the first ten bytes count, and fewer are 41")
+    v.section("session fields, in A and in L, and of other sizes")
     sizes = (b"", b" ", b"a", b"a ", b" a", b"READROOM012345", b"            R", b"R" * 64, b" " * 64)
     for field in (*(field for _, field, _, _ in SESSIONS + MORE_SESSIONS), *sizes):
         v.ask("soup_write_accepted", a=field, n=1, s=room(40))
@@ -449,7 +442,7 @@ def text_fields(v):
             written_login(password=field.ljust(10))
         written_login(username=b"reade" + bytes([byte]))
         written_login(password=b"secret123" + bytes([byte]))
-    v.heading("of other sizes the first six and ten bytes count, and fewer are 41")
+    v.heading("of other sizes")
     sizes = (b"", b" ", b"u", b" u", b"u ", b"u u", b"us\x00", b"u" * 64, b" " * 64, b"u" * 63 + b" ", b"u" + b" " * 63)
     for field in sizes:
         written_login(username=field)

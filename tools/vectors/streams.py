@@ -47,7 +47,7 @@ GOOD = {
     },
 }
 
-# number fields: what the digits and the spaces before them may be, with the number in A and the one in L, None where bad
+# number fields: digits and the spaces before them, with the number in A and the one in L, None where bad
 NUMBERS = [
     ("one digit", right(b"1", 20), 1, 1),
     ("the largest number", right(b"18446744073709551615", 20), TOP, TOP),

@@ -1,5 +1,5 @@
-// The lookup in a table of account records: `a` is the table, zero bytes where it gives fewer records than there are, `b`
-// the entry, `n` how many records are used.
+// The lookup in a table of account records: `a` is the table, with records of zero bytes where it gives fewer than
+// there are, `b` the entry, `n` how many records are used.
 use accounts::RECORDS;
 use login::account::Account;
 use login::account::Verdict;

@@ -1,4 +1,5 @@
-// What a reader shows at a cursor, which may be any: `a` is the datagram, `n` the cursor's place, `m` how many are left.
+// What a reader shows at a cursor, which may be any: `a` is the datagram, `n` the cursor's place, `m` how many are
+// left.
 use moldudp64_messages::cursor::Cursor;
 use moldudp64_reader::Shown;
 use vector_lines::parse;

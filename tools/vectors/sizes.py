@@ -1,0 +1,99 @@
+"""Vectors of every function with lent buffers of other sizes: states, outputs, words and inputs of a fixed size that
+are one element too short, as long as needed, and longer; in a good call, and in one that is refused on another ground.
+Which ground comes first is the boundary's to say, so nothing is expected here."""
+from boundary import (
+    CAPTURE_SIZE,
+    CLIENT_SIZE,
+    CURSOR_SIZE,
+    FUNCTIONS,
+    RECEIVER_SIZE,
+    SERVER_SIZE,
+    client_bytes,
+    cursor_bytes,
+    lengths_bytes,
+    reading_bytes,
+    receiver_bytes,
+    server_bytes,
+)
+from capture_rules import START
+from captures import lines
+from datagrams import ROOM, TWO, data_of
+from lines import FILL, room
+from logins import LOGIN, READER, UNSOUND_RECORD
+from mold_rules import Receiver, header
+from session_rules import Client, Server
+from streams import BLANK, PASSWORD, USER, accepted, packet, raw
+
+LONG = b"m" * 4097  # a payload that no packet has
+
+# of each function a good call, and refused ones
+CALLS = {
+    "mold_read": [dict(a=TWO), dict(a=b"")],
+    "mold_locate": [dict(a=TWO, n=0)],
+    "mold_walk": [dict(a=TWO, s=room(CURSOR_SIZE))],
+    "mold_next": [dict(a=TWO, s=cursor_bytes((20, 2)))],
+    "mold_write_data": [
+        dict(a=ROOM, n=1, b=lengths_bytes([1]), c=b"a", s=room(24)),
+        dict(a=ROOM, n=0, b=lengths_bytes([1]), c=b"a", s=room(40)),
+    ],
+    "mold_write_heartbeat": [dict(a=ROOM, n=6, s=room(20)), dict(a=ROOM, n=0, s=room(30))],
+    "mold_write_end": [dict(a=ROOM, n=6, s=room(20)), dict(a=ROOM, n=0, s=room(30))],
+    "mold_read_request": [dict(a=header(ROOM, 3, 2)), dict(a=b"")],
+    "mold_write_request": [dict(a=ROOM, n=3, m=2, s=room(20)), dict(a=ROOM, n=0, m=2, s=room(20))],
+    "receiver_start": [
+        dict(a=ROOM, n=1, m=100, s=room(RECEIVER_SIZE)),
+        dict(a=ROOM, n=0, m=0, s=room(RECEIVER_SIZE)),
+    ],
+    "receiver_take": [
+        dict(a=data_of(5, 1), s=receiver_bytes(Receiver(ROOM, 5, 9, False))),
+        dict(a=data_of(5, 1), s=receiver_bytes(Receiver(ROOM, 5, 9, True))),
+        dict(a=b"", s=room(RECEIVER_SIZE)),
+    ],
+    "receiver_walk": [dict(a=TWO, n=1, m=0, s=room(CURSOR_SIZE))],
+    "soup_read": [dict(a=LOGIN, n=1), dict(a=raw(0, b"L"), n=1)],
+    "soup_scan": [dict(a=LOGIN, n=1), dict(a=raw(0, b"L"), n=1)],
+    "soup_write_debug": [dict(a=b"note", s=room(7)), dict(a=LONG, s=room(8192))],
+    "soup_write_accepted": [dict(a=ROOM, n=7, s=room(33)), dict(a=BLANK, n=0, s=room(33))],
+    "soup_write_rejected": [dict(n=ord("A"), s=room(4)), dict(n=0, s=room(5))],
+    "soup_write_sequenced": [dict(a=b"note", s=room(7)), dict(a=LONG, s=room(8192))],
+    "soup_write_server_heartbeat": [dict(s=room(3))],
+    "soup_write_end": [dict(s=room(3))],
+    "soup_write_login": [
+        dict(a=USER, b=PASSWORD, c=ROOM, n=7, s=room(49)),
+        dict(a=b" " * 6, b=PASSWORD, c=ROOM, n=7, s=room(49)),
+    ],
+    "soup_write_unsequenced": [dict(a=b"note", s=room(7)), dict(a=LONG, s=room(8192))],
+    "soup_write_client_heartbeat": [dict(s=room(3))],
+    "soup_write_logout": [dict(s=room(3))],
+    "server_start": [dict(a=ROOM, n=5, s=room(SERVER_SIZE)), dict(a=BLANK, n=5, s=room(SERVER_SIZE))],
+    "server_step": [
+        dict(a=READER, b=LOGIN, s=server_bytes(Server(ROOM, 5, "waiting"))),
+        dict(a=READER, b=LOGIN, s=server_bytes(Server(ROOM, 5, "closed"))),
+        dict(a=UNSOUND_RECORD * 1025, b=b"", s=room(SERVER_SIZE)),
+    ],
+    "client_start": [dict(a=ROOM, n=7, s=room(CLIENT_SIZE)), dict(a=bytes(10), n=7, s=room(CLIENT_SIZE))],
+    "client_step": [
+        dict(a=accepted(), s=client_bytes(Client(ROOM, 7, "asked"))),
+        dict(a=packet(b"S"), s=client_bytes(Client(ROOM, 7, "closed"))),
+        dict(a=raw(0, b"S"), s=room(CLIENT_SIZE)),
+    ],
+    "capture_start": [dict(s=room(CAPTURE_SIZE))],
+    "capture_feed": [dict(a=lines() + bytes(40), s=reading_bytes(START)), dict(a=b"", s=room(CAPTURE_SIZE))],
+    "capture_finish": [dict(a=lines(), s=reading_bytes(START)), dict(a=b"", s=room(CAPTURE_SIZE))],
+    "capture_write": [dict(a=reading_bytes(START), s=room(17))],
+    "capture_report": [dict(a=b"", s=room(17))],
+}
+
+
+def sizes(v):
+    for name, calls in CALLS.items():
+        v.section(f"buffers of other sizes: {name}")
+        for fields in calls:
+            for spare in (-1, 0) if FUNCTIONS[name].words else (0,):
+                v.ask(name, spare=spare, **fields)
+            for key in sorted({*FUNCTIONS[name].sizes, "s"} & set(fields)):
+                for value in (fields[key][:-1], fields[key] + bytes([FILL]), b""):
+                    v.ask(name, **{**fields, key: value})
+
+
+GROUPS = (sizes,)
