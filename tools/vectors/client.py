@@ -148,7 +148,7 @@ def messages(v):
         at(v, (number,), state, packet(b"S", b"x"), number=TOP)
 
 
-def runs(v):
+def connections(v):
     def runs(name, data, *pieces, session=ROOM, number=7):
         v.heading(name)
         for piece in pieces or (ALL,):
@@ -208,4 +208,4 @@ def runs(v):
     assert client == Client(ROOM, 9, "ended")
 
 
-GROUPS = (starts, grid, logins, messages, runs)
+GROUPS = (starts, grid, logins, messages, connections)

@@ -351,7 +351,7 @@ def logins(v):
     logs_in(NOT_AVAILABLE, READER, READER, session=OTHER, wanted=b"7")
 
 
-def runs(v):
+def connections(v):
     def runs(name, data, *pieces, session=ROOM, last=5, table=READER):
         v.heading(name)
         for piece in pieces or (ALL,):
@@ -394,4 +394,4 @@ def runs(v):
     runs("last 0, wanted 2", login(ROOM, b"2", USER, WORD) + packet(b"R"), last=0)
 
 
-GROUPS = (lookups, compared, long_tables, decisions, starts, grid, logins, runs)
+GROUPS = (lookups, compared, long_tables, decisions, starts, grid, logins, connections)
