@@ -86,6 +86,7 @@ CALLS = {
 
 
 def sizes(v):
+    assert list(CALLS) == list(FUNCTIONS), "every function, in the table's order"
     for name, calls in CALLS.items():
         v.section(f"buffers of other sizes: {name}")
         for fields in calls:
