@@ -1,6 +1,7 @@
 """The boundary as `include/eiderwagon.h` has it: how states lie in bytes, what codes mean, how many words each function
 sets and when a buffer is too short. No other module knows these: where the boundary changes, this one does. What is
 answered comes from document 01's rules."""
+import inspect
 import struct
 
 import capture_rules as capture
@@ -181,7 +182,7 @@ class Function:
 
     def __init__(self, number, rule, words=0, names=None, **sizes):
         self.number, self.rule, self.words, self.names, self.sizes = number, rule, words, names, sizes
-        self.keys = rule.__code__.co_varnames[: rule.__code__.co_argcount]
+        self.keys = inspect.signature(rule).parameters
 
     def answer(self, fields, words):
         lent = fields.get("s", b"")
