@@ -48,6 +48,7 @@ class Item:
         self.path, self.module, self.owner = path, module, owner
         self.public, self.is_function = bool(m.group(2)), m.group(3) is not None
         self.name = m.group(4) or m.group(6)
+        self.is_exported = 'extern "C"' in m.group(0)
         self.clauses = []
         if self.is_function:
             body = HEAD_ENDS.search(plain, after(plain, plain.index("(", m.end()))).start()
