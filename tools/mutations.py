@@ -178,8 +178,10 @@ class Room:
         shutil.copy(ROOT / "crates.txt", self.copy)
         shutil.copytree(ROOT / "crates", self.copy / "crates")
         for part in ("rlib", "stamp"):
-            if (ROOT / "target" / part).is_dir():
-                shutil.copytree(ROOT / "target" / part, self.copy / "target" / part)
+            (self.copy / "target" / part).mkdir(parents=True)
+            for proved in (ROOT / "target" / part).glob("*"):
+                if proved.stem in sources.reached_by(name):
+                    subprocess.run(["cp", "-R", proved, self.copy / "target" / part], check=True)
         self.is_proved = self.check()[0] == "proved"
         self.mir, self.needs = self.rt("mir"), None
 

@@ -26,6 +26,16 @@ def libraries():
     return [n for n in crates() if not n.startswith(UNPROMISED) and (ROOT / "crates" / n / "src/lib.rt").exists()]
 
 
+def reached_by(crate):
+    """The crates of the repository that a crate depends on, directly or not."""
+    listed, found, todo = crates(), set(), [crate]
+    while todo:
+        new = {dep for dep in listed[todo.pop()] if dep in listed} - found
+        found |= new
+        todo += new
+    return found
+
+
 def masked(text):
     """The text with comments and literals blanked, each place as it was, so that braces can be counted."""
     return HIDDEN.sub(lambda m: re.sub(r"[^\n]", " ", m.group(0)), text)
