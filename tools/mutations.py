@@ -364,6 +364,8 @@ def page():
 
 def check():
     faults = [fault for name in sources.libraries() for fault in faults_of(name)]
+    gone = {path.stem for path in DATA.glob("*.json")} - set(sources.libraries())
+    faults += [f"docs/mutations/{name}.json is of no library with promises" for name in sorted(gone)]
     if not PAGE.exists() or PAGE.read_text() != page():
         faults.append("docs/MUTATIONS.md is not what is recorded: run tools/mutations.py --page")
     count = sum(len(sources.functions_of(name)) for name in sources.libraries())
