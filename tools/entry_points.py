@@ -4,10 +4,11 @@
     tools/entry_points.py            writes docs/ENTRY-POINTS.md
     tools/entry_points.py --check    compares with that file, and exits 1 on a difference
 
-Either way it exits 1 where a public function has a `requires`, has no `ensures`, lends `&mut` memory of which no clause speaks, or has
-fewer than two refused changes in docs/mutations/ (tools/mutations.py) and neither an edit nor a reason; and where an edit names neither a
-public function nor a statement of its crate. An edit's first line names the functions whose wrong answers it is: `# step: ..`, or
-`# Server::step, Server::step_with: ..` where a crate has several of one name; or the statement of specs/ that it breaks: `# AnyCutting: ..`.
+Either way it exits 1 where a public function has a `requires`, has no `ensures`, lends `&mut` memory of which no clause
+speaks, or has fewer than two refused changes in docs/mutations/ (tools/mutations.py) and neither an edit nor a reason;
+and where an edit names neither a public function nor a statement of its crate. An edit's first line names the functions
+whose wrong answers it is: `# step: ..`, or `# Server::step, Server::step_with: ..` where a crate has several of one
+name; or the statement of specs/ that it breaks: `# AnyCutting: ..`.
 """
 import re
 import sys
@@ -19,10 +20,10 @@ from sources import ROOT
 LIST = ROOT / "docs/ENTRY-POINTS.md"
 HEADER = """# Entry points
 
-Made by `tools/entry_points.py` from the sources; the gate compares. Every public function of the libraries: what it promises of its result
-`r` and of lent memory (`out` is a lent output as it came, `out′` as it is left); how many drawn changes of its code the prover refused
-(`docs/MUTATIONS.md` shows them); and the mistakes that a reader of the tender would name (`must-fail/`). None has a `requires`. A statement
-in capitals is a theorem in `specs/`.
+Made by `tools/entry_points.py` from the sources; the gate compares. Every public function of the libraries: what it
+promises of its result `r` and of lent memory (`out` is a lent output as it came, `out′` as it is left); how many drawn
+changes of its code the prover refused (`docs/MUTATIONS.md` shows them); and the mistakes that a reader of the tender
+would name (`must-fail/`). None has a `requires`. A statement in capitals is a theorem in `specs/`.
 """
 
 
@@ -75,7 +76,8 @@ def section(crate, faults):
     if not rows:
         return ""
     also = [f"\nEdits of a statement: {', '.join(broken)}."] if broken else []
-    return "\n".join([f"\n## `{crate}`\n", "| function | promises | refused | edits |", "|---|---|---|---|", *rows, *also]) + "\n"
+    head = [f"\n## `{crate}`\n", "| function | promises | refused | edits |", "|---|---|---|---|"]
+    return "\n".join([*head, *rows, *also]) + "\n"
 
 
 def main():

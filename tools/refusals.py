@@ -1,11 +1,11 @@
 #!/usr/bin/env python3
-"""One table of the refusals: crates/wire/src/refusal.rt, each with its number, its name and, in the comment before it, its ground.
+"""One table of the refusals: crates/wire/src/refusal.rt has each with its number, its name and, in words, its ground.
 
     tools/refusals.py            writes its names and words into the four places that repeat them
     tools/refusals.py --check    compares, and exits 1 on a difference
 
-Where OUTPUT_SHORT stands in the table, the definitions say outputShort, the header EIDERWAGON_REFUSED_OUTPUT_SHORT, the wrapper
-REFUSED_OUTPUT_SHORT and OutputShort. A missing row is said, and written by hand: where it goes is for a person to decide.
+Where OUTPUT_SHORT stands in the table, the definitions say outputShort, the header EIDERWAGON_REFUSED_OUTPUT_SHORT, the
+wrapper REFUSED_OUTPUT_SHORT and OutputShort. A missing row is said, and written by hand.
 """
 import re
 import sys

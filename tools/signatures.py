@@ -1,7 +1,8 @@
 #!/usr/bin/env python3
-"""Compares the exported functions in src/ with include/eiderwagon.h and with the Rust wrapper's declarations; exits 1 on a difference.
+"""Compares the exported functions in src/ with include/eiderwagon.h and with the Rust wrapper's declarations.
 
-A slice of Rattle is a pointer and its size in C. A parameter has the same name, kind and place in all three.
+A slice of Rattle is a pointer and its size in C. A parameter has the same name, kind and place in all three; where one
+hasn't, it exits 1.
 """
 import re
 import sys
@@ -20,9 +21,8 @@ def split(parameters):
 
 def in_sources():
     """The functions marked `pub extern "C"`, over all crates."""
-    items = [item for crate in sources.crates() for item in sources.items_of(crate) if item.is_function and item.is_exported]
     found = {}
-    for item in items:
+    for item in (item for crate in sources.crates() for item in sources.items_of(crate) if item.is_exported):
         parameters, answer = re.fullmatch(r"\((.*)\)(.*)", item.signature).groups()
         found[item.name] = split(parameters) + [("answer", answer.replace("->", "").strip())]
     return found
@@ -55,7 +55,8 @@ def in_wrapper():
     text = (ROOT / "hosts/eiderwagon/src/raw.rs").read_text()
     listed = re.search(r"^exported! \{\n(.*?)^\}", text, re.M | re.S).group(1)
     listed = re.sub(r"///[^\n]*", "", listed)
-    return {PREFIX + name: split(parameters) + [("answer", "u32")] for name, parameters in re.findall(r"(\w+)\(([^)]*)\);", listed)}
+    functions = re.findall(r"(\w+)\(([^)]*)\);", listed)
+    return {PREFIX + name: split(parameters) + [("answer", "u32")] for name, parameters in functions}
 
 
 def main():

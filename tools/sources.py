@@ -1,4 +1,4 @@
-"""The sources of the libraries, read by name: their functions and constants, which of them a function reaches, and their promises.
+"""The sources of the libraries, read by name: functions and constants, what a function reaches, and its promises.
 
 What the scripts beside it share. A call is found by its name alone, which is enough inside a crate.
 """
@@ -91,7 +91,8 @@ class Item:
                 if other.owner and other.is_function:
                     return True
             elif qualifier:
-                if qualifier[0] in (*other.module[-1:], *other.owner) or (qualifier == ["Self"] and other.owner == self.owner):
+                own = qualifier == ["Self"] and other.owner == self.owner
+                if own or qualifier[0] in (*other.module[-1:], *other.owner):
                     return True
             elif not other.owner and (other.path == self.path or other.name in imported.get(self.path, ())):
                 return True
@@ -133,7 +134,8 @@ def owned_by(crate):
                     found.add(other)
                     todo.append(other)
         reached[function] = found
-    return {f: [i for i in items if i in reached[f] and not any(i in reached[g] for g in public if g is not f)] for f in public}
+    shared = {i for i in items if sum(i in reached[f] for f in public) > 1}
+    return {f: [i for i in items if i in reached[f] - shared] for f in public}
 
 
 def edits_of(crate):
