@@ -4,6 +4,7 @@ Each is one wrong answer, said in words: "`<` became `<=`: the bound itself is t
 """
 import re
 
+import refusals
 import sources
 from sources import ROOT
 
@@ -65,8 +66,7 @@ class Names:
                     found, kind = self.constants, item.code.split("=")[0].split(":")[-1]
                 for place in {place_of(item), *item.owner}:
                     found.setdefault((place, kind), []).append(item.name)
-        numbers = (ROOT / "crates/wire/src/refusal.rt").read_text()
-        self.refusals = dict(re.findall(r"const ([A-Z_]+): Refusal = Refusal \{ number: (\d+) \}", numbers))
+        self.refusals = {"NONE": 0, **{name: number for number, name, _ in refusals.table()}}
 
     @staticmethod
     def others(found, place, name):
