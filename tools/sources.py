@@ -9,8 +9,8 @@ ROOT = pathlib.Path(__file__).resolve().parent.parent
 # what the program of vectors stands on: no library of the tender's, and without promises (docs/DECISIONS.md)
 UNPROMISED = "vector"
 ITEM = re.compile(r'^( *)(?:#\[\w+\]\s*)*((?:pub )?)(?:extern "C" |unsafe )*(?:(fn) (\w+)|(const) (\w+):)', re.M)
-HEAD_ENDS = re.compile(r"\s*(?:\{|\b(?:requires|ensures)\b)")
-CLAUSE = re.compile(r"\s*(requires|ensures)\b ?(\w*)\s*(?=\{)")
+HEAD_ENDS = re.compile(r"\s*(?:\{|\b(?:ghost|requires|ensures)\b)")
+CLAUSE = re.compile(r"\s*(ghost|requires|ensures)\b ?(\w*)\s*(?=\{)")
 HIDDEN = re.compile(r"//[^\n]*|b'(?:\\.|[^'\\\n])'|b\"(?:\\.|[^\"\\\n])*\"")
 CLOSING = {"(": ")", "{": "}"}
 
