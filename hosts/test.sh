@@ -1,6 +1,6 @@
 #!/usr/bin/env bash
-# The hosts' tests, over target/staticlib/libeiderwagon.a, which tools/host_library.sh builds: the Rust wrapper with its examples, the
-# differential tests, and the C program, compiled with the header and with warnings as errors.
+# The hosts' tests, over target/staticlib/libeiderwagon.a, which tools/host_library.sh builds: the Rust wrapper with its
+# examples, the differential tests, and the C program, compiled with the header and with warnings as errors.
 set -euo pipefail
 cd "$(dirname "$0")"
 
@@ -15,5 +15,7 @@ fi
 cargo test --release --offline --workspace -- --nocapture
 
 program=target/host
-cc -std=c11 -Wall -Wextra -Wconversion -Wpedantic -Werror -I ../include c/host.c ../target/staticlib/libeiderwagon.a -o "$program"
+warnings='-Wall -Wextra -Wconversion -Wpedantic -Werror'
+# shellcheck disable=SC2086
+cc -std=c11 $warnings -I ../include c/host.c ../target/staticlib/libeiderwagon.a -o "$program"
 "$program"

@@ -38,31 +38,32 @@ extern "C" {
 
 enum {
     EIDERWAGON_OK = 0,
-    EIDERWAGON_REFUSED_DATAGRAM_SHORT = 11,     /* a MoldUDP64 datagram under 20 bytes */
-    EIDERWAGON_REFUSED_DATAGRAM_LONG = 12,      /* a MoldUDP64 datagram over 65,507 bytes, or a writer's total */
-    EIDERWAGON_REFUSED_NUMBER_ZERO = 13,        /* the sequence number is 0 */
+    EIDERWAGON_REFUSED_DATAGRAM_SHORT = 11,     /* a Mold datagram under 20 bytes */
+    EIDERWAGON_REFUSED_DATAGRAM_LONG = 12,      /* a Mold datagram over 65,507 bytes, or a writer's total */
+    EIDERWAGON_REFUSED_NUMBER_ZERO = 13,        /* the number is 0 */
     EIDERWAGON_REFUSED_NUMBERS_RUN_OUT = 14,    /* for data, number + count is above 2^64 - 1 */
-    EIDERWAGON_REFUSED_BLOCK_PAST_END = 15,     /* a message block runs past the end */
-    EIDERWAGON_REFUSED_BYTES_AFTER_BLOCKS = 16, /* bytes stand after the last message block */
-    EIDERWAGON_REFUSED_SESSION_DIFFERS = 17,    /* the datagram is of another session */
+    EIDERWAGON_REFUSED_BLOCK_PAST_END = 15,     /* a block runs past the end */
+    EIDERWAGON_REFUSED_BYTES_AFTER_BLOCKS = 16, /* bytes stand after the last block */
+    EIDERWAGON_REFUSED_SESSION_DIFFERS = 17,    /* the session differs */
     EIDERWAGON_REFUSED_SESSION_ENDED = 18,      /* the session has already ended */
-    EIDERWAGON_REFUSED_BAD_SETTING = 19,        /* a bad starting setting, or over 1,024 account records */
+    EIDERWAGON_REFUSED_BAD_SETTING = 19,        /* a bad starting setting, or an account table over 1,024 records */
     EIDERWAGON_REFUSED_END_BELOW_EXPECTED = 20, /* an end of session below the expected number */
     EIDERWAGON_REFUSED_LENGTH_ZERO = 21,        /* a packet's length is 0 */
     EIDERWAGON_REFUSED_PAYLOAD_LONG = 22,       /* a payload above 4,096 bytes */
-    EIDERWAGON_REFUSED_LETTER_NOT_SENT = 23,    /* the packet's letter is unknown, or of the wrong sender */
-    EIDERWAGON_REFUSED_LENGTH_WRONG = 24,       /* the packet's length is wrong for its letter */
+    EIDERWAGON_REFUSED_LETTER_NOT_SENT = 23,    /* the letter is unknown, or of the wrong sender */
+    EIDERWAGON_REFUSED_LENGTH_WRONG = 24,       /* the length is wrong for the letter */
     EIDERWAGON_REFUSED_FIELD_BAD = 25,          /* a bad session, number or reason field */
     EIDERWAGON_REFUSED_PACKET_NOT_TAKEN = 31,   /* the packet isn't taken in this state */
-    EIDERWAGON_REFUSED_STATE_CLOSED = 32,       /* the session is ended or closed */
-    EIDERWAGON_REFUSED_LOGIN_NOT_ASKED = 33,    /* a login accepted doesn't match what was asked for */
+    EIDERWAGON_REFUSED_STATE_CLOSED = 32,       /* the state is ended or closed */
+    EIDERWAGON_REFUSED_LOGIN_NOT_ASKED = 33,    /* a login accepted doesn't match what was asked */
     EIDERWAGON_REFUSED_NUMBERS_USED_UP = 34,    /* a sequenced message at 2^64 - 1 */
-    EIDERWAGON_REFUSED_SHORT = 41,              /* a lent buffer is shorter than needed */
+    EIDERWAGON_REFUSED_OUTPUT_SHORT = 41,       /* the lent output is shorter than needed */
     EIDERWAGON_REFUSED_TOO_MANY_MESSAGES = 42,  /* over 65,534 messages */
     EIDERWAGON_REFUSED_LENGTHS_DIFFER = 44,     /* the lengths don't add up to the data */
-    EIDERWAGON_REFUSED_FIELD_NOT_WRITTEN = 46,  /* an unsound username or password, a bad session or reason, or A number 0 */
+    EIDERWAGON_REFUSED_FIELD_NOT_WRITTEN = 46,  /* a writer is given an unsound username or password, a bad session
+                                                   or reason, or A number 0 */
     EIDERWAGON_REFUSED_REQUEST_SIZE = 47,       /* a request that isn't 20 bytes */
-    EIDERWAGON_REFUSED_REQUEST_COUNT = 48       /* a request's count is 0 or 65,535 */
+    EIDERWAGON_REFUSED_REQUEST_COUNT = 48       /* a request whose count is 0 or 65,535 */
 };
 
 /* ---- Sizes, in bytes ------------------------------------------------------------------------------------------------------------ */

@@ -1,8 +1,8 @@
 #!/usr/bin/env python3
 """Says whether each name on docs/ACCEPTANCE.md stands in the sources, and exits 1 where one doesn't.
 
-A name is a word between back-quotes: a definition, a statement or a field of specs/, a function, a type or a constant of src/, a must-fail
-edit, a crate, or the path of a file.
+A name is a word between back-quotes: a definition, a statement or a field of specs/, a function, a type or a constant
+of src/, a must-fail edit, a crate, or the path of a file.
 """
 import pathlib
 import re
@@ -30,7 +30,8 @@ def main():
     names = set(re.findall(r"`(\w[\w·:-]*)`", page))
     missing = [path for path in sorted(paths) if not (ROOT / path).exists()]
     missing += [name for name in sorted(names) if not set(name.split("::")) <= words]
-    print("\n".join([*(f"{PAGE.name}: `{name}` stands nowhere" for name in missing), f"acceptance: {len(names | paths)} names, {len(missing)} missing"]))
+    faults = [f"{PAGE.name}: `{name}` stands nowhere" for name in missing]
+    print("\n".join([*faults, f"acceptance: {len(names | paths)} names, {len(missing)} missing"]))
     sys.exit(1 if missing else 0)
 
 

@@ -1,16 +1,23 @@
 #!/usr/bin/env python3
-"""Changes single operators, constants, branches, names and texts of src/, and asks the prover of each: it has to refuse every change that means something.
+"""Two wrong answers for each public function: changes of its code, drawn by a seed, that the prover has to refuse.
 
-    tools/mutations.py [--seed N] [--count N] [--jobs N] [NAME ...]
+    tools/mutations.py [--seed N] [--each N] [--jobs N] [NAME ...]    draws for these libraries (default: all)
+    tools/mutations.py --check                                        compares what is recorded with the sources
+    tools/mutations.py --page                                         writes docs/MUTATIONS.md from what is recorded
 
-NAME is a library of crates.txt with promises of its own (default: each of them). For each, `count` changes are drawn by the seed
-from all that its code offers; a change that the compiler turns down is no program, and another is drawn for it. A public constant that
-the crate doesn't use itself is left to the crates above. The crates have to be proved (`rt check`): the work is done in a copy, over what
-is proved. A line for each change, and one for each crate. It exits 1 where a change is still proved: either the two programs mean the
-same, or a contract has a hole.
+A change (tools/changes.py) is of one operator, number or name, in a line of the function or of a helper that no other
+public function of its crate reaches. For each function changes are drawn until `each` of them (2) are refused for a
+fact that fails, on lines that differ where there are such. What the compiler turns down, or compiles to the same, is no
+change. One after which the proof only no longer fits the code (it is asked for more or fewer facts, or walks the code
+by hand) is unfit: it shows nothing, and isn't counted. One that is still proved is a survivor: the two programs mean
+the same, or a contract has a hole; a person writes which, as its `reason`, into docs/mutations/NAME.json. A function
+that offers fewer than two gets a must-fail edit that names it, or a `why` there. Drawing anew keeps both.
+
+The work is done in a copy, over what `rt check` proved, and takes a few seconds for each change.
 """
 import argparse
 import concurrent.futures
+import json
 import pathlib
 import random
 import re
@@ -19,177 +26,273 @@ import subprocess
 import sys
 import tempfile
 
-ROOT = pathlib.Path(__file__).resolve().parent.parent
-# what the vector programs share promises nothing, so no change of it can be refused for a promise
-UNPROMISED = {"vector_lines", "vector_calls"}
-OPERATORS = {
-    "<": ["<=", ">"], "<=": ["<", ">="], "==": ["!="], "!=": ["=="],
-    "+": ["-"], "-": ["+"], "*": ["+"], "/": ["*"], "%": ["/"], "&": ["|"], "+=": ["-="], "-=": ["+="],
-}
-OPERATOR = re.compile(r"(?<= )(<=|==|!=|\+=|-=|[<+\-*/%&])(?= )")
-NUMBER = re.compile(r"(?<![\w.\[])\d+(?=u8\b|\b)(?!\.)")
-BYTE = re.compile(r"b'(.)'")
-TRUTH = re.compile(r"\b(true|false)\b")
-NEGATION = re.compile(r"(?<=if )!(?=\w)")
-REFUSAL = re.compile(r"(?<=refusal::)[A-Z][A-Z_]+")
-TEXT = re.compile(r'b"(.)')
-ARGUMENTS = re.compile(r"\((?:&mut \w+, )?([\w.&]+), ([\w.&]+)[,)]")
-FIELD = re.compile(r"(?<=[a-z]\.)([a-z_]+)\b(?!\()")
-VARIANT = re.compile(r"\b([A-Z]\w*)::([A-Z][a-z]\w*)\b(?! *(?:=>|\{|\(|\|))")
+import sources
+from changes import Names, changes_of
+from sources import ROOT
+
+DATA = ROOT / "docs/mutations"
+PAGE = ROOT / "docs/MUTATIONS.md"
+# what the prover says of a fact that it doesn't find; every other error is of a proof that no longer fits
+ERROR = re.compile(r"^(?:\S+: error: .*|note: \S+: it is not proved that .*)", re.M)
+FACT = re.compile(r"no proof of|it is not proved that|does not follow|found no proof|`(?:search|omega|simp|cc)`")
+# the steps of the code, as `rt mir` prints them
+STEP = re.compile(r"\((fn-def|assign|if|switch|arm|call|loop|block|exit|op1|op2|aggregate|addrOf|deref)\b")
 
 
-def libraries():
-    """The libraries of crates.txt that make promises."""
-    names = re.findall(r"^(\w+):", (ROOT / "crates.txt").read_text(), re.M)
-    return [n for n in names if n not in UNPROMISED and (ROOT / "crates" / n / "src/lib.rt").exists()]
+class Room:
+    """A copy of the repository in which one crate can be changed and checked, over what is proved already."""
+
+    def __init__(self, name, folder):
+        self.name, self.copy, self.made = name, folder / "copy", folder / "made"
+        self.copy.mkdir()
+        shutil.copy(ROOT / "crates.txt", self.copy)
+        shutil.copytree(ROOT / "crates", self.copy / "crates")
+        for part in ("rlib", "stamp"):
+            (self.copy / "target" / part).mkdir(parents=True)
+            for proved in (ROOT / "target" / part).glob("*"):
+                if proved.stem in sources.reached_by(name):
+                    subprocess.run(["cp", "-R", proved, self.copy / "target" / part], check=True)
+        self.is_proved = self.check()[0] == "proved"
+        self.mir, self.needs = self.rt("mir"), None
+
+    def rt(self, verb, *words):
+        """What `rt` prints; nothing where the crate is no program."""
+        pipes = {"stdin": subprocess.DEVNULL, "stdout": subprocess.PIPE, "stderr": subprocess.STDOUT}
+        run = subprocess.run(["rt", verb, self.name, *words], cwd=self.copy, check=False, **pipes)
+        return run.stdout.decode(errors="replace") if verb != "mir" or run.returncode == 0 else ""
+
+    def check(self):
+        """What the prover says of the crate as it stands (nothing where it can't tell), and the errors it names."""
+        said = self.rt("dev")
+        logic = re.findall(r"^logic=(proved|not-proved)", said, re.M)
+        return logic[-1] if logic else None, [e for e in ERROR.findall(said) if "was not admitted" not in e]
+
+    def needs_now(self):
+        """For each function whose proof follows the code by itself, how many facts are asked of it."""
+        shutil.rmtree(self.made, ignore_errors=True)
+        self.rt("dev", "--generated", str(self.made))
+        return {path.parent: path.read_text().count("abbrev pub Need-") for path in self.made.rglob("Tie.antt")}
+
+    def fits(self, mir):
+        """Whether the proof is asked for as many facts as before: surely where the code has the same steps."""
+        if STEP.findall(mir) == STEP.findall(self.mir):
+            return True
+        now = self.needs_now()
+        if self.needs is None:
+            self.needs = self.undone(self.needs_now)
+        return now == self.needs
+
+    def undone(self, do):
+        """Does something with the change taken back."""
+        path, changed = self.changed
+        text = path.read_text()
+        path.write_text(changed)
+        answer = do()
+        path.write_text(text)
+        return answer
+
+    def verdict_on(self, change):
+        """proved, refused (for a fact that fails), unfit (the proof no longer fits), or nothing (no other program)."""
+        path, at, line, new, _ = change
+        file = self.copy / path
+        text = file.read_text()
+        lines = text.splitlines(keepends=True)
+        assert lines[at] == line + "\n"
+        lines[at] = new + "\n"
+        self.changed = file, text
+        file.write_text("".join(lines))
+        try:
+            mir = self.rt("mir")
+            if mir in ("", self.mir):
+                return None
+            said, errors = self.check()
+            if said != "not-proved":
+                return said
+            return "refused" if errors and self.is_fact(errors[0]) and self.fits(mir) else "unfit"
+        finally:
+            file.write_text(text)
+
+    def is_fact(self, error):
+        """Whether an error is a fact that isn't found, and not of a proof that walks the code by hand."""
+        proof = re.match(r"(/\S+/Proof\.antt):", error)
+        return bool(FACT.search(error)) and (not proof or ".Tie as tie" in pathlib.Path(proof.group(1)).read_text())
 
 
-def enums():
-    """For each enum of the repository, its variants that hold nothing."""
-    found = {}
-    for path in sorted(ROOT.glob("crates/*/src/**/*.rt")):
-        for name, body in re.findall(r"enum (\w+) \{\n(.*?)\n\}", path.read_text(), re.S):
-            plain = re.findall(r"^    (\w+),$", body, re.M)
-            found[name] = sorted({*found.get(name, []), *plain})
-    return found
+def row_of(change):
+    path, _, line, new, words = change
+    return {"file": "/".join(path.parts[2:]), "old": line.strip(), "new": new.strip(), "words": words}
 
 
-def siblings():
-    """For each name of a field, the other fields of the structs that have it."""
-    found = {}
-    for path in sorted(ROOT.glob("crates/*/src/**/*.rt")):
-        for body in re.findall(r"struct \w+(?:<'a>)? \{\n(.*?)\n\}", path.read_text(), re.S):
-            names = re.findall(r"^    pub (\w+):", body, re.M)
-            for name in names:
-                found.setdefault(name, set()).update(set(names) - {name})
-    return {name: sorted(others) for name, others in found.items()}
+def draw(room, function, offered, each, seed, before):
+    """Tries the changes of one function until enough are refused; what is to be recorded."""
+    random.Random(f"{seed} {room.name} {function.title}").shuffle(offered)
+    row = {"function": function.title, "offered": len(offered), "tried": 0, "unfit": 0, "changes": [], "survivors": []}
+    row["why"] = before.get("why", "")  # a person's words, kept
+    reasons = {(s["file"], s["old"], s["new"]): s["reason"] for s in before.get("survivors", [])}
+    used = set()
+    while offered and len(row["changes"]) < each:
+        # a line that no change has been refused in comes first
+        change = next((c for c in offered if c[:2] not in used), offered[0])
+        offered.remove(change)
+        said, shown = room.verdict_on(change), row_of(change)
+        row["tried"] += said is not None
+        row["unfit"] += said == "unfit"
+        if said == "refused":
+            used.add(change[:2])
+            row["changes"].append(shown)
+        if said == "proved":
+            reason = reasons.get((shown["file"], shown["old"], shown["new"]), "")
+            row["survivors"].append({**shown, "reason": reason})
+    return row
 
 
-def refusals():
-    return re.findall(r"const ([A-Z_]+): Refusal", (ROOT / "crates/wire/src/refusal.rt").read_text())
-
-
-def is_code(line):
-    """Whether a line is code that runs, and neither a comment, a clause nor an import."""
-    return not re.match(r"\s*(//|use |ghost |pub mod |mod |requires|ensures|struct|pub struct|enum|pub enum)", line)
-
-
-def is_for_others(line, whole):
-    """Whether a line is a public constant that its crate doesn't use."""
-    m = re.match(r"\s*pub const (\w+)", line)
-    return m is not None and len(re.findall(rf"\b{m.group(1)}\b", whole)) == 1
-
-
-def changes_in(line, plain, fields, numbers):
-    """Each change of a line: where it starts and ends, and what stands there then."""
-    for m in OPERATOR.finditer(line):
-        yield from ((m.start(), m.end(), new) for new in OPERATORS[m.group(1)])
-    for m in NUMBER.finditer(line):
-        value = int(m.group(0))
-        yield m.start(), m.end(), str(value + 1)
-        if value:
-            yield m.start(), m.end(), str(value - 1)
-    for m in BYTE.finditer(line):
-        yield m.start(1), m.end(1), chr(ord(m.group(1)) + 1)
-    for m in TRUTH.finditer(line):
-        yield m.start(), m.end(), {"true": "false", "false": "true"}[m.group(0)]
-    for m in NEGATION.finditer(line):
-        yield m.start(), m.end(), ""
-    for m in REFUSAL.finditer(line):
-        yield m.start(), m.end(), numbers[numbers.index(m.group(0)) - 1]
-    for m in TEXT.finditer(line):
-        yield m.start(1), m.end(1), "#"
-    for m in ARGUMENTS.finditer(line):
-        yield m.start(1), m.end(2), f"{m.group(2)}, {m.group(1)}"
-    for m in FIELD.finditer(line):
-        yield from ((m.start(), m.end(), other) for other in fields.get(m.group(1), []))
-    for m in VARIANT.finditer(line):
-        others = [v for v in plain.get(m.group(1), []) if v != m.group(2)]
-        yield from ((m.start(2), m.end(2), v) for v in others[:2])
-
-
-def changes_of(name):
-    """Every change that a crate's code offers: file, line, the line as it is, the line as it becomes."""
-    plain, fields, numbers, found = enums(), siblings(), refusals(), []
-    paths = sorted((ROOT / "crates" / name / "src").rglob("*.rt"))
-    whole = "\n".join(path.read_text() for path in paths)
-    for path in paths:
-        for at, line in enumerate(path.read_text().splitlines()):
-            if is_code(line) and not is_for_others(line, whole):
-                new = {line[:start] + text + line[end:] for start, end, text in changes_in(line, plain, fields, numbers)}
-                found += [(path.relative_to(ROOT), at, line, other) for other in sorted(new - {line})]
-    return found
-
-
-def room_for(name, where):
-    """A copy of the repository in which one crate can be changed and checked, with what it needs proved already."""
-    shutil.copy(ROOT / "crates.txt", where)
-    shutil.copytree(ROOT / "crates", where / "crates")
-    for part in ("rlib", "stamp"):
-        shutil.copytree(ROOT / "target" / part, where / "target" / part)
-    return dev(name, where)
-
-
-def dev(name, where):
-    """The prover's verdict on a crate: proved, refused, or none where it is no program."""
-    said = subprocess.run(["rt", "dev", name], cwd=where, text=True, errors="replace", stdout=subprocess.PIPE, stderr=subprocess.STDOUT).stdout
-    verdict = re.findall(r"^logic=(proved|not-proved)", said, re.M)
-    return {"proved": "PROVED", "not-proved": "refused"}.get(verdict[-1]) if verdict else None
-
-
-def verdict_on(name, where, change):
-    path, at, line, new = change
-    file = where / path
-    text = file.read_text()
-    lines = text.splitlines(keepends=True)
-    assert lines[at] == line + "\n"
-    lines[at] = new + "\n"
-    file.write_text("".join(lines))
-    verdict = dev(name, where)
-    file.write_text(text)
-    return verdict
-
-
-def run(name, seed, count):
-    """Draws and tries the changes of a crate; what is to be printed, and how many were refused and proved."""
-    found = changes_of(name)
-    random.Random(f"{seed} {name}").shuffle(found)
-    lines, tally = [], {"refused": 0, "PROVED": 0}
+def run(name, seed, each, names):
+    """Draws for a crate, records it, and answers what is to be printed."""
+    before = {row["function"]: row for row in recorded(name).get("functions", [])}
     with tempfile.TemporaryDirectory() as folder:
-        where = pathlib.Path(folder)
-        if room_for(name, where) != "PROVED":
-            return [f"{name}: not proved as it is: run `rt check` first"], {"refused": 0, "PROVED": 1}
-        for change in found:
-            if sum(tally.values()) == count:
-                break
-            verdict = verdict_on(name, where, change)
-            if verdict:
-                tally[verdict] += 1
-                path, at, line, new = change
-                lines.append(f"{verdict} {path}:{at + 1}: {line.strip()}  ->  {new.strip()}")
-    tried = sum(tally.values())
-    few = "" if tried == count else ", all that are programs"
-    lines.append(f"{name}: {tried} changes of {len(found)}{few}, {tally['refused']} refused, {tally['PROVED']} still proved")
-    return lines, tally
+        room = Room(name, pathlib.Path(folder))
+        if not room.is_proved:
+            return [f"{name}: not proved as it is: nothing is drawn"]
+        owned = sources.owned_by(name)
+        rows = []
+        for function, own in owned.items():
+            offered = changes_of(function, own, names)
+            rows.append(draw(room, function, offered, each, seed, before.get(function.title, {})))
+    DATA.mkdir(exist_ok=True)
+    text = json.dumps({"crate": name, "seed": seed, "functions": rows}, indent=1, ensure_ascii=False)
+    (DATA / f"{name}.json").write_text(text + "\n")
+    said = []
+    for r in rows:
+        title, counts = f"{name}::{r['function']}", f"{len(r['changes'])} refused, {r['unfit']} unfit"
+        said.append(f"{title}: {r['tried']} tried of {r['offered']}, {counts}")
+        said += [f"{title}: STILL PROVED: {s['old']}  ->  {s['new']}" for s in r["survivors"]]
+    return said + [f"{name}: {len(rows)} functions, {sum(r['tried'] for r in rows)} tried"]
+
+
+def recorded(name):
+    """What is recorded of a crate."""
+    path = DATA / f"{name}.json"
+    return json.loads(path.read_text()) if path.exists() else {}
+
+
+def refused_of(name):
+    """For each function how many refused changes are recorded, and why where there are fewer than two."""
+    return {row["function"]: (len(row["changes"]), row["why"]) for row in recorded(name).get("functions", [])}
+
+
+def faults_of(name):
+    """What is wrong with the record of a crate."""
+    rows = {row["function"]: row for row in recorded(name).get("functions", [])}
+    edited = {title for _, titles in sources.edits_of(name) for title in titles}
+    owned = sources.owned_by(name)
+    for title in rows.keys() - {f.title for f in owned}:
+        yield f"{name}::{title}: is recorded, and there is no such function"
+    for f, own in owned.items():
+        if f.title not in rows:
+            yield f"{name}::{f.title}: nothing is recorded: run tools/mutations.py {name}"
+            continue
+        row = rows[f.title]
+        files = {str(i.path.relative_to(ROOT / "crates" / name)): i.path.read_text() for i in own}
+        lines = {(file, line.strip()) for file, text in files.items() for line in text.splitlines()}
+        for change in row["changes"] + row["survivors"]:
+            if (change["file"], change["old"]) not in lines:
+                yield f"{name}::{f.title}: `{change['old']}` no longer stands in {change['file']}: draw anew"
+        for survivor in row["survivors"]:
+            if not survivor["reason"]:
+                yield f"{name}::{f.title}: still proved, and no reason given: {survivor['new']}"
+        if len(row["changes"]) < 2 and not row["why"] and not edited & f.names():
+            yield f"{name}::{f.title}: {len(row['changes'])} changes refused, and no edit names it"
+
+
+HEADER = """# Two wrong answers for each public function
+
+Made by `tools/mutations.py` from `docs/mutations/`; the gate compares both with the sources. For each public function
+of the libraries: how many changes of its code, or of a helper's that only it uses, were given to the prover, and how
+many it refused for a fact that fails. `unfit` changes were refused only because the proof no longer fitted the code:
+they show nothing. Drawn with seed {seeds}.
+
+| crate | functions | tried | refused | unfit | still proved |
+|---|---|---|---|---|---|
+"""
+COUNTS = (
+    lambda r: 1,
+    lambda r: r["tried"],
+    lambda r: len(r["changes"]),
+    lambda r: r["unfit"],
+    lambda r: len(r["survivors"]),
+)
+
+
+def cell(text):
+    return text.replace("|", "\\|")
+
+
+def shown(change):
+    return f"`{change['old']}` → `{change['new']}`"
+
+
+def row_on_page(row, labels):
+    """A function's line of the page; the labels are those of the edits that name it."""
+    wrong = [f"{shown(m)} ({m['words']})" for m in row["changes"]]
+    if len(wrong) < 2:
+        more = "other" if wrong else "change"
+        wrong.append(row["why"] or f"offers no {more} that counts: edits {', '.join(labels) or 'none'}")
+    stays = "; ".join(f"{shown(s)}: {s['reason']}" for s in row["survivors"])
+    cells = [f"`{row['function']}`", str(row["tried"]), str(len(row["changes"])), "; ".join(wrong), stays]
+    return f"| {' | '.join(map(cell, cells))} |\n"
+
+
+def page():
+    """docs/MUTATIONS.md."""
+    found = [recorded(name) for name in sources.libraries() if recorded(name)]
+    text = HEADER.format(seeds=", ".join(sorted({str(c["seed"]) for c in found})))
+    for c in found:
+        sums = [str(sum(count(r) for r in c["functions"])) for count in COUNTS]
+        text += f"| {c['crate']} | {' | '.join(sums)} |\n"
+    for c in found:
+        edits = list(sources.edits_of(c["crate"]))
+        names = {f.title: f.names() for f in sources.functions_of(c["crate"])}
+        text += f"\n## `{c['crate']}`\n\n| function | tried | refused | the wrong answers | still proved, and why |\n"
+        text += "|---|---|---|---|---|\n"
+        for row in c["functions"]:
+            labels = [f"`{label}`" for label, titles in edits if names.get(row["function"], set()) & set(titles)]
+            text += row_on_page(row, labels)
+    return text
+
+
+def check():
+    faults = [fault for name in sources.libraries() for fault in faults_of(name)]
+    gone = {path.stem for path in DATA.glob("*.json")} - set(sources.libraries())
+    faults += [f"docs/mutations/{name}.json is of no library with promises" for name in sorted(gone)]
+    if not PAGE.exists() or PAGE.read_text() != page():
+        faults.append("docs/MUTATIONS.md is not what is recorded: run tools/mutations.py --page")
+    count = sum(len(sources.functions_of(name)) for name in sources.libraries())
+    print("\n".join([*faults, f"mutations: {count} public functions, {len(faults)} faults"]))
+    sys.exit(1 if faults else 0)
 
 
 def main():
     words = argparse.ArgumentParser(description=__doc__, formatter_class=argparse.RawDescriptionHelpFormatter)
     words.add_argument("--seed", type=int, default=1)
-    words.add_argument("--count", type=int, default=20)
+    words.add_argument("--each", type=int, default=2)
     words.add_argument("--jobs", type=int, default=2)
+    words.add_argument("--check", action="store_true")
+    words.add_argument("--page", action="store_true")
     words.add_argument("names", nargs="*", metavar="NAME")
     said = words.parse_args()
-    names = said.names or libraries()
-    unknown = set(names) - set(libraries())
+    unknown = set(said.names) - set(sources.libraries())
     if unknown:
-        words.error(f"no library with promises: {' '.join(sorted(unknown))}; there are: {' '.join(libraries())}")
-    proved = 0
-    with concurrent.futures.ThreadPoolExecutor(said.jobs) as pool:
-        for lines, tally in pool.map(lambda name: run(name, said.seed, said.count), names):
-            print("\n".join(lines), flush=True)
-            proved += tally["PROVED"]
-    sys.exit(1 if proved else 0)
+        known = " ".join(sources.libraries())
+        words.error(f"no library with promises: {' '.join(sorted(unknown))}; there are: {known}")
+    if said.check:
+        check()
+    if not said.page:
+        names = Names()
+        with concurrent.futures.ThreadPoolExecutor(said.jobs) as pool:
+            drawn = pool.map(lambda name: run(name, said.seed, said.each, names), said.names or sources.libraries())
+            for lines in drawn:
+                print("\n".join(lines), flush=True)
+    PAGE.write_text(page())
 
 
 if __name__ == "__main__":

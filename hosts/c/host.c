@@ -419,7 +419,7 @@ static struct {
         CHECK(memcmp(&before, &lent, sizeof lent) == 0); \
     } while (0)
 
-#define SHORT EIDERWAGON_REFUSED_SHORT
+#define SHORT EIDERWAGON_REFUSED_OUTPUT_SHORT
 
 static const uint8_t zeros[EIDERWAGON_LARGEST_DATAGRAM + 1];
 static const uint16_t too_many_lengths[65535];

@@ -66,23 +66,23 @@ macro_rules! exported {
 constants! {
     /// Done: what was asked for stands in the words.
     OK: u32 = 0;
-    /// A MoldUDP64 datagram under 20 bytes.
+    /// A Mold datagram under 20 bytes.
     REFUSED_DATAGRAM_SHORT: u32 = 11;
-    /// A MoldUDP64 datagram over 65,507 bytes, or a writer's total.
+    /// A Mold datagram over 65,507 bytes, or a writer's total.
     REFUSED_DATAGRAM_LONG: u32 = 12;
-    /// The sequence number is 0.
+    /// The number is 0.
     REFUSED_NUMBER_ZERO: u32 = 13;
     /// For data, number + count is above 2^64 - 1.
     REFUSED_NUMBERS_RUN_OUT: u32 = 14;
-    /// A message block runs past the end.
+    /// A block runs past the end.
     REFUSED_BLOCK_PAST_END: u32 = 15;
-    /// Bytes stand after the last message block.
+    /// Bytes stand after the last block.
     REFUSED_BYTES_AFTER_BLOCKS: u32 = 16;
-    /// The datagram is of another session.
+    /// The session differs.
     REFUSED_SESSION_DIFFERS: u32 = 17;
     /// The session has already ended.
     REFUSED_SESSION_ENDED: u32 = 18;
-    /// A bad starting setting, or over 1,024 account records.
+    /// A bad starting setting, or an account table over 1,024 records.
     REFUSED_BAD_SETTING: u32 = 19;
     /// An end of session below the expected number.
     REFUSED_END_BELOW_EXPECTED: u32 = 20;
@@ -90,31 +90,31 @@ constants! {
     REFUSED_LENGTH_ZERO: u32 = 21;
     /// A payload above 4,096 bytes.
     REFUSED_PAYLOAD_LONG: u32 = 22;
-    /// The packet's letter is unknown, or of the wrong sender.
+    /// The letter is unknown, or of the wrong sender.
     REFUSED_LETTER_NOT_SENT: u32 = 23;
-    /// The packet's length is wrong for its letter.
+    /// The length is wrong for the letter.
     REFUSED_LENGTH_WRONG: u32 = 24;
     /// A bad session, number or reason field.
     REFUSED_FIELD_BAD: u32 = 25;
     /// The packet isn't taken in this state.
     REFUSED_PACKET_NOT_TAKEN: u32 = 31;
-    /// The session is ended or closed.
+    /// The state is ended or closed.
     REFUSED_STATE_CLOSED: u32 = 32;
-    /// A login accepted doesn't match what was asked for.
+    /// A login accepted doesn't match what was asked.
     REFUSED_LOGIN_NOT_ASKED: u32 = 33;
     /// A sequenced message at 2^64 - 1.
     REFUSED_NUMBERS_USED_UP: u32 = 34;
-    /// A lent buffer is shorter than needed.
-    REFUSED_SHORT: u32 = 41;
+    /// The lent output is shorter than needed.
+    REFUSED_OUTPUT_SHORT: u32 = 41;
     /// Over 65,534 messages.
     REFUSED_TOO_MANY_MESSAGES: u32 = 42;
     /// The lengths don't add up to the data.
     REFUSED_LENGTHS_DIFFER: u32 = 44;
-    /// An unsound username or password, a bad session or reason, or A number 0.
+    /// A writer is given an unsound username or password, a bad session or reason, or A number 0.
     REFUSED_FIELD_NOT_WRITTEN: u32 = 46;
     /// A request that isn't 20 bytes.
     REFUSED_REQUEST_SIZE: u32 = 47;
-    /// A request's count is 0 or 65,535.
+    /// A request whose count is 0 or 65,535.
     REFUSED_REQUEST_COUNT: u32 = 48;
 
     /// The name of a session, in bytes.

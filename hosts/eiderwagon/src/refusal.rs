@@ -16,8 +16,8 @@ macro_rules! refusals {
         /// let refusal = Datagram::read(b"nineteen bytes only").unwrap_err();
         /// assert_eq!(refusal, Refusal::DatagramShort);
         /// assert_eq!(refusal.number(), 11);
-        /// assert_eq!(refusal.ground(), "the datagram is under 20 bytes");
-        /// assert_eq!(refusal.to_string(), "refusal 11: the datagram is under 20 bytes");
+        /// assert_eq!(refusal.ground(), "a Mold datagram under 20 bytes");
+        /// assert_eq!(refusal.to_string(), "refusal 11: a Mold datagram under 20 bytes");
         /// ```
         #[derive(Clone, Copy, Debug, PartialEq, Eq, Hash)]
         #[non_exhaustive]
@@ -39,33 +39,33 @@ macro_rules! refusals {
 }
 
 refusals! {
-    DatagramShort = REFUSED_DATAGRAM_SHORT, "the datagram is under 20 bytes";
-    /// Given for a writer's total too.
-    DatagramLong = REFUSED_DATAGRAM_LONG, "the datagram is over 65,507 bytes";
-    NumberZero = REFUSED_NUMBER_ZERO, "the sequence number is 0";
-    NumbersRunOut = REFUSED_NUMBERS_RUN_OUT, "number + count is above 2^64 - 1";
+    DatagramShort = REFUSED_DATAGRAM_SHORT, "a Mold datagram under 20 bytes";
+    DatagramLong = REFUSED_DATAGRAM_LONG, "a Mold datagram over 65,507 bytes, or a writer's total";
+    NumberZero = REFUSED_NUMBER_ZERO, "the number is 0";
+    NumbersRunOut = REFUSED_NUMBERS_RUN_OUT, "for data, number + count is above 2^64 - 1";
     BlockPastEnd = REFUSED_BLOCK_PAST_END, "a block runs past the end";
     BytesAfterBlocks = REFUSED_BYTES_AFTER_BLOCKS, "bytes stand after the last block";
     SessionDiffers = REFUSED_SESSION_DIFFERS, "the session differs";
     SessionEnded = REFUSED_SESSION_ENDED, "the session has already ended";
-    BadSetting = REFUSED_BAD_SETTING, "a bad starting setting, or an account table over 1,024";
+    BadSetting = REFUSED_BAD_SETTING,
+        "a bad starting setting, or an account table over 1,024 records";
     EndBelowExpected = REFUSED_END_BELOW_EXPECTED, "an end of session below the expected number";
-    LengthZero = REFUSED_LENGTH_ZERO, "the packet's length is 0";
-    PayloadLong = REFUSED_PAYLOAD_LONG, "the payload is above 4,096 bytes";
-    LetterNotSent = REFUSED_LETTER_NOT_SENT, "the letter is unknown or of the wrong sender";
+    LengthZero = REFUSED_LENGTH_ZERO, "a packet's length is 0";
+    PayloadLong = REFUSED_PAYLOAD_LONG, "a payload above 4,096 bytes";
+    LetterNotSent = REFUSED_LETTER_NOT_SENT, "the letter is unknown, or of the wrong sender";
     LengthWrong = REFUSED_LENGTH_WRONG, "the length is wrong for the letter";
     FieldBad = REFUSED_FIELD_BAD, "a bad session, number or reason field";
     PacketNotTaken = REFUSED_PACKET_NOT_TAKEN, "the packet isn't taken in this state";
-    StateClosed = REFUSED_STATE_CLOSED, "the session is ended or closed";
-    LoginNotAsked = REFUSED_LOGIN_NOT_ASKED, "the login accepted doesn't match what was asked";
+    StateClosed = REFUSED_STATE_CLOSED, "the state is ended or closed";
+    LoginNotAsked = REFUSED_LOGIN_NOT_ASKED, "a login accepted doesn't match what was asked";
     NumbersUsedUp = REFUSED_NUMBERS_USED_UP, "a sequenced message at 2^64 - 1";
-    Short = REFUSED_SHORT, "a lent buffer is shorter than needed";
+    OutputShort = REFUSED_OUTPUT_SHORT, "the lent output is shorter than needed";
     TooManyMessages = REFUSED_TOO_MANY_MESSAGES, "over 65,534 messages";
     LengthsDiffer = REFUSED_LENGTHS_DIFFER, "the lengths don't add up to the data";
     FieldNotWritten = REFUSED_FIELD_NOT_WRITTEN,
-        "an unsound username or password, a bad session or reason, or A number 0";
-    RequestSize = REFUSED_REQUEST_SIZE, "the request isn't 20 bytes";
-    RequestCount = REFUSED_REQUEST_COUNT, "the request's count is 0 or 65,535";
+        "a writer is given an unsound username or password, a bad session or reason, or A number 0";
+    RequestSize = REFUSED_REQUEST_SIZE, "a request that isn't 20 bytes";
+    RequestCount = REFUSED_REQUEST_COUNT, "a request whose count is 0 or 65,535";
 }
 
 impl Refusal {

@@ -104,7 +104,7 @@ fn an_output_too_short_for_the_report_stays_as_it_was() {
     let size = reading.write(&mut out).unwrap().len();
     assert_eq!(&out[..size], reading.report().as_bytes());
     let mut short = vec![9; size - 1];
-    assert_eq!(reading.write(&mut short), Err(Refusal::Short));
+    assert_eq!(reading.write(&mut short), Err(Refusal::OutputShort));
     assert!(short.iter().all(|&byte| byte == 9));
 }
 

@@ -12,8 +12,8 @@ fn a_refusal_has_its_number_and_its_ground() {
 
 #[test]
 fn a_refusal_is_an_error() {
-    let error: Box<dyn std::error::Error> = Refusal::Short.into();
-    assert_eq!(error.to_string(), "refusal 41: a lent buffer is shorter than needed");
+    let error: Box<dyn std::error::Error> = Refusal::OutputShort.into();
+    assert_eq!(error.to_string(), "refusal 41: the lent output is shorter than needed");
 }
 
 #[test]

@@ -104,7 +104,7 @@ fn fields_that_cannot_be_written_are_refused() {
 fn an_output_too_short_is_refused_and_stays_as_it_was() {
     for (packet, _, bytes) in packets() {
         let mut out = [9; 64];
-        assert_eq!(packet.write(&mut out[..bytes.len() - 1]), Err(Refusal::Short));
+        assert_eq!(packet.write(&mut out[..bytes.len() - 1]), Err(Refusal::OutputShort));
         assert_eq!(out, [9; 64], "{packet:?}");
     }
 }
