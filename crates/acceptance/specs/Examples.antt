@@ -4,7 +4,7 @@ use mathlib.Core.List.{List, [], _∷_, _++_, List·Memᴰ}
 use mathlib.Core.Bool.{false}
 use mathlib.Core.Path.{_≡_}
 use lib.ListN.{replicate}
-use Rattle.wire.specs.Text.{ascii}
+use Rattle.wire.specs.Text.{ascii, readroom}
 use Rattle.wire.specs.Bounds.{largestNumber, blank}
 use Rattle.wire.specs.Refusals.{datagramShort, numbersRunOut, bytesAfterBlocks, fieldBad}
 use Rattle.wire.specs.Words.{Words, says, refuses}
@@ -23,7 +23,7 @@ use Rattle.soupbintcp.specs.Fields.{notAuthorized}
 use Rattle.soupbintcp.specs.Front.{FrontKind, packet, frontOf}
 use Rattle.soupbintcp_writer.specs.Packets as soup
 use Rattle.login.specs.declared.account.Account.{Account}
-use Rattle.login.specs.Examples.{ann, ours}
+use Rattle.login.specs.Examples.{ann}
 use Rattle.soupbintcp_session.specs.Answer as session
 use Rattle.soupbintcp_server.specs.Server.{startServer, serverStep}
 
@@ -59,13 +59,13 @@ loginStream entry number = soup.encoded letterLogin (entry .username ++ entry .p
 unfoldable pub resultOf : (e : Example) → Result e
 resultOf (takes n limit d) =
     record {
-      reply = answerOf (receiver ours n limit false) d;
-      delivered = messagesDelivered (answerOf (receiver ours n limit false) d) d;
-      next = receiverAfter (receiver ours n limit false) d .next .0;
+      reply = answerOf (receiver readroom n limit false) d;
+      delivered = messagesDelivered (answerOf (receiver readroom n limit false) d) d;
+      next = receiverAfter (receiver readroom n limit false) d .next .0;
     }
 resultOf (reads d) = downstreamOf d
 resultOf (fronts l) = frontOf Client l
-resultOf (logs-in table entry) = serverStep table (startServer ours 5) (loginStream entry (numberField 0)) .reply
+resultOf (logs-in table entry) = serverStep table (startServer readroom 5) (loginStream entry (numberField 0)) .reply
 
 -- ---- the table
 
@@ -82,7 +82,7 @@ asked from count = record { reply = says ask (from ∷ count ∷ []); delivered 
 
 -- data of READROOM01 from a number on; no messages make a heartbeat
 abbrev pub data-at : ℕ → List (List ℕ) → List ℕ
-data-at f ms = mold.encoded ours f ms
+data-at f ms = mold.encoded readroom f ms
 
 -- the messages 2, 3 and 4 of a session: `two`, one of no bytes, `four`
 abbrev pub two : List ℕ

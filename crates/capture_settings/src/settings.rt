@@ -25,11 +25,11 @@ pub struct Opened {
     pub size: usize,
 }
 
-// The most bytes that good settings take.
-pub const LONGEST: usize = 57;
-
 // The bytes that all settings have: the three keys, the name, and its line feed.
-const FIXED_SIZE: usize = 30;
+const FIXED_SIZE: usize = 8 + 5 + 6 + SESSION_SIZE + 1;
+
+// The most bytes that good settings take: 20 digits, 5 digits, and a line feed after each.
+pub const LONGEST: usize = FIXED_SIZE + (20 + 1) + (5 + 1);
 
 // Bad settings: a blank name, and every number 0.
 fn refused() -> Opened

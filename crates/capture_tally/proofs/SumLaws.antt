@@ -7,6 +7,7 @@ use native.Mathlib.Omega.{arith}
 use native.Mathlib.Nat.{zero-add, add-zero}
 use lib.ListN.{length, length-drop, length-append}
 use borrow.Author.Tests.{le-ltb}
+use Rattle.wire.specs.Bounds.{largestNumber}
 use Rattle.wire.specs.Words.{Words, Case, answer, refused, refuses}
 use Rattle.wire.proofs.Cases.{zero-or-not}
 use Rattle.moldudp64.specs.Header.{numberOf, countOf}
@@ -23,7 +24,7 @@ use Rattle.receiver.proofs.Promises.{well-read, row-of, refused-answers}
 use Rattle.capture_records.specs.Records.{mostRecords}
 use Rattle.capture_tally.specs.declared.tally.Tally.{Tally}
 use Rattle.capture_tally.specs.declared.report.Report.{Report}
-use Rattle.capture_tally.specs.Tally.{tally, partsIn, partsOf, cutParts, largest, upTo, plusOf}
+use Rattle.capture_tally.specs.Tally.{tally, partsIn, partsOf, cutParts, upTo, plusOf}
 use Rattle.capture_tally.specs.Report.{report, freshOf, stepOf, cutOf, over}
 use Rattle.capture_tally.specs.Sums.{answersOf, sumOf, summed, summedCut, Sums}
 use Rattle.capture_tally.proofs.ReportLaws.{counted-more}
@@ -33,7 +34,7 @@ use Rattle.capture_tally.proofs.ReportLaws.{counted-more}
 -- what it delivers, counted, and how far the receiver's number is from the largest before it and after it
 record Delivers (w : Words AnswerKind) (d : Datagram) (n next : ℕ) : Type 0 where
   many : partsOf w .delivered ≡ length (messagesDelivered w d)
-  room : partsOf w .delivered + (largest - next) ≤ largest - n
+  room : partsOf w .delivered + (largestNumber - next) ≤ largestNumber - n
 
 -- an answer of another kind delivers nothing, and leaves the number
 module _ (d : Datagram) (n : ℕ) (k : AnswerKind) (vs : List ℕ) where
@@ -42,7 +43,7 @@ module _ (d : Datagram) (n : ℕ) (k : AnswerKind) (vs : List ℕ) where
 
 -- by the row of the table
 by-row : (limit n f c : ℕ) (d : Datagram) (o : Outcome) → Row limit n (kindOf d) f c o → (kindOf d ≡ data-packet → length (messagesOf d) ≡ c)
-    → (kindOf d ≡ data-packet → f + c ≤ largest) → Delivers (o .reply) d n (o .next)
+    → (kindOf d ≡ data-packet → f + c ≤ largestNumber) → Delivers (o .reply) d n (o .next)
 unfolding partsIn messagesDeliveredAt
 by-row limit n f c d o (data-reaches k a b e) count fits =
     rw e
@@ -122,32 +123,32 @@ delivered-sum r (d ∷ ds) =
     omega (arith, length-append (messagesDelivered (answerOf r d) d) (delivered plain (receiverAfter r d) ds))
 
 -- and lies between the receiver's number and the largest
-delivered-room : (r : Receiver) (ds : List Datagram) → sumOf (λ t. t .delivered) (answersOf r ds) ≤ largest - r .next .0
+delivered-room : (r : Receiver) (ds : List Datagram) → sumOf (λ t. t .delivered) (answersOf r ds) ≤ largestNumber - r .next .0
 unfolding sumOf answersOf
 delivered-room r [] = omega arith
 delivered-room r (d ∷ ds) = let i = delivered-room (receiverAfter r d) ds in omega (arith, delivers-so r d .room)
 
 -- ---- a report that goes on from another
 
-upTo-fits : (a b : ℕ) → a + b ≤ largest → upTo a b ≡ a + b
+upTo-fits : (a b : ℕ) → a + b ≤ largestNumber → upTo a b ≡ a + b
 unfolding upTo
 upTo-fits a b h = simp (le-ltb _ _ h)
 
 -- so many more records fit
 record Roomy (x : Report) (n : ℕ) : Type 0 where
   records-fit : x .records + n ≤ mostRecords
-  delivered-fit : x .tally .delivered + (largest - x .receiver .next .0) ≤ largest
-  old-fit : x .tally .old + n ≤ largest
-  quiet-fit : x .tally .quiet + n ≤ largest
-  asked-fit : x .tally .asked + n ≤ largest
-  refused-fit : x .tally .refused + n ≤ largest
+  delivered-fit : x .tally .delivered + (largestNumber - x .receiver .next .0) ≤ largestNumber
+  old-fit : x .tally .old + n ≤ largestNumber
+  quiet-fit : x .tally .quiet + n ≤ largestNumber
+  asked-fit : x .tally .asked + n ≤ largestNumber
+  refused-fit : x .tally .refused + n ≤ largestNumber
 
 -- parts added without a cap
 abbrev plainly : Tally → Tally → Tally
 plainly x y = tally (x .delivered + y .delivered) (x .old + y .old) (x .quiet + y .quiet) (x .asked + y .asked) (x .refused + y .refused)
 
-plus-plainly : (x y : Tally) → x .delivered + y .delivered ≤ largest → x .old + y .old ≤ largest → x .quiet + y .quiet ≤ largest
-    → x .asked + y .asked ≤ largest → x .refused + y .refused ≤ largest → plusOf x y ≡ plainly x y
+plus-plainly : (x y : Tally) → x .delivered + y .delivered ≤ largestNumber → x .old + y .old ≤ largestNumber → x .quiet + y .quiet ≤ largestNumber
+    → x .asked + y .asked ≤ largestNumber → x .refused + y .refused ≤ largestNumber → plusOf x y ≡ plainly x y
 plus-plainly x y a b c d e = rw (upTo-fits _ _ a, upTo-fits _ _ b, upTo-fits _ _ c, upTo-fits _ _ d, upTo-fits _ _ e)
 
 abbrev stepped : Report → Datagram → Report

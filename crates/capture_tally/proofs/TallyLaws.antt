@@ -5,6 +5,7 @@ use native.Mathlib.Omega.{arith}
 use borrow.Author.Tests.{lt-ltb, le-ltb}
 use mir.Val.{Fits}
 use mir.Syntax.{w64}
+use Rattle.wire.specs.Bounds.{largestNumber}
 use Rattle.wire.specs.declared.kinds.SequenceNumber.{SequenceNumber}
 use Rattle.wire.specs.declared.kinds.MessageCount.{MessageCount}
 use Rattle.wire.specs.declared.refusal.Refusal.{Refusal}
@@ -12,15 +13,15 @@ use Rattle.receiver.specs.declared.receiver.Answer.{Answer}
 use Rattle.receiver.specs.declared.receiver.Answer.the-variants.{Deliver, Old, Quiet, Ask, Ended, Refused}
 use Rattle.receiver.specs.Table.{answerWords}
 use Rattle.capture_tally.specs.declared.tally.Tally.{Tally}
-use Rattle.capture_tally.specs.Tally.{tally, partsIn, partsOf, largest, upTo, plusOf}
+use Rattle.capture_tally.specs.Tally.{tally, partsIn, partsOf, upTo, plusOf}
 
-pub sum-most : (a b : ℕ) → largest - a < b → largest ≡ upTo a b
+pub sum-most : (a b : ℕ) → largestNumber - a < b → largestNumber ≡ upTo a b
 unfolding upTo
-sum-most a b h = let g : largest < a + b = omega arith in simp (lt-ltb _ _ g)
+sum-most a b h = let g : largestNumber < a + b = omega arith in simp (lt-ltb _ _ g)
 
-pub sum-fits : (a b : ℕ) → Fits w64 a → b ≤ largest - a → a + b ≡ upTo a b
+pub sum-fits : (a b : ℕ) → Fits w64 a → b ≤ largestNumber - a → a + b ≡ upTo a b
 unfolding upTo
-sum-fits a b f h = let g : a + b ≤ largest = omega arith in simp (le-ltb _ _ g)
+sum-fits a b f h = let g : a + b ≤ largestNumber = omega arith in simp (le-ltb _ _ g)
 
 -- one law for each answer
 module _ (a : Answer) (r : Tally) where

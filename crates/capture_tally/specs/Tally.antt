@@ -1,8 +1,9 @@
 -- The five counts of a report.
-use Prim.Native.Nat.{ℕ, _+_, _-_, _^_}
+use Prim.Native.Nat.{ℕ, _+_}
 use mathlib.Core.List.{List}
 use lib.ListN.{getD}
 use lib.Dec.{ltb}
+use Rattle.wire.specs.Bounds.{largestNumber}
 use Rattle.wire.specs.Choice.{if_then_else_}
 use Rattle.wire.specs.Words.{Words, Case, answer, refused}
 use Rattle.receiver.specs.Table.{AnswerKind, deliver, old, quiet, ask, ended}
@@ -28,13 +29,9 @@ partsOf w = partsIn (w .which) (w .values)
 abbrev pub cutParts : Tally
 cutParts = tally 0 0 0 0 1
 
--- the largest count, 2^64 - 1
-abbrev pub largest : ℕ
-largest = 2 ^ 64 - 1
-
--- a sum, capped at the largest count
+-- a sum, capped at the largestNumber count
 unfoldable pub upTo : ℕ → ℕ → ℕ
-upTo a b = if ltb largest (a + b) then largest else a + b
+upTo a b = if ltb largestNumber (a + b) then largestNumber else a + b
 
 -- two tallies together
 abbrev pub plusOf : Tally → Tally → Tally

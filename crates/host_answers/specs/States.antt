@@ -52,7 +52,7 @@ frontSize = frontNumberAt + numberSize
 unfoldable pub flagOf : ℕ → Bool
 flagOf b = not (eqb b 0)
 
--- the bytes of a flag, of a stage or of a phase
+-- the bytes of a flag, and of a phase or a stage
 abbrev pub flagSize : ℕ
 flagSize = 1
 

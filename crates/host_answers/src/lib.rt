@@ -30,6 +30,9 @@ pub fn code(lacks: bool, refused: Refusal) -> u32
     refused.number as u32
 }
 
+// Bytes of a flag in a state, and of a phase or a stage.
+pub const FLAG_SIZE: usize = 1;
+
 // A flag as a number.
 pub fn flag(set: bool) -> u8
     ensures { λ r. ⌜ r ≡ flag set ⌝ }

@@ -4,6 +4,7 @@ use capture::reading::Stage;
 use capture_records::records::MOST_RECORDS;
 use capture_tally::report::Report;
 use capture_tally::tally::Tally;
+use host_answers::FLAG_SIZE;
 use wire::kinds::ByteOffset;
 use wire::number;
 use wire::output;
@@ -18,29 +19,31 @@ ghost use Rattle.capture_records.specs.Records.{mostRecords};
 ghost use Rattle.capture_tally.specs.Tally.{tally};
 ghost use Rattle.host_answers.specs.Answers.{codeOf};
 ghost use Rattle.host_answers.specs.States.{StatePromises};
-ghost use Rattle.host_capture.specs.Reading.{readingSize, deliveredAt, stageOf, stageByte, tallyBytes, tallyIn};
+ghost use Rattle.host_capture.specs.Reading.{tallySize, readingSize, deliveredAt, stageOf, stageByte, tallyBytes, tallyIn};
 ghost use Rattle.host_capture.specs.Reading.{readingBytes, readingIn, KeepsReading, RestLaid, RestKept};
 
-// Bytes of a count.
-const COUNT: usize = 8;
+// Bytes of a count, and of all that stands before the counts.
+const TALLY_SIZE: usize = 8;
+
+const BEFORE: usize = host_receiver::SIZE + FLAG_SIZE + TALLY_SIZE;
 
 // Its stage stands behind the receiver, then how many records were read, and its five counts.
 const STAGE_AT: ByteOffset = ByteOffset(host_receiver::SIZE);
 
-const RECORDS_AT: ByteOffset = ByteOffset(host_receiver::SIZE + 1);
+const RECORDS_AT: ByteOffset = ByteOffset(host_receiver::SIZE + FLAG_SIZE);
 
-const DELIVERED_AT: ByteOffset = ByteOffset(host_receiver::SIZE + 1 + COUNT);
+const DELIVERED_AT: ByteOffset = ByteOffset(BEFORE);
 
-const OLD_AT: ByteOffset = ByteOffset(host_receiver::SIZE + 1 + 2 * COUNT);
+const OLD_AT: ByteOffset = ByteOffset(BEFORE + TALLY_SIZE);
 
-const QUIET_AT: ByteOffset = ByteOffset(host_receiver::SIZE + 1 + 3 * COUNT);
+const QUIET_AT: ByteOffset = ByteOffset(BEFORE + 2 * TALLY_SIZE);
 
-const ASKED_AT: ByteOffset = ByteOffset(host_receiver::SIZE + 1 + 4 * COUNT);
+const ASKED_AT: ByteOffset = ByteOffset(BEFORE + 3 * TALLY_SIZE);
 
-const REFUSED_AT: ByteOffset = ByteOffset(host_receiver::SIZE + 1 + 5 * COUNT);
+const REFUSED_AT: ByteOffset = ByteOffset(BEFORE + 4 * TALLY_SIZE);
 
 // Bytes of a reading.
-pub const SIZE: usize = host_receiver::SIZE + 1 + 6 * COUNT;
+pub const SIZE: usize = BEFORE + 5 * TALLY_SIZE;
 
 // The stages by number: settings come next, records do, it is done, or its settings are refused.
 const SETTINGS: u8 = 1;
@@ -113,7 +116,7 @@ pub fn read(state: &[u8]) -> Reading
 
 // Lays a count at a place, where there is room for it.
 fn put_count(state: &mut [u8], at: ByteOffset, count: u64)
-    ensures { λ _. ⌜ now (state .exit) ≡ put (now (state .entry)) (at .0) (bytes 8 count) ⌝ }
+    ensures { λ _. ⌜ now (state .exit) ≡ put (now (state .entry)) (at .0) (bytes tallySize count) ⌝ }
 {
     output::put64(state, at, count);
 }

@@ -32,7 +32,7 @@ pub client-kept : (s : Client) (code b : ℕ) (l m : List ℕ) → b ≡ clientS
     → Keeps code l m sessionStateSize sessionStateIn (sessionStateBytes (sessionFields (s .session) (s .number .0) b)) (sessionFields (s .session) (s .number .0) b)
     → Keeps code l m sessionStateSize clientIn (clientBytes s) s
 unfolding clientBytes clientIn
-client-kept s code b l m e k = end-kept code l m clientIn (λ f. client (f .name) (f .num) (clientStateOf (f .state))) _ s (λ _. refl) (rw (client-back (s .state))) (rw e at k)
+client-kept s code b l m e k = end-kept code l m clientIn (λ f. client (f .name) (f .num) (clientStateOf (f .phase))) _ s (λ _. refl) (rw (client-back (s .state))) (rw e at k)
 
 pub client-read : (l name : List ℕ) (n b : ℕ) (s : ClientState) → name ≡ firstBytes sessionSize l → n ≡ number l 10 8 → b ≡ getD l 18 0
     → s ≡ clientStateOf b → client name n s ≡ clientIn l

@@ -29,7 +29,7 @@ clientBytes c = sessionStateBytes (sessionFields (c .session) (c .number .0) (cl
 
 -- any bytes are one
 unfoldable pub clientIn : List ℕ → Client
-clientIn l = client (sessionStateIn l .name) (sessionStateIn l .num) (clientStateOf (sessionStateIn l .state))
+clientIn l = client (sessionStateIn l .name) (sessionStateIn l .num) (clientStateOf (sessionStateIn l .phase))
 
 abbrev pub KeepsClient : ℕ → List ℕ → List ℕ → Client → Type 0
 KeepsClient code l m c = Keeps code l m sessionStateSize clientIn (clientBytes c) c

@@ -1,4 +1,5 @@
 // A receiver, as a host keeps it.
+use host_answers::FLAG_SIZE;
 use receiver::receiver::Receiver;
 use wire::kinds::ByteOffset;
 use wire::kinds::COUNT_SIZE;
@@ -26,7 +27,7 @@ const LIMIT_AT: ByteOffset = ByteOffset(SESSION_SIZE + NUMBER_SIZE);
 const ENDED_AT: ByteOffset = ByteOffset(SESSION_SIZE + NUMBER_SIZE + COUNT_SIZE);
 
 // Bytes of a receiver.
-pub const SIZE: usize = SESSION_SIZE + NUMBER_SIZE + COUNT_SIZE + 1;
+pub const SIZE: usize = SESSION_SIZE + NUMBER_SIZE + COUNT_SIZE + FLAG_SIZE;
 
 // The receiver in some bytes.
 pub fn read(state: &[u8]) -> Receiver

@@ -31,7 +31,7 @@ pub server-kept : (s : Server) (code b : ℕ) (l m : List ℕ) → b ≡ serverS
     → Keeps code l m sessionStateSize sessionStateIn (sessionStateBytes (sessionFields (s .session) (s .last .0) b)) (sessionFields (s .session) (s .last .0) b)
     → Keeps code l m sessionStateSize serverIn (serverBytes s) s
 unfolding serverBytes serverIn
-server-kept s code b l m e k = end-kept code l m serverIn (λ f. server (f .name) (f .num) (serverStateOf (f .state))) _ s (λ _. refl) (rw (server-back (s .state))) (rw e at k)
+server-kept s code b l m e k = end-kept code l m serverIn (λ f. server (f .name) (f .num) (serverStateOf (f .phase))) _ s (λ _. refl) (rw (server-back (s .state))) (rw e at k)
 
 pub server-read : (l name : List ℕ) (n b : ℕ) (s : ServerState) → name ≡ firstBytes sessionSize l → n ≡ number l 10 8 → b ≡ getD l 18 0
     → s ≡ serverStateOf b → server name n s ≡ serverIn l

@@ -24,7 +24,7 @@ serverBytes s = sessionStateBytes (sessionFields (s .session) (s .last .0) (serv
 
 -- any bytes are one
 unfoldable pub serverIn : List ℕ → Server
-serverIn l = server (sessionStateIn l .name) (sessionStateIn l .num) (serverStateOf (sessionStateIn l .state))
+serverIn l = server (sessionStateIn l .name) (sessionStateIn l .num) (serverStateOf (sessionStateIn l .phase))
 
 abbrev pub KeepsServer : ℕ → List ℕ → List ℕ → Server → Type 0
 KeepsServer code l m s = Keeps code l m sessionStateSize serverIn (serverBytes s) s

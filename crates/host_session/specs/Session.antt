@@ -18,13 +18,13 @@ sessionStateSize = phaseAt + flagSize
 pub record SessionFields : Type 0 where
   pub name : List ℕ
   pub num : ℕ
-  pub state : ℕ
+  pub phase : ℕ
 
 abbrev pub sessionFields : List ℕ → ℕ → ℕ → SessionFields
-sessionFields name n b = record { name = name; num = n; state = b }
+sessionFields name n b = record { name = name; num = n; phase = b }
 
 unfoldable pub sessionStateBytes : SessionFields → List ℕ
-sessionStateBytes s = frontBytes (s .name) (s .num) ++ (s .state ∷ [])
+sessionStateBytes s = frontBytes (s .name) (s .num) ++ (s .phase ∷ [])
 
 -- any bytes have them
 unfoldable pub sessionStateIn : List ℕ → SessionFields

@@ -1,6 +1,7 @@
 // What the SoupBinTCP sessions of both ends share for hosts: the bytes of a state, and the words of an answer.
 pub mod replies;
 
+use host_answers::FLAG_SIZE;
 use wire::kinds::ByteOffset;
 use wire::kinds::NUMBER_SIZE;
 use wire::kinds::SESSION_SIZE;
@@ -18,7 +19,7 @@ pub const NUMBER_AT: ByteOffset = ByteOffset(SESSION_SIZE);
 pub const PHASE_AT: ByteOffset = ByteOffset(SESSION_SIZE + NUMBER_SIZE);
 
 // Bytes of a session.
-pub const SIZE: usize = SESSION_SIZE + NUMBER_SIZE + 1;
+pub const SIZE: usize = SESSION_SIZE + NUMBER_SIZE + FLAG_SIZE;
 
 // Lays the three fields where there is room for them.
 fn put_fields(state: &mut [u8], name: [u8; SESSION_SIZE], number: u64, phase: u8)

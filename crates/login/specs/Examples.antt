@@ -3,7 +3,7 @@ use Prim.Native.Nat.{ℕ, _-_}
 use mathlib.Core.List.{List, [], _∷_, _++_}
 use mathlib.Core.Path.{_≡_}
 use lib.ListN.{length, replicate}
-use Rattle.wire.specs.Text.{ascii}
+use Rattle.wire.specs.Text.{ascii, readroom}
 use Rattle.wire.specs.Bounds.{blank}
 use Rattle.wire.specs.Words.{says}
 use Rattle.text_fields.specs.Letters.{space}
@@ -33,35 +33,32 @@ annOther = account (ascii "ann") (ascii "pw2")
 abbrev pub annNone : Account
 annNone = account (ascii "ann") []
 
--- READROOM01, and the same in small letters
-abbrev pub ours : List ℕ
-ours = ascii "READROOM01"
-
+-- the session's name in small letters
 abbrev pub small : List ℕ
 small = ascii "readroom01"
 
 -- an entry that asks for a session and a number, where the last number is 5
 abbrev pub attempts : List Account → Account → List ℕ → ℕ → Attempt
-attempts t e asked wanted = record { table = t; entry = e; asked = asked; wanted = wanted; session = ours; last = 5 }
+attempts t e asked wanted = record { table = t; entry = e; asked = asked; wanted = wanted; session = readroom; last = 5 }
 
 -- any number, where there is no message yet
 abbrev pub noMessageYet : Attempt
-noMessageYet = record { table = ann ∷ []; entry = ann; asked = ours; wanted = 0; session = ours; last = 0 }
+noMessageYet = record { table = ann ∷ []; entry = ann; asked = readroom; wanted = 0; session = readroom; last = 0 }
 
 pub record LoginExamples : Type 0 where
   -- letters compare without case
-  pub case-differs : loginOf (attempts (ann ∷ []) ANN ours 3) ≡ says accepted (3 ∷ [])
+  pub case-differs : loginOf (attempts (ann ∷ []) ANN readroom 3) ≡ says accepted (3 ∷ [])
   -- the first sound record with the username decides, and an unsound one doesn't
-  pub first-decides : loginOf (attempts (annOther ∷ ann ∷ []) ann ours 3) ≡ rejects notAuthorized
-  pub unsound-is-skipped : loginOf (attempts (annNone ∷ ann ∷ []) ann ours 3) ≡ says accepted (3 ∷ [])
-  pub no-record : loginOf (attempts [] ann ours 3) ≡ rejects notAuthorized
+  pub first-decides : loginOf (attempts (annOther ∷ ann ∷ []) ann readroom 3) ≡ rejects notAuthorized
+  pub unsound-is-skipped : loginOf (attempts (annNone ∷ ann ∷ []) ann readroom 3) ≡ says accepted (3 ∷ [])
+  pub no-record : loginOf (attempts [] ann readroom 3) ≡ rejects notAuthorized
   -- the session may be blank, and is compared byte for byte
   pub blank-session : loginOf (attempts (ann ∷ []) ann blank 3) ≡ says accepted (3 ∷ [])
   pub session-in-small : loginOf (attempts (ann ∷ []) ann small 3) ≡ rejects sessionNotAvailable
   -- J with A comes before J with S
   pub account-first : loginOf (attempts [] ann small 9) ≡ rejects notAuthorized
   -- wanted 0, one past the last, and two past it
-  pub wanted-none : loginOf (attempts (ann ∷ []) ann ours 0) ≡ says accepted (5 ∷ [])
-  pub wanted-next : loginOf (attempts (ann ∷ []) ann ours 6) ≡ says accepted (6 ∷ [])
-  pub wanted-beyond : loginOf (attempts (ann ∷ []) ann ours 7) ≡ rejects sessionNotAvailable
+  pub wanted-none : loginOf (attempts (ann ∷ []) ann readroom 0) ≡ says accepted (5 ∷ [])
+  pub wanted-next : loginOf (attempts (ann ∷ []) ann readroom 6) ≡ says accepted (6 ∷ [])
+  pub wanted-beyond : loginOf (attempts (ann ∷ []) ann readroom 7) ≡ rejects sessionNotAvailable
   pub no-message-yet : loginOf noMessageYet ≡ says accepted (1 ∷ [])

@@ -2,7 +2,7 @@
 -- 10 (8), message count at 18 (2), each number big-endian.
 use Prim.Native.Nat.{ℕ, _+_}
 use mathlib.Core.List.{List, _++_}
-use Rattle.wire.specs.Bounds.{sessionSize, numberSize, countSize}
+use Rattle.wire.specs.Bounds.{largestCount, sessionSize, numberSize, countSize}
 use Rattle.wire.specs.Bytes.{number, bytes}
 
 -- the bytes of the largest datagram
@@ -11,7 +11,7 @@ largestDatagram = 65507
 
 -- a count of 65,535 is end of session
 abbrev pub endCount : ℕ
-endCount = 65535
+endCount = largestCount
 
 -- the session stands in front, then the sequence number, then the message count
 abbrev pub numberAt : ℕ

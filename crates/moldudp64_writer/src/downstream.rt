@@ -26,7 +26,7 @@ ghost use Rattle.moldudp64_writer.specs.Writer.{total, cut, encodedCut, 
 ghost use Rattle.moldudp64_writer.specs.RoundTrips.{PacketRoundTrip, EndRoundTrip};
 
 // The most messages of one datagram.
-pub const MOST_MESSAGES: MessageCount = MessageCount(65534);
+pub const MOST_MESSAGES: MessageCount = MessageCount(u16::MAX - 1);
 
 // Whether the lengths add up to the data. It subtracts as it goes, so that no sum can wrap.
 fn add_up(lengths: &[u16], joined: &[u8]) -> bool

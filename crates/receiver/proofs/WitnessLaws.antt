@@ -97,7 +97,7 @@ feed-true d m =
 
 pub not-vacuous : NotVacuous
 unfolding number bytes header blocksOf encoded encodedEnd numberOf countOf kindOfCount blockCount blockLength fits allFit afterBlocks messages blocksRefusal refusalOf messagesOf sameBytes otherSession endBelow ownRefusal refusalFor table answerOf receiverAfter messagesDeliveredAt after delivered receiverStartRefusal startReceiver
-not-vacuous = record { not-refused = refl; starts = refl; of-kind = feed-true; deliverOutcome = refl; ends = refl }
+not-vacuous = record { not-refused = refl; starts = refl; of-kind = feed-true; delivers = refl; ends = refl }
 
 -- ---- idle receivers: the receiver stays, and nothing is delivered
 

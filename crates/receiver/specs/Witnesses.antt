@@ -13,7 +13,7 @@ use Rattle.moldudp64.specs.Downstream.{DownstreamKind, data-packet, heartbeat, 
 use Rattle.moldudp64.specs.Written.{encoded, encodedEnd}
 use Rattle.receiver.specs.declared.receiver.Receiver.{Receiver}
 use Rattle.receiver.specs.Table.{deliver, old, ask, deliverOutcome}
-use Rattle.wire.specs.Text.{ascii}
+use Rattle.wire.specs.Text.{ascii, readroom}
 use Rattle.wire.specs.Bounds.{blank}
 use Rattle.receiver.specs.Receiver.{receiver, accepted, afterRow, receiverStartRefusal, startReceiver, answerOf}
 use Rattle.receiver.specs.Receiver.{receiverAfter}
@@ -25,7 +25,7 @@ use Rattle.receiver.specs.Condition3.{plain, Condition3For}
 
 -- READROOM01
 abbrev pub name : List ℕ
-name = ascii "READROOM01"
+name = readroom
 
 abbrev pub a : Message
 a = ascii "a"
@@ -71,7 +71,7 @@ pub record NotVacuous : Type 0 where
   pub not-refused : receiverStartRefusal 1 100 ≡ 0
   pub starts : startReceiver name 1 100 ≡ fresh
   pub of-kind : AllOfKind session feed
-  pub deliverOutcome : delivered plain fresh feed ≡ a ∷ b ∷ c ∷ []
+  pub delivers : delivered plain fresh feed ≡ a ∷ b ∷ c ∷ []
   pub ends : after plain fresh feed ≡ receiver name 4 100 true
 
 -- ---- receivers that idle: they stay as they are, and deliver nothing

@@ -5,7 +5,7 @@ ghost use mathlib.Core.Path.{_≡_};
 ghost use Rattle.receiver.specs.Delivery.{deliveryCursor, DeliveryVisits};
 
 // The largest count of 16 bits.
-const LARGEST_COUNT: u16 = 65535;
+const LARGEST_COUNT: u16 = u16::MAX;
 
 // The cursor at the first message that a deliver answer delivers: count and skipped are the answer's, and the
 // datagram is the one that was taken.

@@ -3,7 +3,7 @@ use Prim.Native.Nat.{ℕ}
 use mathlib.Core.List.{List, [], _∷_, _++_}
 use mathlib.Core.Path.{_≡_}
 use lib.ListN.{replicate}
-use Rattle.wire.specs.Text.{ascii}
+use Rattle.wire.specs.Text.{ascii, readroom}
 use Rattle.wire.specs.Bounds.{blank}
 use Rattle.text_fields.specs.Letters.{space}
 use Rattle.soupbintcp.specs.Letters.{letterAccepted, letterSequenced, letterServerHeartbeat, letterEnd}
@@ -14,17 +14,13 @@ use Rattle.soupbintcp_client.specs.declared.client.Client.{Client}
 use Rattle.soupbintcp_client.specs.Client.{client, startClient, clientStep}
 use Rattle.soupbintcp_client.specs.HandedUp.{numberedFrom, handedUp}
 
--- READROOM01
-abbrev pub ours : List ℕ
-ours = ascii "READROOM01"
-
 -- S after Z is left where it is
 abbrev pub late : List ℕ
 late = shortPacket letterSequenced (ascii "c")
 
 abbrev pub stream : List ℕ
 stream =
-    shortPacket letterAccepted (ours ++ replicate 19 space ++ (ascii "7"))
+    shortPacket letterAccepted (readroom ++ replicate 19 space ++ (ascii "7"))
     ++ shortPacket letterSequenced (ascii "a")
     ++ shortPacket letterServerHeartbeat []
     ++ shortPacket letterSequenced []
@@ -37,5 +33,5 @@ ran = run clientStep (startClient blank 0) stream
 
 pub record ClientExample : Type 0 where
   pub hands-up : handedUp (ran .taken) ≡ numberedFrom 7 ((ascii "a") ∷ [] ∷ [])
-  pub ends : ran .after ≡ client ours 9 Ended
+  pub ends : ran .after ≡ client readroom 9 Ended
   pub leaves : ran .rest ≡ late

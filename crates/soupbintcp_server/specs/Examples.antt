@@ -4,12 +4,12 @@ use Prim.Native.Nat.{ℕ}
 use mathlib.Core.List.{List, [], _∷_, _++_}
 use mathlib.Core.Path.{_≡_}
 use lib.ListN.{replicate}
-use Rattle.wire.specs.Text.{ascii}
+use Rattle.wire.specs.Text.{ascii, readroom}
 use Rattle.wire.specs.Bounds.{blank}
 use Rattle.wire.specs.Words.{Words, says}
 use Rattle.text_fields.specs.Letters.{space}
 use Rattle.soupbintcp.specs.Letters.{letterLogin, letterUnsequenced, letterClientHeartbeat, letterLogout}
-use Rattle.login.specs.Examples.{ours, ann}
+use Rattle.login.specs.Examples.{ann}
 use Rattle.soupbintcp_session.specs.Answer.{SessionAnswerKind, accepted, unsequenced, logged-out}
 use Rattle.soupbintcp_session.specs.Stream.{Taking, Run, run}
 use Rattle.soupbintcp_session.specs.Examples.{shortPacket}
@@ -28,7 +28,7 @@ fromClient =
     ++ afterLogout
 
 abbrev pub served : Run Server
-served = run (serverStep (ann ∷ [])) (startServer ours 5) fromClient
+served = run (serverStep (ann ∷ [])) (startServer readroom 5) fromClient
 
 unfoldable pub repliesOf : List Taking → List (Words SessionAnswerKind)
 repliesOf [] = []
@@ -37,5 +37,5 @@ repliesOf (x ∷ xs) = x .reply ∷ repliesOf xs
 pub record ServerExample : Type 0 where
   pub answers : repliesOf (served .taken)
       ≡ says accepted (5 ∷ []) ∷ says unsequenced (3 ∷ 1 ∷ []) ∷ says logged-out [] ∷ []
-  pub closes : served .after ≡ server ours 5 Closed
+  pub closes : served .after ≡ server readroom 5 Closed
   pub leaves : served .rest ≡ afterLogout

@@ -48,7 +48,7 @@ answerMessage w l = answerMessageAt (w .which) (w .values) l
 
 -- ---- the packet that a step takes
 
--- its bytes, its letter, its values, and its session, which A and L have
+-- how many bytes it has, its letter, its values, and its session, which A and L have
 pub record Incoming : Type 0 where
   pub size : ℕ
   pub letter : ℕ

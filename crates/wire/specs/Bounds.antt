@@ -33,7 +33,7 @@ blank = replicate sessionSize (letter " ")
 
 -- the largest number of 16 bits, as a count or a length has
 abbrev pub largestCount : ℕ
-largestCount = 65535
+largestCount = 2 ^ 16 - 1
 
 -- the bounds of a receiver's asking limit, which are the fewest and the most messages that a request asks for: none
 -- is 48, and so is 65,535, the count of an end of session
@@ -41,4 +41,4 @@ abbrev pub leastLimit : ℕ
 leastLimit = 1
 
 abbrev pub largestLimit : ℕ
-largestLimit = 65534
+largestLimit = largestCount - 1

@@ -12,3 +12,7 @@ letter c = code c
 abbrev pub ascii : String → List ℕ
 ascii empty = []
 ascii (c then s) = letter c ∷ ascii s
+
+-- the session of document 01's examples
+abbrev pub readroom : List ℕ
+readroom = ascii "READROOM01"

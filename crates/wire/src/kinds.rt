@@ -19,7 +19,7 @@ pub const LARGEST_NUMBER: SequenceNumber = SequenceNumber(u64::MAX);
 // is 48, and so is 65,535, the count of an end of session.
 pub const LEAST_LIMIT: MessageCount = MessageCount(1);
 
-pub const LARGEST_LIMIT: MessageCount = MessageCount(65534);
+pub const LARGEST_LIMIT: MessageCount = MessageCount(u16::MAX - 1);
 
 // Bytes of a session name.
 pub const SESSION_SIZE: usize = 10;
