@@ -84,11 +84,11 @@ class Room:
 
     def undone(self, do):
         """Does something with the change taken back."""
-        path, changed = self.changed
-        text = path.read_text()
-        path.write_text(changed)
+        file, before = self.changed
+        changed = file.read_text()
+        file.write_text(before)
         answer = do()
-        path.write_text(text)
+        file.write_text(changed)
         return answer
 
     def verdict_on(self, change):
@@ -149,15 +149,13 @@ def draw(room, function, offered, each, seed, before):
 def run(name, seed, each, names):
     """Draws for a crate, records it, and answers what is to be printed."""
     before = {row["function"]: row for row in recorded(name).get("functions", [])}
+    # read before the copy is made, so that somebody may work on while the changes are tried
+    offers = [(f, changes_of(f, own, names)) for f, own in sources.owned_by(name).items()]
     with tempfile.TemporaryDirectory() as folder:
         room = Room(name, pathlib.Path(folder))
         if not room.is_proved:
             return [f"{name}: not proved as it is: nothing is drawn"]
-        owned = sources.owned_by(name)
-        rows = []
-        for function, own in owned.items():
-            offered = changes_of(function, own, names)
-            rows.append(draw(room, function, offered, each, seed, before.get(function.title, {})))
+        rows = [draw(room, f, offered, each, seed, before.get(f.title, {})) for f, offered in offers]
     DATA.mkdir(exist_ok=True)
     text = json.dumps({"crate": name, "seed": seed, "functions": rows}, indent=1, ensure_ascii=False)
     (DATA / f"{name}.json").write_text(text + "\n")
