@@ -8,7 +8,8 @@
  *   is written overlaps another one of the same call. Any bytes, of any length, may be lent: nothing needs to be checked beforehand.
  *
  * What comes back
- *   Each function returns 0, or the number of a refusal (EIDERWAGON_REFUSED_...). On 0, the answer stands in `words`, in the order that
+ *   Each function returns a code: 0, or a refusal. Compare EIDERWAGON_NUMBER(code) with EIDERWAGON_REFUSED_...: the number is in the low
+ *   8 bits, and a later library may put a place above them. On 0, the answer stands in `words`, in the order that
  *   the function's comment gives; each word that it names is set, those that an answer has no value for to 0, and no further one is
  *   touched. A refusal changes no word, no byte of a lent output and no byte of a state.
  *
@@ -65,6 +66,69 @@ enum {
     EIDERWAGON_REFUSED_REQUEST_SIZE = 47,       /* a request that isn't 20 bytes */
     EIDERWAGON_REFUSED_REQUEST_COUNT = 48       /* a request whose count is 0 or 65,535 */
 };
+
+/* The number of a refusal in a returned code, or EIDERWAGON_OK. */
+#define EIDERWAGON_NUMBER(code) ((code) & 0xFFu)
+
+/* The ground of a returned code in words. Never NULL. */
+static inline const char *eiderwagon_ground(uint32_t code) {
+    switch (EIDERWAGON_NUMBER(code)) {
+    case EIDERWAGON_OK:
+        return "no refusal";
+    case EIDERWAGON_REFUSED_DATAGRAM_SHORT:
+        return "a Mold datagram under 20 bytes";
+    case EIDERWAGON_REFUSED_DATAGRAM_LONG:
+        return "a Mold datagram over 65,507 bytes, or a writer's total";
+    case EIDERWAGON_REFUSED_NUMBER_ZERO:
+        return "the number is 0";
+    case EIDERWAGON_REFUSED_NUMBERS_RUN_OUT:
+        return "for data, number + count is above 2^64 - 1";
+    case EIDERWAGON_REFUSED_BLOCK_PAST_END:
+        return "a block runs past the end";
+    case EIDERWAGON_REFUSED_BYTES_AFTER_BLOCKS:
+        return "bytes stand after the last block";
+    case EIDERWAGON_REFUSED_SESSION_DIFFERS:
+        return "the session differs";
+    case EIDERWAGON_REFUSED_SESSION_ENDED:
+        return "the session has already ended";
+    case EIDERWAGON_REFUSED_BAD_SETTING:
+        return "a bad starting setting, or an account table over 1,024 records";
+    case EIDERWAGON_REFUSED_END_BELOW_EXPECTED:
+        return "an end of session below the expected number";
+    case EIDERWAGON_REFUSED_LENGTH_ZERO:
+        return "a packet's length is 0";
+    case EIDERWAGON_REFUSED_PAYLOAD_LONG:
+        return "a payload above 4,096 bytes";
+    case EIDERWAGON_REFUSED_LETTER_NOT_SENT:
+        return "the letter is unknown, or of the wrong sender";
+    case EIDERWAGON_REFUSED_LENGTH_WRONG:
+        return "the length is wrong for the letter";
+    case EIDERWAGON_REFUSED_FIELD_BAD:
+        return "a bad session, number or reason field";
+    case EIDERWAGON_REFUSED_PACKET_NOT_TAKEN:
+        return "the packet isn't taken in this state";
+    case EIDERWAGON_REFUSED_STATE_CLOSED:
+        return "the state is ended or closed";
+    case EIDERWAGON_REFUSED_LOGIN_NOT_ASKED:
+        return "a login accepted doesn't match what was asked";
+    case EIDERWAGON_REFUSED_NUMBERS_USED_UP:
+        return "a sequenced message at 2^64 - 1";
+    case EIDERWAGON_REFUSED_OUTPUT_SHORT:
+        return "the lent output is shorter than needed";
+    case EIDERWAGON_REFUSED_TOO_MANY_MESSAGES:
+        return "over 65,534 messages";
+    case EIDERWAGON_REFUSED_LENGTHS_DIFFER:
+        return "the lengths don't add up to the data";
+    case EIDERWAGON_REFUSED_FIELD_NOT_WRITTEN:
+        return "a writer is given an unsound username or password, a bad session or reason, or A number 0";
+    case EIDERWAGON_REFUSED_REQUEST_SIZE:
+        return "a request that isn't 20 bytes";
+    case EIDERWAGON_REFUSED_REQUEST_COUNT:
+        return "a request whose count is 0 or 65,535";
+    default:
+        return "a refusal that this header doesn't know";
+    }
+}
 
 /* ---- Sizes, in bytes ------------------------------------------------------------------------------------------------------------ */
 

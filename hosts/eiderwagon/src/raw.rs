@@ -1,9 +1,9 @@
 //! The exported functions as they are, on slices: the only module with `unsafe` in it.
 //!
 //! Each function is the one of the same name in `include/eiderwagon.h`, where its contract stands:
-//! what is lent, which words it answers, which refusals it has. It returns 0 or the number of a
-//! refusal. A pointer with its size is one slice here, and the constants lose their prefix. The
-//! modules beside this one are the same functions with types.
+//! what is lent, which words it answers, which refusals it has. It returns 0 or the code of a
+//! refusal, whose number [`number`] gives. A pointer with its size is one slice here, and the
+//! constants lose their prefix. The modules beside this one are the same functions with types.
 //!
 //! ```
 //! use eiderwagon::raw;
@@ -186,6 +186,11 @@ constants! {
     LOGGED_OUT: u64 = 7;
     /// The server ends the session.
     SESSION_OVER: u64 = 8;
+}
+
+/// The number of a refusal in a returned code, or [`OK`]: its low 8 bits.
+pub const fn number(code: u32) -> u32 {
+    code & 0xFF
 }
 
 exported! {
