@@ -108,16 +108,16 @@ static uint64_t take(uint8_t receiver[EIDERWAGON_RECEIVER_SIZE], const Bytes *da
     uint64_t words[1];
     DONE(eiderwagon_receiver_take(receiver, EIDERWAGON_RECEIVER_SIZE, datagram->bytes, datagram->size, LEND(answer)));
     switch (answer[0]) {
-    case EIDERWAGON_DELIVER:
+    case EIDERWAGON_RECEIVER_DELIVER:
         deliver(datagram, answer);
         break;
-    case EIDERWAGON_ASK:
+    case EIDERWAGON_RECEIVER_ASK:
         /* The receiver's session is the first ten bytes of its state. A host sends the request to the venue. */
         DONE(eiderwagon_mold_write_request(receiver, EIDERWAGON_SESSION_SIZE, answer[1], (uint16_t)answer[2],
                                            LEND(request->bytes), LEND(words)));
         request->size = words[0];
         break;
-    default: /* EIDERWAGON_OLD, EIDERWAGON_QUIET, EIDERWAGON_ENDED: nothing to do */
+    default: /* EIDERWAGON_RECEIVER_OLD, EIDERWAGON_RECEIVER_QUIET, EIDERWAGON_RECEIVER_ENDED: nothing to do */
         break;
     }
     return answer[0];
@@ -135,28 +135,28 @@ static void follow_a_feed(void) {
     Bytes request = {{0}, 0};
 
     DONE(eiderwagon_receiver_start(LEND(name), 1, 100, LEND(receiver)));
-    CHECK(take(receiver, &one_two, &request) == EIDERWAGON_DELIVER);
-    CHECK(take(receiver, &one_two, &request) == EIDERWAGON_OLD);
+    CHECK(take(receiver, &one_two, &request) == EIDERWAGON_RECEIVER_DELIVER);
+    CHECK(take(receiver, &one_two, &request) == EIDERWAGON_RECEIVER_OLD);
 
     /* Messages 3 and 4 are lost: message 5 isn't kept, and the receiver asks. */
     CHECK(request.size == 0);
-    CHECK(take(receiver, &five, &request) == EIDERWAGON_ASK);
-    CHECK(request.size == EIDERWAGON_HEADER_SIZE && memcmp(request.bytes, name, sizeof name) == 0);
+    CHECK(take(receiver, &five, &request) == EIDERWAGON_RECEIVER_ASK);
+    CHECK(request.size == EIDERWAGON_MOLD_HEADER_SIZE && memcmp(request.bytes, name, sizeof name) == 0);
 
     /* The venue reads the request, and sends again. It begins at 2: the receiver skips what it has. */
     DONE(eiderwagon_mold_read_request(request.bytes, request.size, LEND(words)));
     CHECK(words[0] == 3 && words[1] == 2);
-    CHECK(take(receiver, &two_to_four, &request) == EIDERWAGON_DELIVER);
-    CHECK(take(receiver, &five, &request) == EIDERWAGON_DELIVER);
+    CHECK(take(receiver, &two_to_four, &request) == EIDERWAGON_RECEIVER_DELIVER);
+    CHECK(take(receiver, &five, &request) == EIDERWAGON_RECEIVER_DELIVER);
     CHECK(strcmp(screen, "1 one\n2 two\n3 \n4 four\n5 five\n") == 0);
 
-    CHECK(take(receiver, &still_at_six, &request) == EIDERWAGON_QUIET);
+    CHECK(take(receiver, &still_at_six, &request) == EIDERWAGON_RECEIVER_QUIET);
 
     /* It never asks for more than its limit at once, however much is missing. */
-    CHECK(take(receiver, &far_ahead, &request) == EIDERWAGON_ASK);
+    CHECK(take(receiver, &far_ahead, &request) == EIDERWAGON_RECEIVER_ASK);
     DONE(eiderwagon_mold_read_request(request.bytes, request.size, LEND(words)));
     CHECK(words[0] == 6 && words[1] == 100);
-    CHECK(take(receiver, &end, &request) == EIDERWAGON_ENDED);
+    CHECK(take(receiver, &end, &request) == EIDERWAGON_RECEIVER_ENDED);
     CHECK(receiver[20] != 0);
 }
 
@@ -169,11 +169,11 @@ static void read_a_datagram(void) {
     uint64_t words[3];
 
     DONE(eiderwagon_mold_read(datagram.bytes, datagram.size, LEND(words)));
-    CHECK(words[0] == EIDERWAGON_DATA && words[1] == 7 && words[2] == 2);
+    CHECK(words[0] == EIDERWAGON_MOLD_DATA && words[1] == 7 && words[2] == 2);
     DONE(eiderwagon_mold_read(last_heartbeat.bytes, last_heartbeat.size, LEND(words)));
-    CHECK(words[0] == EIDERWAGON_HEARTBEAT && words[1] == UINT64_MAX && words[2] == 0);
+    CHECK(words[0] == EIDERWAGON_MOLD_HEARTBEAT && words[1] == UINT64_MAX && words[2] == 0);
     DONE(eiderwagon_mold_read(end.bytes, end.size, LEND(words)));
-    CHECK(words[0] == EIDERWAGON_END_OF_SESSION && words[1] == 9 && words[2] == 0);
+    CHECK(words[0] == EIDERWAGON_MOLD_END_OF_SESSION && words[1] == 9 && words[2] == 0);
 
     DONE(eiderwagon_mold_locate(datagram.bytes, datagram.size, 1, LEND(words)));
     CHECK(words[0] == 1 && same(datagram.bytes + words[1], words[2], "two"));
@@ -234,10 +234,10 @@ static void log_in_and_out(void) {
     /* Before all of the login is there, the server needs more and takes nothing. */
     up.size = words[0] - 1;
     server_step(server, &up, words);
-    CHECK(words[0] == EIDERWAGON_NEED_MORE && words[1] == 0);
+    CHECK(words[0] == EIDERWAGON_SESSION_NEED_MORE && words[1] == 0);
     up.size += 1;
     server_step(server, &up, words);
-    CHECK(words[0] == EIDERWAGON_ACCEPTED && words[1] == 49 && words[2] == 1);
+    CHECK(words[0] == EIDERWAGON_SESSION_ACCEPTED && words[1] == 49 && words[2] == 1);
     pass(&up, words[1]);
     CHECK(up.size == 0);
 
@@ -250,28 +250,28 @@ static void log_in_and_out(void) {
     down.size += words[0];
     DONE(eiderwagon_soup_write_debug(TEXT("text for people"), ROOM(&down), LEND(words)));
     down.size += words[0];
-    DONE(eiderwagon_soup_read(down.bytes, down.size, EIDERWAGON_FROM_SERVER, LEND(words)));
+    DONE(eiderwagon_soup_read(down.bytes, down.size, EIDERWAGON_SOUP_FROM_SERVER, LEND(words)));
     CHECK(words[0] == 'A' && words[1] == 33 && words[2] == 1);
-    DONE(eiderwagon_soup_scan(down.bytes, down.size, EIDERWAGON_FROM_SERVER, LEND(words)));
+    DONE(eiderwagon_soup_scan(down.bytes, down.size, EIDERWAGON_SOUP_FROM_SERVER, LEND(words)));
     CHECK(words[0] == 4 && words[1] == down.size && words[2] == 0);
 
     /* The client takes packet after packet. A message comes with its number, and as a place in the stream. */
     client_step(client, &down, words);
-    CHECK(words[0] == EIDERWAGON_ACCEPTED && words[2] == 1);
+    CHECK(words[0] == EIDERWAGON_SESSION_ACCEPTED && words[2] == 1);
     CHECK(memcmp(client, name, sizeof name) == 0);
     pass(&down, words[1]);
     client_step(client, &down, words);
-    CHECK(words[0] == EIDERWAGON_SEQUENCED && words[2] == 1);
+    CHECK(words[0] == EIDERWAGON_SESSION_SEQUENCED && words[2] == 1);
     CHECK(same(down.bytes + words[3], words[4], "one"));
     pass(&down, words[1]);
     client_step(client, &down, words);
-    CHECK(words[0] == EIDERWAGON_PEER_HEARTBEAT);
+    CHECK(words[0] == EIDERWAGON_SESSION_HEARTBEAT);
     pass(&down, words[1]);
     client_step(client, &down, words);
-    CHECK(words[0] == EIDERWAGON_DEBUG);
+    CHECK(words[0] == EIDERWAGON_SESSION_DEBUG);
     pass(&down, words[1]);
     client_step(client, &down, words);
-    CHECK(words[0] == EIDERWAGON_NEED_MORE && words[1] == 0);
+    CHECK(words[0] == EIDERWAGON_SESSION_NEED_MORE && words[1] == 0);
 
     /* The client sends a message of its own, a heartbeat, and logs out. */
     DONE(eiderwagon_soup_write_unsequenced(TEXT("hello"), ROOM(&up), LEND(words)));
@@ -281,13 +281,13 @@ static void log_in_and_out(void) {
     DONE(eiderwagon_soup_write_logout(ROOM(&up), LEND(words)));
     up.size += words[0];
     server_step(server, &up, words);
-    CHECK(words[0] == EIDERWAGON_UNSEQUENCED && same(up.bytes + words[2], words[3], "hello") && words[4] == 0);
+    CHECK(words[0] == EIDERWAGON_SESSION_UNSEQUENCED && same(up.bytes + words[2], words[3], "hello") && words[4] == 0);
     pass(&up, words[1]);
     server_step(server, &up, words);
-    CHECK(words[0] == EIDERWAGON_PEER_HEARTBEAT);
+    CHECK(words[0] == EIDERWAGON_SESSION_HEARTBEAT);
     pass(&up, words[1]);
     server_step(server, &up, words);
-    CHECK(words[0] == EIDERWAGON_LOGGED_OUT);
+    CHECK(words[0] == EIDERWAGON_SESSION_LOGGED_OUT);
     CHECK(server[18] != 1 && server[18] != 2); /* closed */
 
     /* Had the client stayed, the server would have ended the session some day. */
@@ -311,16 +311,16 @@ static void be_rejected(void) {
     up.size = words[0];
 
     /* Without a session, the packet itself can be read too. */
-    DONE(eiderwagon_soup_read(up.bytes, up.size, EIDERWAGON_FROM_CLIENT, LEND(words)));
+    DONE(eiderwagon_soup_read(up.bytes, up.size, EIDERWAGON_SOUP_FROM_CLIENT, LEND(words)));
     CHECK(words[0] == 'L' && words[1] == up.size && words[2] == 0);
     CHECK(same(up.bytes + 3, EIDERWAGON_USERNAME_SIZE, "clerk "));
 
     server_step(server, &up, words);
-    CHECK(words[0] == EIDERWAGON_REJECTED && words[2] == 'A');
+    CHECK(words[0] == EIDERWAGON_SESSION_REJECTED && words[2] == 'A');
     DONE(eiderwagon_soup_write_rejected((uint8_t)words[2], ROOM(&down), LEND(words)));
     down.size = words[0];
     client_step(client, &down, words);
-    CHECK(words[0] == EIDERWAGON_REJECTED && words[2] == 'A' && words[3] == 0 && words[4] == 0);
+    CHECK(words[0] == EIDERWAGON_SESSION_REJECTED && words[2] == 'A' && words[3] == 0 && words[4] == 0);
     CHECK(server[18] != 1 && server[18] != 2);
     CHECK(client[18] != 1 && client[18] != 2 && client[18] != 3);
 }
@@ -524,17 +524,17 @@ static void refuse_at_a_receiver(void) {
 }
 
 static void refuse_packets(void) {
-    REFUSED(SHORT, eiderwagon_soup_read(TEXT("\0\1H"), EIDERWAGON_FROM_SERVER, WORDS(2)));
-    REFUSED(EIDERWAGON_REFUSED_LENGTH_ZERO, eiderwagon_soup_read(zeros, 2, EIDERWAGON_FROM_SERVER, WORDS(3)));
-    REFUSED(EIDERWAGON_REFUSED_PAYLOAD_LONG, eiderwagon_soup_read(TEXT("\x10\2"), EIDERWAGON_FROM_SERVER, WORDS(3)));
-    REFUSED(EIDERWAGON_REFUSED_LETTER_NOT_SENT, eiderwagon_soup_read(TEXT("\0\1H"), EIDERWAGON_FROM_CLIENT, WORDS(3)));
+    REFUSED(SHORT, eiderwagon_soup_read(TEXT("\0\1H"), EIDERWAGON_SOUP_FROM_SERVER, WORDS(2)));
+    REFUSED(EIDERWAGON_REFUSED_LENGTH_ZERO, eiderwagon_soup_read(zeros, 2, EIDERWAGON_SOUP_FROM_SERVER, WORDS(3)));
+    REFUSED(EIDERWAGON_REFUSED_PAYLOAD_LONG, eiderwagon_soup_read(TEXT("\x10\2"), EIDERWAGON_SOUP_FROM_SERVER, WORDS(3)));
+    REFUSED(EIDERWAGON_REFUSED_LETTER_NOT_SENT, eiderwagon_soup_read(TEXT("\0\1H"), EIDERWAGON_SOUP_FROM_CLIENT, WORDS(3)));
     REFUSED(EIDERWAGON_REFUSED_LETTER_NOT_SENT, eiderwagon_soup_read(TEXT("\0\1H"), 255, WORDS(3)));
-    REFUSED(EIDERWAGON_REFUSED_LENGTH_WRONG, eiderwagon_soup_read(TEXT("\0\2H"), EIDERWAGON_FROM_SERVER, WORDS(3)));
-    REFUSED(EIDERWAGON_REFUSED_FIELD_BAD, eiderwagon_soup_read(TEXT("\0\2JX"), EIDERWAGON_FROM_SERVER, WORDS(3)));
+    REFUSED(EIDERWAGON_REFUSED_LENGTH_WRONG, eiderwagon_soup_read(TEXT("\0\2H"), EIDERWAGON_SOUP_FROM_SERVER, WORDS(3)));
+    REFUSED(EIDERWAGON_REFUSED_FIELD_BAD, eiderwagon_soup_read(TEXT("\0\2JX"), EIDERWAGON_SOUP_FROM_SERVER, WORDS(3)));
 
     /* A scan isn't refused by what stopped it: the number stands in its answer. */
-    REFUSED(SHORT, eiderwagon_soup_scan(TEXT("\0\1H"), EIDERWAGON_FROM_SERVER, WORDS(2)));
-    DONE(eiderwagon_soup_scan(TEXT("\0\1H\0\2JX"), EIDERWAGON_FROM_SERVER, WORDS(3)));
+    REFUSED(SHORT, eiderwagon_soup_scan(TEXT("\0\1H"), EIDERWAGON_SOUP_FROM_SERVER, WORDS(2)));
+    DONE(eiderwagon_soup_scan(TEXT("\0\1H\0\2JX"), EIDERWAGON_SOUP_FROM_SERVER, WORDS(3)));
     CHECK(lent.words[0] == 1 && lent.words[1] == 3 && lent.words[2] == EIDERWAGON_REFUSED_FIELD_BAD);
 }
 
@@ -605,7 +605,7 @@ static void refuse_at_a_server(void) {
     REFUSED(EIDERWAGON_REFUSED_LENGTH_ZERO, SERVER_STEP("\0\0"));
     REFUSED(EIDERWAGON_REFUSED_PACKET_NOT_TAKEN, SERVER_STEP("\0\1U"));
     DONE(SERVER_STEP(LOGIN));
-    CHECK(lent.words[0] == EIDERWAGON_ACCEPTED);
+    CHECK(lent.words[0] == EIDERWAGON_SESSION_ACCEPTED);
     REFUSED(EIDERWAGON_REFUSED_PACKET_NOT_TAKEN, SERVER_STEP(LOGIN));
     DONE(SERVER_STEP("\0\1O"));
     REFUSED(EIDERWAGON_REFUSED_STATE_CLOSED, SERVER_STEP("\0\1+"));
@@ -697,26 +697,26 @@ static void use_no_more_of_a_state_than_its_size(void) {
     memset(&lent, 0xA5, sizeof lent);
     USES(EIDERWAGON_RECEIVER_SIZE, eiderwagon_receiver_start(LEND(name), 5, 100, LEND(lent.state)));
     USES(EIDERWAGON_RECEIVER_SIZE, eiderwagon_receiver_take(LEND(lent.state), end.bytes, end.size, LEND(lent.words)));
-    CHECK(lent.words[0] == EIDERWAGON_ENDED && lent.words[1] == 0 && lent.words[2] == 0 && lent.words[3] == 0);
+    CHECK(lent.words[0] == EIDERWAGON_RECEIVER_ENDED && lent.words[1] == 0 && lent.words[2] == 0 && lent.words[3] == 0);
     CHECK(untouched(lent.words + 4, sizeof lent.words[4]));
 
     memset(&lent, 0xA5, sizeof lent);
     USES(EIDERWAGON_SERVER_SIZE, eiderwagon_server_start(LEND(name), 0, LEND(lent.state)));
     USES(EIDERWAGON_SERVER_SIZE,
          eiderwagon_server_step(LEND(lent.state), TEXT(accounts), TEXT(LOGIN), LEND(lent.words)));
-    CHECK(lent.words[0] == EIDERWAGON_ACCEPTED && lent.words[2] == 1 && lent.words[3] == 0 && lent.words[4] == 0);
+    CHECK(lent.words[0] == EIDERWAGON_SESSION_ACCEPTED && lent.words[2] == 1 && lent.words[3] == 0 && lent.words[4] == 0);
 
     memset(&lent, 0xA5, sizeof lent);
     USES(EIDERWAGON_CLIENT_SIZE, eiderwagon_client_start(LEND(name), 0, LEND(lent.state)));
     USES(EIDERWAGON_CLIENT_SIZE, eiderwagon_client_step(LEND(lent.state), TEXT(ACCEPTED), LEND(lent.words)));
-    CHECK(lent.words[0] == EIDERWAGON_ACCEPTED && lent.words[2] == UINT64_MAX);
+    CHECK(lent.words[0] == EIDERWAGON_SESSION_ACCEPTED && lent.words[2] == UINT64_MAX);
 }
 
 /* Bytes of zero are a state too: a closed session, a capture whose settings are refused, a cursor with no messages left, and a
  * receiver, not ended, of a name of ten zero bytes. */
 static void take_bytes_of_zero_as_states(void) {
     const Bytes one = data(1, 1, (const uint16_t[]){3}, "one");
-    const uint8_t end_of_zeros[EIDERWAGON_HEADER_SIZE] = {[17] = 1, [18] = 0xFF, [19] = 0xFF};
+    const uint8_t end_of_zeros[EIDERWAGON_MOLD_HEADER_SIZE] = {[17] = 1, [18] = 0xFF, [19] = 0xFF};
     memset(&lent, 0, sizeof lent);
     REFUSED(EIDERWAGON_REFUSED_STATE_CLOSED, SERVER_STEP("\0\1+"));
     REFUSED(EIDERWAGON_REFUSED_STATE_CLOSED, CLIENT_STEP("\0\1+"));
@@ -733,7 +733,7 @@ static void take_bytes_of_zero_as_states(void) {
     REFUSED(EIDERWAGON_REFUSED_SESSION_DIFFERS,
             eiderwagon_receiver_take(LEND(lent.state), one.bytes, one.size, LEND(lent.words)));
     DONE(eiderwagon_receiver_take(LEND(lent.state), LEND(end_of_zeros), LEND(lent.words)));
-    CHECK(lent.words[0] == EIDERWAGON_ASK);
+    CHECK(lent.words[0] == EIDERWAGON_RECEIVER_ASK);
 }
 
 int main(void) {
