@@ -20,9 +20,19 @@ programs=target/c
 warnings=(-Wall -Wextra -Wconversion -Wpedantic -Werror -I ../include)
 mkdir -p "$programs"
 
-# the header by itself, as C and as C++
+# the header by itself, and from C++, where an empty vector's pointer is NULL
 cc -std=c11 "${warnings[@]}" -x c -fsyntax-only ../include/eiderwagon.h
-c++ -std=c++17 "${warnings[@]}" -x c++ -fsyntax-only ../include/eiderwagon.h
+c++ -std=c++17 "${warnings[@]}" -x c++ - -x none "$library" -o "$programs/vector" <<'END'
+#include "eiderwagon.h"
+#include <vector>
+int main() {
+    std::vector<uint8_t> none;
+    uint64_t words[EIDERWAGON_SCAN_WORDS];
+    uint32_t code = eiderwagon_soup_scan(none.data(), none.size(), EIDERWAGON_SOUP_FROM_CLIENT, words, EIDERWAGON_SCAN_WORDS);
+    return EIDERWAGON_NUMBER(code) != EIDERWAGON_OK || words[EIDERWAGON_SCAN_SIZE] != 0;
+}
+END
+"$programs/vector"
 
 # the examples print what is stored beside them
 for program in feed login test; do

@@ -5,9 +5,9 @@
  * call.
  *
  * What is lent
- *   A buffer is a pointer and, behind it, how many elements it has. No pointer is NULL, not even where it has
- *   none, and no buffer that is written overlaps another one of the same call. Any bytes, of any length, may be lent:
- *   nothing needs to be checked beforehand.
+ *   A buffer is a pointer and, behind it, how many elements it has. With no elements it may be any pointer, NULL too.
+ *   No buffer that is written overlaps another one of the same call. Any bytes, of any length, may be lent: nothing
+ *   needs to be checked beforehand.
  *
  * What comes back
  *   Each function returns a code: 0, or a refusal. Compare EIDERWAGON_NUMBER(code) with EIDERWAGON_REFUSED_...: the

@@ -2,8 +2,8 @@
  *
  * ../test.sh builds and runs it. feed.c and login.c, beside it, are the examples. The parts, in order:
  *   1. a MoldUDP64 receiver, with a gap      5. what is done, and that it changes no more than it says
- *   2. a SoupBinTCP login and session        6. codes, and grounds in words
- *   3. a capture, whole and in pieces
+ *   2. a SoupBinTCP login and session        6. buffers with no elements, at NULL
+ *   3. a capture, whole and in pieces        7. codes, and grounds in words
  *   4. what is refused, and that it changes nothing
  */
 #include "eiderwagon.h"
@@ -787,7 +787,212 @@ static void take_bytes_of_zero_as_states(void) {
     CHECK(LENT(TAKE_ANSWER) == EIDERWAGON_RECEIVER_ASK);
 }
 
-/* ---- 6. Codes and grounds ---------------------------------------------------------------------------------------- */
+/* ---- 6. No elements, at NULL ------------------------------------------------------------------------------------- */
+
+/* A buffer with no elements. Each function gets it in the place of each of its buffers, and of all of them. */
+#define NONE NULL, 0
+
+static void lend_no_bytes_to_datagrams(void) {
+    const Bytes one = data(1, 1, (const uint16_t[]){3}, "one");
+    const uint16_t three[] = {3};
+    const uint16_t nothing[] = {0};
+    memset(&lent, 0xA5, sizeof lent);
+
+    REFUSED(DATAGRAM_SHORT, eiderwagon_mold_read(NONE, WORDS(MOLD_READ)));
+    REFUSED(OUTPUT_SHORT, eiderwagon_mold_read(one.bytes, one.size, NONE));
+    REFUSED(OUTPUT_SHORT, eiderwagon_mold_read(NONE, NONE));
+
+    DONE(eiderwagon_mold_locate(NONE, 0, WORDS(LOCATE)));
+    CHECK(LENT(LOCATE_FOUND) == 0 && LENT(LOCATE_OFFSET) == 0 && LENT(LOCATE_LENGTH) == 0);
+    REFUSED(OUTPUT_SHORT, eiderwagon_mold_locate(one.bytes, one.size, 0, NONE));
+    REFUSED(OUTPUT_SHORT, eiderwagon_mold_locate(NONE, 0, NONE));
+
+    DONE(eiderwagon_mold_walk(NONE, LEND(lent.cursor)));
+    CHECK(number_in(lent.cursor, EIDERWAGON_CURSOR_PLACE_AT, 8) == 20);
+    CHECK(number_in(lent.cursor, EIDERWAGON_CURSOR_LEFT_AT, 2) == 0);
+    REFUSED(OUTPUT_SHORT, eiderwagon_mold_walk(one.bytes, one.size, NONE));
+    REFUSED(OUTPUT_SHORT, eiderwagon_mold_walk(NONE, NONE));
+
+    DONE(eiderwagon_mold_walk(one.bytes, one.size, LEND(lent.cursor)));
+    REFUSED(OUTPUT_SHORT, eiderwagon_mold_next(NONE, one.bytes, one.size, WORDS(NEXT)));
+    DONE(eiderwagon_mold_next(LEND(lent.cursor), NONE, WORDS(NEXT)));
+    CHECK(LENT(NEXT_FOUND) == 0 && number_in(lent.cursor, EIDERWAGON_CURSOR_LEFT_AT, 2) == 1);
+    REFUSED(OUTPUT_SHORT, eiderwagon_mold_next(LEND(lent.cursor), one.bytes, one.size, NONE));
+    REFUSED(OUTPUT_SHORT, eiderwagon_mold_next(NONE, NONE, NONE));
+
+    REFUSED(OUTPUT_SHORT, eiderwagon_mold_write_data(NONE, 1, LEND(three), TEXT("one"), LEND(lent.out), WORDS(WRITE)));
+    REFUSED(LENGTHS_DIFFER, eiderwagon_mold_write_data(LEND(name), 1, NONE, TEXT("one"), LEND(lent.out), WORDS(WRITE)));
+    REFUSED(LENGTHS_DIFFER, eiderwagon_mold_write_data(LEND(name), 1, LEND(three), NONE, LEND(lent.out), WORDS(WRITE)));
+    DONE(eiderwagon_mold_write_data(LEND(name), 1, LEND(nothing), NONE, LEND(lent.out), WORDS(WRITE)));
+    CHECK(LENT(WRITE_SIZE) == 22);
+    DONE(eiderwagon_mold_write_data(LEND(name), 1, NONE, NONE, LEND(lent.out), WORDS(WRITE)));
+    CHECK(LENT(WRITE_SIZE) == 20);
+    REFUSED(OUTPUT_SHORT, eiderwagon_mold_write_data(LEND(name), 1, LEND(three), TEXT("one"), NONE, WORDS(WRITE)));
+    REFUSED(OUTPUT_SHORT, eiderwagon_mold_write_data(LEND(name), 1, NONE, NONE, NONE, WORDS(WRITE)));
+    REFUSED(OUTPUT_SHORT, eiderwagon_mold_write_data(LEND(name), 1, LEND(three), TEXT("one"), LEND(lent.out), NONE));
+    REFUSED(OUTPUT_SHORT, eiderwagon_mold_write_data(NONE, 1, NONE, NONE, NONE, NONE));
+
+    REFUSED(OUTPUT_SHORT, eiderwagon_mold_write_heartbeat(NONE, 1, LEND(lent.out), WORDS(WRITE)));
+    REFUSED(OUTPUT_SHORT, eiderwagon_mold_write_heartbeat(LEND(name), 1, NONE, WORDS(WRITE)));
+    REFUSED(OUTPUT_SHORT, eiderwagon_mold_write_heartbeat(LEND(name), 1, LEND(lent.out), NONE));
+    REFUSED(OUTPUT_SHORT, eiderwagon_mold_write_heartbeat(NONE, 1, NONE, NONE));
+
+    REFUSED(OUTPUT_SHORT, eiderwagon_mold_write_end(NONE, 1, LEND(lent.out), WORDS(WRITE)));
+    REFUSED(OUTPUT_SHORT, eiderwagon_mold_write_end(LEND(name), 1, NONE, WORDS(WRITE)));
+    REFUSED(OUTPUT_SHORT, eiderwagon_mold_write_end(LEND(name), 1, LEND(lent.out), NONE));
+    REFUSED(OUTPUT_SHORT, eiderwagon_mold_write_end(NONE, 1, NONE, NONE));
+
+    REFUSED(REQUEST_SIZE, eiderwagon_mold_read_request(NONE, WORDS(READ_REQUEST)));
+    REFUSED(OUTPUT_SHORT, eiderwagon_mold_read_request(one.bytes, 20, NONE));
+    REFUSED(OUTPUT_SHORT, eiderwagon_mold_read_request(NONE, NONE));
+
+    REFUSED(OUTPUT_SHORT, eiderwagon_mold_write_request(NONE, 1, 1, LEND(lent.out), WORDS(WRITE)));
+    REFUSED(OUTPUT_SHORT, eiderwagon_mold_write_request(LEND(name), 1, 1, NONE, WORDS(WRITE)));
+    REFUSED(OUTPUT_SHORT, eiderwagon_mold_write_request(LEND(name), 1, 1, LEND(lent.out), NONE));
+    REFUSED(OUTPUT_SHORT, eiderwagon_mold_write_request(NONE, 1, 1, NONE, NONE));
+
+    REFUSED(OUTPUT_SHORT, eiderwagon_receiver_start(NONE, 1, 1, LEND(lent.state)));
+    REFUSED(OUTPUT_SHORT, eiderwagon_receiver_start(LEND(name), 1, 1, NONE));
+    REFUSED(OUTPUT_SHORT, eiderwagon_receiver_start(NONE, 1, 1, NONE));
+
+    DONE(eiderwagon_receiver_start(LEND(name), 1, 1, LEND(lent.state)));
+    REFUSED(OUTPUT_SHORT, eiderwagon_receiver_take(NONE, one.bytes, one.size, WORDS(TAKE)));
+    REFUSED(DATAGRAM_SHORT, eiderwagon_receiver_take(LEND(lent.state), NONE, WORDS(TAKE)));
+    REFUSED(OUTPUT_SHORT, eiderwagon_receiver_take(LEND(lent.state), one.bytes, one.size, NONE));
+    REFUSED(OUTPUT_SHORT, eiderwagon_receiver_take(NONE, NONE, NONE));
+
+    DONE(eiderwagon_receiver_walk(NONE, 2, 1, LEND(lent.cursor)));
+    CHECK(number_in(lent.cursor, EIDERWAGON_CURSOR_PLACE_AT, 8) == 20);
+    CHECK(number_in(lent.cursor, EIDERWAGON_CURSOR_LEFT_AT, 2) == 3);
+    REFUSED(OUTPUT_SHORT, eiderwagon_receiver_walk(one.bytes, one.size, 1, 0, NONE));
+    REFUSED(OUTPUT_SHORT, eiderwagon_receiver_walk(NONE, 1, 0, NONE));
+}
+
+static void write_no_payload(PayloadWriter write) {
+    DONE(write(NONE, LEND(lent.out), WORDS(WRITE)));
+    CHECK(LENT(WRITE_SIZE) == 3);
+    REFUSED(OUTPUT_SHORT, write(NONE, NONE, WORDS(WRITE)));
+    REFUSED(OUTPUT_SHORT, write(TEXT("hello"), NONE, WORDS(WRITE)));
+    REFUSED(OUTPUT_SHORT, write(TEXT("hello"), LEND(lent.out), NONE));
+    REFUSED(OUTPUT_SHORT, write(NONE, NONE, NONE));
+}
+
+static void write_into_nothing(BareWriter write) {
+    REFUSED(OUTPUT_SHORT, write(NONE, WORDS(WRITE)));
+    REFUSED(OUTPUT_SHORT, write(LEND(lent.out), NONE));
+    REFUSED(OUTPUT_SHORT, write(NONE, NONE));
+}
+
+#define USERNAME TEXT("clerk ")
+#define PASSWORD TEXT("desk5     ")
+
+static void lend_no_bytes_to_packets(void) {
+    memset(&lent, 0xA5, sizeof lent);
+
+    DONE(eiderwagon_soup_read(NONE, EIDERWAGON_SOUP_FROM_SERVER, WORDS(SOUP_READ)));
+    CHECK(LENT(SOUP_READ_LETTER) == 0 && LENT(SOUP_READ_SIZE) == 0 && LENT(SOUP_READ_NUMBER) == 0);
+    REFUSED(OUTPUT_SHORT, eiderwagon_soup_read(TEXT("\0\1H"), EIDERWAGON_SOUP_FROM_SERVER, NONE));
+    REFUSED(OUTPUT_SHORT, eiderwagon_soup_read(NONE, EIDERWAGON_SOUP_FROM_SERVER, NONE));
+
+    DONE(eiderwagon_soup_scan(NONE, EIDERWAGON_SOUP_FROM_SERVER, WORDS(SCAN)));
+    CHECK(LENT(SCAN_COUNT) == 0 && LENT(SCAN_SIZE) == 0 && LENT(SCAN_REFUSAL) == 0);
+    REFUSED(OUTPUT_SHORT, eiderwagon_soup_scan(TEXT("\0\1H"), EIDERWAGON_SOUP_FROM_SERVER, NONE));
+    REFUSED(OUTPUT_SHORT, eiderwagon_soup_scan(NONE, EIDERWAGON_SOUP_FROM_SERVER, NONE));
+
+    write_no_payload(eiderwagon_soup_write_debug);
+    write_no_payload(eiderwagon_soup_write_sequenced);
+    write_no_payload(eiderwagon_soup_write_unsequenced);
+    write_into_nothing(eiderwagon_soup_write_server_heartbeat);
+    write_into_nothing(eiderwagon_soup_write_end);
+    write_into_nothing(eiderwagon_soup_write_client_heartbeat);
+    write_into_nothing(eiderwagon_soup_write_logout);
+
+    REFUSED(OUTPUT_SHORT, eiderwagon_soup_write_accepted(NONE, 1, LEND(lent.out), WORDS(WRITE)));
+    REFUSED(OUTPUT_SHORT, eiderwagon_soup_write_accepted(LEND(name), 1, NONE, WORDS(WRITE)));
+    REFUSED(OUTPUT_SHORT, eiderwagon_soup_write_accepted(LEND(name), 1, LEND(lent.out), NONE));
+    REFUSED(OUTPUT_SHORT, eiderwagon_soup_write_accepted(NONE, 1, NONE, NONE));
+
+    REFUSED(OUTPUT_SHORT, eiderwagon_soup_write_rejected('A', NONE, WORDS(WRITE)));
+    REFUSED(OUTPUT_SHORT, eiderwagon_soup_write_rejected('A', LEND(lent.out), NONE));
+    REFUSED(OUTPUT_SHORT, eiderwagon_soup_write_rejected('A', NONE, NONE));
+
+    REFUSED(OUTPUT_SHORT, eiderwagon_soup_write_login(NONE, PASSWORD, LEND(name), 1, LEND(lent.out), WORDS(WRITE)));
+    REFUSED(OUTPUT_SHORT, eiderwagon_soup_write_login(USERNAME, NONE, LEND(name), 1, LEND(lent.out), WORDS(WRITE)));
+    REFUSED(OUTPUT_SHORT, eiderwagon_soup_write_login(USERNAME, PASSWORD, NONE, 1, LEND(lent.out), WORDS(WRITE)));
+    REFUSED(OUTPUT_SHORT, eiderwagon_soup_write_login(USERNAME, PASSWORD, LEND(name), 1, NONE, WORDS(WRITE)));
+    REFUSED(OUTPUT_SHORT, eiderwagon_soup_write_login(USERNAME, PASSWORD, LEND(name), 1, LEND(lent.out), NONE));
+    REFUSED(OUTPUT_SHORT, eiderwagon_soup_write_login(NONE, NONE, NONE, 1, NONE, NONE));
+}
+
+static void lend_no_bytes_to_sessions(void) {
+    memset(&lent, 0xA5, sizeof lent);
+
+    REFUSED(OUTPUT_SHORT, eiderwagon_server_start(NONE, 0, LEND(lent.state)));
+    REFUSED(OUTPUT_SHORT, eiderwagon_server_start(LEND(name), 0, NONE));
+    REFUSED(OUTPUT_SHORT, eiderwagon_server_start(NONE, 0, NONE));
+
+    DONE(eiderwagon_server_start(LEND(name), 0, LEND(lent.state)));
+    REFUSED(OUTPUT_SHORT, eiderwagon_server_step(NONE, TEXT(accounts), TEXT(LOGIN), WORDS(SERVER_STEP)));
+    DONE(eiderwagon_server_step(LEND(lent.state), TEXT(accounts), NONE, WORDS(SERVER_STEP)));
+    CHECK(LENT(SERVER_STEP_ANSWER) == EIDERWAGON_SESSION_NEED_MORE && LENT(SERVER_STEP_SIZE) == 0);
+    DONE(eiderwagon_server_step(LEND(lent.state), NONE, NONE, WORDS(SERVER_STEP)));
+    CHECK(LENT(SERVER_STEP_ANSWER) == EIDERWAGON_SESSION_NEED_MORE && LENT(SERVER_STEP_SIZE) == 0);
+    REFUSED(OUTPUT_SHORT, eiderwagon_server_step(LEND(lent.state), TEXT(accounts), TEXT(LOGIN), NONE));
+    REFUSED(OUTPUT_SHORT, eiderwagon_server_step(NONE, NONE, NONE, NONE));
+    DONE(eiderwagon_server_step(LEND(lent.state), NONE, TEXT(LOGIN), WORDS(SERVER_STEP)));
+    CHECK(LENT(SERVER_STEP_ANSWER) == EIDERWAGON_SESSION_REJECTED && LENT(SERVER_STEP_REASON) == 'A');
+
+    REFUSED(OUTPUT_SHORT, eiderwagon_client_start(NONE, 0, LEND(lent.state)));
+    REFUSED(OUTPUT_SHORT, eiderwagon_client_start(LEND(name), 0, NONE));
+    REFUSED(OUTPUT_SHORT, eiderwagon_client_start(NONE, 0, NONE));
+
+    DONE(eiderwagon_client_start(LEND(name), 0, LEND(lent.state)));
+    REFUSED(OUTPUT_SHORT, eiderwagon_client_step(NONE, TEXT(ACCEPTED), WORDS(CLIENT_STEP)));
+    DONE(eiderwagon_client_step(LEND(lent.state), NONE, WORDS(CLIENT_STEP)));
+    CHECK(LENT(CLIENT_STEP_ANSWER) == EIDERWAGON_SESSION_NEED_MORE && LENT(CLIENT_STEP_SIZE) == 0);
+    REFUSED(OUTPUT_SHORT, eiderwagon_client_step(LEND(lent.state), TEXT(ACCEPTED), NONE));
+    REFUSED(OUTPUT_SHORT, eiderwagon_client_step(NONE, NONE, NONE));
+}
+
+static void lend_no_bytes_to_captures(void) {
+    memset(&lent, 0xA5, sizeof lent);
+
+    REFUSED(OUTPUT_SHORT, eiderwagon_capture_start(NONE));
+
+    DONE(eiderwagon_capture_start(LEND(lent.state)));
+    REFUSED(OUTPUT_SHORT, eiderwagon_capture_feed(NONE, zeros, 57, WORDS(FEED)));
+    DONE(eiderwagon_capture_feed(LEND(lent.state), NONE, WORDS(FEED)));
+    CHECK(LENT(FEED_USED) == 0 && LENT(FEED_OVER) == 0);
+    REFUSED(OUTPUT_SHORT, eiderwagon_capture_feed(LEND(lent.state), zeros, 57, NONE));
+    REFUSED(OUTPUT_SHORT, eiderwagon_capture_feed(NONE, NONE, NONE));
+
+    REFUSED(OUTPUT_SHORT, eiderwagon_capture_finish(NONE, zeros, 57));
+    REFUSED(OUTPUT_SHORT, eiderwagon_capture_finish(NONE, NONE));
+    DONE(eiderwagon_capture_finish(LEND(lent.state), NONE));
+    CHECK(lent.state[EIDERWAGON_CAPTURE_STAGE_AT] == EIDERWAGON_CAPTURE_BAD);
+    /* between records and when it is done, too */
+    for (uint8_t stage = EIDERWAGON_CAPTURE_RECORDS; stage <= EIDERWAGON_CAPTURE_DONE; stage++) {
+        lent.state[EIDERWAGON_CAPTURE_STAGE_AT] = stage;
+        DONE(eiderwagon_capture_feed(LEND(lent.state), NONE, WORDS(FEED)));
+        CHECK(LENT(FEED_USED) == 0 && LENT(FEED_OVER) == (stage == EIDERWAGON_CAPTURE_DONE));
+        DONE(eiderwagon_capture_finish(LEND(lent.state), NONE));
+        CHECK(lent.state[EIDERWAGON_CAPTURE_STAGE_AT] == EIDERWAGON_CAPTURE_DONE);
+        CHECK(number_in(lent.state, EIDERWAGON_CAPTURE_REFUSED_AT, 8) == 0);
+    }
+
+    REFUSED(OUTPUT_SHORT, eiderwagon_capture_write(NONE, LEND(lent.out), WORDS(WRITE)));
+    REFUSED(OUTPUT_SHORT, eiderwagon_capture_write(LEND(lent.state), NONE, WORDS(WRITE)));
+    REFUSED(OUTPUT_SHORT, eiderwagon_capture_write(LEND(lent.state), LEND(lent.out), NONE));
+    REFUSED(OUTPUT_SHORT, eiderwagon_capture_write(NONE, NONE, NONE));
+
+    DONE(eiderwagon_capture_report(NONE, LEND(lent.out), WORDS(WRITE)));
+    CHECK(same(lent.out, LENT(WRITE_SIZE), "settings=refused\n"));
+    REFUSED(OUTPUT_SHORT, eiderwagon_capture_report(TEXT("bad"), NONE, WORDS(WRITE)));
+    REFUSED(OUTPUT_SHORT, eiderwagon_capture_report(TEXT("bad"), LEND(lent.out), NONE));
+    REFUSED(OUTPUT_SHORT, eiderwagon_capture_report(NONE, NONE, NONE));
+}
+
+/* ---- 7. Codes and grounds ---------------------------------------------------------------------------------------- */
 
 static void say_the_grounds(void) {
     unsigned known = 0;
@@ -827,6 +1032,11 @@ int main(void) {
     write_no_more_than_is_said();
     use_no_more_of_a_state_than_its_size();
     take_bytes_of_zero_as_states();
+
+    lend_no_bytes_to_datagrams();
+    lend_no_bytes_to_packets();
+    lend_no_bytes_to_sessions();
+    lend_no_bytes_to_captures();
 
     say_the_grounds();
 

@@ -57,9 +57,9 @@ macro_rules! exported {
                 fn exported($($c)*) -> u32;
             }
             // SAFETY: the header declares this function with these parameters, as a test checks.
-            // It takes any bytes of any length, keeps no pointer, and asks two things of its
-            // caller, which slices have: no pointer is null, not even that of an empty slice, and
-            // what it writes overlaps nothing else, being borrowed alone.
+            // It takes any bytes of any length, keeps no pointer, and asks one thing of its
+            // caller, which slices have: what it writes overlaps nothing else, being borrowed
+            // alone.
             unsafe { exported($($lent)*) }
         }
     };
