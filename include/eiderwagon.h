@@ -2,7 +2,7 @@
  *
  * Link with libeiderwagon.a, which `tools/host_library.sh` builds for x86-64 Linux. Nothing here allocates, blocks,
  * reads a clock, touches a socket or keeps anything between two calls: a state is bytes that you keep, and lend to each
- * call.
+ * call. hosts/c has two examples, feed.c and login.c.
  *
  * What is lent
  *   A buffer is a pointer and, behind it, how many elements it has. With no elements it may be any pointer, NULL too.
@@ -26,8 +26,9 @@
  *   Their layout is given below (_AT and _SIZE), and any bytes are one: a state can be stored, copied, compared and
  *   made by hand. Numbers are big-endian. What is written has one form: ended is 1, closed is 0, settings refused is
  *   0; a success brings a state that was made by hand into that form, also where its meaning doesn't change.
- *   Start every state before its first use, and use none whose start was refused: it is left as it was. Bytes of zero
- *   are a closed session, a capture whose settings are refused, a cursor with no messages left;
+ *   Start every state before its first use, and use none whose start was refused. A refused start changes no byte: so
+ *   clear a state, all bytes 0, before you start it anew. Otherwise the old one is still there where the start is
+ *   refused. Bytes of zero are a closed session, a capture whose settings are refused, a cursor with no messages left;
  *   and a receiver that isn't ended, of a name of ten zero bytes, that asks for no messages.
  */
 #ifndef EIDERWAGON_H
@@ -267,8 +268,8 @@ enum {
     EIDERWAGON_NEXT_WORDS = 3   /* how many words */
 };
 
-/* Answers the message at a cursor, and moves the cursor to the next one. Where no message is left the cursor
- * stays. Lend the datagram that the cursor was set
+/* Answers the message at a cursor, and moves the cursor to the next one. Where no message is left, or the one at the
+ * cursor doesn't end within the datagram, none is there and the cursor stays. Lend the datagram that the cursor was set
  * for; any other is safe too, and then the answer is about that one's bytes.
  *   cursor:    EIDERWAGON_CURSOR_SIZE bytes, read and written
  *   words:     EIDERWAGON_NEXT_WORDS
@@ -335,7 +336,7 @@ enum {
     EIDERWAGON_RECEIVER_DELIVER = 1, /* deliver messages of this datagram: eiderwagon_receiver_walk finds them */
     EIDERWAGON_RECEIVER_OLD = 2,     /* nothing new */
     EIDERWAGON_RECEIVER_QUIET = 3,   /* a heartbeat, and nothing is missing */
-    EIDERWAGON_RECEIVER_ASK = 4,     /* messages are missing: send a request */
+    EIDERWAGON_RECEIVER_ASK = 4,     /* messages are missing: send a request, if none is under way */
     EIDERWAGON_RECEIVER_ENDED = 5    /* the session is over, and nothing is missing */
 };
 
@@ -348,7 +349,9 @@ enum {
     EIDERWAGON_TAKE_WORDS = 4    /* how many words */
 };
 
-/* Takes one datagram as it came.
+/* Takes one datagram as it came. Requests are paced by you: a datagram ahead isn't kept, and each one asks again, so
+ * that one loss is answered by many EIDERWAGON_RECEIVER_ASK. Send the first, and the next one only where its first
+ * number is another or a while has passed.
  *   state:     EIDERWAGON_RECEIVER_SIZE bytes, read and written
  *   words:     EIDERWAGON_TAKE_WORDS
  *   refusals:  41, 11, 12, 13, 14, 15, 16, 17, 18, 20 */
@@ -357,8 +360,10 @@ uint32_t eiderwagon_receiver_take(uint8_t *state, size_t state_size, const uint8
 
 /* Sets a cursor to the first message that an EIDERWAGON_RECEIVER_DELIVER answer delivers: `count` and `skipped` are
  * EIDERWAGON_TAKE_COUNT and EIDERWAGON_TAKE_SKIPPED of the answer to this datagram. eiderwagon_mold_next then answers
- * exactly the delivered messages, in order. Other numbers are safe too: the walk ends with the datagram, and where the
- * two add up to more than 65,535 the cursor stands at place 20 with none left.
+ * exactly the delivered messages, in order. Other numbers are safe too: the walk ends with the datagram. Where the
+ * datagram ends before the skipped messages do, the cursor stands behind its last whole message, with count + skipped
+ * less those that it passed left, and no message is there. Where the two add up to more than 65,535 it stands at place
+ * 20 with none left.
  *   cursor:    EIDERWAGON_CURSOR_SIZE bytes, written
  *   refusals:  41 */
 uint32_t eiderwagon_receiver_walk(const uint8_t *datagram, size_t datagram_size, uint16_t count, uint16_t skipped,
@@ -542,7 +547,8 @@ uint32_t eiderwagon_client_step(uint8_t *state, size_t state_size, const uint8_t
  * or no), `delivered=` (messages), `old=`, `quiet=`, `asked=`, `refused=` (answers); or the one line
  * `settings=refused`, which is no refusal of these functions. */
 
-/* Starts the reading of a capture in pieces.
+/* Starts the reading of a capture in pieces. Its receiver is that of a refused start, ended, its name ten spaces, its
+ * numbers 1, until settings are read; bad settings leave it as it is.
  *   state:     EIDERWAGON_CAPTURE_SIZE bytes, written
  *   refusals:  41 */
 uint32_t eiderwagon_capture_start(uint8_t *state, size_t state_size);
@@ -556,8 +562,10 @@ enum {
 
 /* Feeds some bytes, after which more may come. Settings that are read start the report anew. Keep the bytes that were
  * not used, at most 65,536, and feed them again in front of the next piece. While the settings are due, fewer than 57
- * bytes are too few to tell: none are used then. Once 2^32 - 1 records were read no byte is used any more, though
- * EIDERWAGON_FEED_OVER stays 0: where more than 65,536 bytes are left unused, stop reading and drop them.
+ * bytes are too few to tell: none are used then. Once the reading is over, by bad settings or by
+ * eiderwagon_capture_finish, a feed uses all of its bytes, and so does the one that meets bad settings. But once
+ * 2^32 - 1 records were read no byte is used any more, though EIDERWAGON_FEED_OVER stays 0: where more than 65,536
+ * bytes are left unused, stop reading and drop them.
  *   state:     EIDERWAGON_CAPTURE_SIZE bytes, read and written
  *   words:     EIDERWAGON_FEED_WORDS
  *   refusals:  41 */

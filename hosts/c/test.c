@@ -787,6 +787,99 @@ static void take_bytes_of_zero_as_states(void) {
     CHECK(LENT(TAKE_ANSWER) == EIDERWAGON_RECEIVER_ASK);
 }
 
+/* A refused start leaves what was there: a host that starts a state anew clears it first. */
+static void leave_the_old_state_at_a_refused_start(void) {
+    const Bytes one = data(1, 1, (const uint16_t[]){3}, "one");
+    memset(&lent, 0, sizeof lent);
+    DONE(eiderwagon_receiver_start(LEND(name), 1, 100, LEND(lent.state)));
+    REFUSED(BAD_SETTING, eiderwagon_receiver_start(LEND(name), 1, 0, LEND(lent.state)));
+    DONE(eiderwagon_receiver_take(LEND(lent.state), one.bytes, one.size, LEND(lent.words)));
+    CHECK(LENT(TAKE_ANSWER) == EIDERWAGON_RECEIVER_DELIVER);
+
+    memset(lent.state, 0, sizeof lent.state);
+    REFUSED(BAD_SETTING, eiderwagon_receiver_start(LEND(name), 1, 0, LEND(lent.state)));
+    REFUSED(SESSION_DIFFERS, eiderwagon_receiver_take(LEND(lent.state), one.bytes, one.size, LEND(lent.words)));
+}
+
+/* Where the datagram ends before the skipped messages do, a walk's cursor stands behind the last whole one. */
+static void walk_past_the_end(void) {
+    const Bytes one_two = data(1, 2, (const uint16_t[]){3, 3}, "onetwo");
+    for (size_t cut = 0; cut <= 1; cut++) {
+        size_t size = one_two.size - cut;
+        DONE(eiderwagon_receiver_walk(one_two.bytes, size, 3, 5, LEND(lent.cursor)));
+        CHECK(number_in(lent.cursor, EIDERWAGON_CURSOR_PLACE_AT, 8) == (cut ? 25 : 30));
+        CHECK(number_in(lent.cursor, EIDERWAGON_CURSOR_LEFT_AT, 2) == (cut ? 7 : 6));
+        memcpy(&before, &lent, sizeof lent);
+        DONE(eiderwagon_mold_next(LEND(lent.cursor), one_two.bytes, size, WORDS(NEXT)));
+        CHECK(LENT(NEXT_FOUND) == 0 && memcmp(before.cursor, lent.cursor, sizeof lent.cursor) == 0);
+    }
+    DONE(eiderwagon_receiver_walk(one_two.bytes, one_two.size, 65535, 1, LEND(lent.cursor)));
+    CHECK(number_in(lent.cursor, EIDERWAGON_CURSOR_PLACE_AT, 8) == 20);
+    CHECK(number_in(lent.cursor, EIDERWAGON_CURSOR_LEFT_AT, 2) == 0);
+}
+
+/* The receiver in lent.state is that of a refused start: ended, its name ten spaces, its numbers 1. */
+static void has_no_receiver(void) {
+    const uint8_t *receiver = lent.state + EIDERWAGON_CAPTURE_RECEIVER_AT;
+    CHECK(same(receiver + EIDERWAGON_RECEIVER_SESSION_AT, EIDERWAGON_SESSION_SIZE, any_session));
+    CHECK(number_in(receiver, EIDERWAGON_RECEIVER_NEXT_AT, 8) == 1);
+    CHECK(number_in(receiver, EIDERWAGON_RECEIVER_LIMIT_AT, 2) == 1);
+    CHECK(receiver[EIDERWAGON_RECEIVER_ENDED_AT] == 1);
+}
+
+/* Once the reading in lent.state is over a feed uses all of its bytes, and changes no byte of it. */
+static void uses_all(void) {
+    for (size_t size = 0; size <= 70000; size += 17500) {
+        static const uint8_t many[70000];
+        memcpy(&before, &lent, sizeof lent);
+        DONE(eiderwagon_capture_feed(LEND(lent.state), many, size, WORDS(FEED)));
+        CHECK(LENT(FEED_USED) == size && LENT(FEED_OVER) == 1);
+        CHECK(memcmp(before.state, lent.state, sizeof lent.state) == 0);
+    }
+}
+
+static void end_a_capture(void) {
+    static const char good[] = "session=READROOM01\nnext=1\nlimit=100\n";
+    uint8_t *records = lent.state + EIDERWAGON_CAPTURE_RECORDS_AT;
+
+    /* By settings that are bad, in a feed and at the end. */
+    memset(&lent, 0xA5, sizeof lent);
+    DONE(eiderwagon_capture_start(LEND(lent.state)));
+    has_no_receiver();
+    CHECK(lent.state[EIDERWAGON_CAPTURE_STAGE_AT] == EIDERWAGON_CAPTURE_SETTINGS);
+    DONE(eiderwagon_capture_feed(LEND(lent.state), zeros, 56, WORDS(FEED)));
+    CHECK(LENT(FEED_USED) == 0 && LENT(FEED_OVER) == 0);
+    DONE(eiderwagon_capture_feed(LEND(lent.state), zeros, 57, WORDS(FEED)));
+    CHECK(LENT(FEED_USED) == 57 && LENT(FEED_OVER) == 1);
+    has_no_receiver();
+    CHECK(lent.state[EIDERWAGON_CAPTURE_STAGE_AT] == EIDERWAGON_CAPTURE_BAD);
+    uses_all();
+    DONE(eiderwagon_capture_start(LEND(lent.state)));
+    DONE(eiderwagon_capture_finish(LEND(lent.state), zeros, 0));
+    has_no_receiver();
+    CHECK(lent.state[EIDERWAGON_CAPTURE_STAGE_AT] == EIDERWAGON_CAPTURE_BAD);
+    uses_all();
+
+    /* By the end of a good one. */
+    DONE(eiderwagon_capture_start(LEND(lent.state)));
+    DONE(eiderwagon_capture_finish(LEND(lent.state), TEXT(good)));
+    CHECK(memcmp(lent.state + EIDERWAGON_CAPTURE_RECEIVER_AT + EIDERWAGON_RECEIVER_SESSION_AT, name, 10) == 0);
+    CHECK(lent.state[EIDERWAGON_CAPTURE_STAGE_AT] == EIDERWAGON_CAPTURE_DONE);
+    uses_all();
+
+    /* After 2^32 - 1 records nothing is used any more, and it isn't over. */
+    lent.state[EIDERWAGON_CAPTURE_STAGE_AT] = EIDERWAGON_CAPTURE_RECORDS;
+    memset(records, 0, 8);
+    records[4] = records[5] = records[6] = records[7] = 0xFF;
+    DONE(eiderwagon_capture_feed(LEND(lent.state), zeros, 2, WORDS(FEED)));
+    CHECK(LENT(FEED_USED) == 0 && LENT(FEED_OVER) == 0);
+    records[7] = 0xFE;
+    DONE(eiderwagon_capture_feed(LEND(lent.state), zeros, 4, WORDS(FEED)));
+    CHECK(LENT(FEED_USED) == 2 && LENT(FEED_OVER) == 0);
+    CHECK(number_in(lent.state, EIDERWAGON_CAPTURE_RECORDS_AT, 8) == UINT32_MAX);
+    CHECK(number_in(lent.state, EIDERWAGON_CAPTURE_REFUSED_AT, 8) == 1);
+}
+
 /* ---- 6. No elements, at NULL ------------------------------------------------------------------------------------- */
 
 /* A buffer with no elements. Each function gets it in the place of each of its buffers, and of all of them. */
@@ -1032,6 +1125,9 @@ int main(void) {
     write_no_more_than_is_said();
     use_no_more_of_a_state_than_its_size();
     take_bytes_of_zero_as_states();
+    leave_the_old_state_at_a_refused_start();
+    walk_past_the_end();
+    end_a_capture();
 
     lend_no_bytes_to_datagrams();
     lend_no_bytes_to_packets();

@@ -266,7 +266,7 @@ constants! {
     RECEIVER_OLD: u64 = 2;
     /// A receiver answers: a heartbeat, and nothing is missing.
     RECEIVER_QUIET: u64 = 3;
-    /// A receiver answers: messages are missing; send a request.
+    /// A receiver answers: messages are missing; send a request, if none is under way.
     RECEIVER_ASK: u64 = 4;
     /// A receiver answers: the session is over, and nothing is missing.
     RECEIVER_ENDED: u64 = 5;
