@@ -1,6 +1,7 @@
 #!/usr/bin/env bash
 # The hosts' tests, over target/staticlib/libeiderwagon.a, which tools/host_library.sh builds: the Rust wrapper with its
-# examples, the differential tests, the header as C and as C++, and the examples and the test in C, with warnings as errors.
+# examples, the differential tests, the header as C and as C++, and the examples and the test in C, with warnings as
+# errors.
 set -euo pipefail
 cd "$(dirname "$0")"
 
@@ -28,7 +29,8 @@ c++ -std=c++17 "${warnings[@]}" -x c++ - -x none "$library" -o "$programs/vector
 int main() {
     std::vector<uint8_t> none;
     uint64_t words[EIDERWAGON_SCAN_WORDS];
-    uint32_t code = eiderwagon_soup_scan(none.data(), none.size(), EIDERWAGON_SOUP_FROM_CLIENT, words, EIDERWAGON_SCAN_WORDS);
+    uint32_t code = eiderwagon_soup_scan(none.data(), none.size(), EIDERWAGON_SOUP_FROM_CLIENT, words,
+                                         EIDERWAGON_SCAN_WORDS);
     return EIDERWAGON_NUMBER(code) != EIDERWAGON_OK || words[EIDERWAGON_SCAN_SIZE] != 0;
 }
 END

@@ -349,9 +349,9 @@ enum {
     EIDERWAGON_TAKE_WORDS = 4    /* how many words */
 };
 
-/* Takes one datagram as it came. Requests are paced by you: a datagram ahead isn't kept, and each one asks again, so
- * that one loss is answered by many EIDERWAGON_RECEIVER_ASK. Send the first, and the next one only where its first
- * number is another or a while has passed.
+/* Takes one datagram as it came. Requests are paced by the host: a datagram ahead isn't kept, and each one asks again,
+ * so that one loss is answered by many EIDERWAGON_RECEIVER_ASK. Send the first, and another only where its first number
+ * differs or a while has passed.
  *   state:     EIDERWAGON_RECEIVER_SIZE bytes, read and written
  *   words:     EIDERWAGON_TAKE_WORDS
  *   refusals:  41, 11, 12, 13, 14, 15, 16, 17, 18, 20 */
@@ -361,9 +361,9 @@ uint32_t eiderwagon_receiver_take(uint8_t *state, size_t state_size, const uint8
 /* Sets a cursor to the first message that an EIDERWAGON_RECEIVER_DELIVER answer delivers: `count` and `skipped` are
  * EIDERWAGON_TAKE_COUNT and EIDERWAGON_TAKE_SKIPPED of the answer to this datagram. eiderwagon_mold_next then answers
  * exactly the delivered messages, in order. Other numbers are safe too: the walk ends with the datagram. Where the
- * datagram ends before the skipped messages do, the cursor stands behind its last whole message, with count + skipped
- * less those that it passed left, and no message is there. Where the two add up to more than 65,535 it stands at place
- * 20 with none left.
+ * datagram ends before the skipped messages do, the cursor stands behind the last whole one, at place 20 if there is
+ * none, with count + skipped less those that it passed left; no message is there. Where the two add up to more than
+ * 65,535 it stands at place 20 with none left.
  *   cursor:    EIDERWAGON_CURSOR_SIZE bytes, written
  *   refusals:  41 */
 uint32_t eiderwagon_receiver_walk(const uint8_t *datagram, size_t datagram_size, uint16_t count, uint16_t skipped,
@@ -547,8 +547,8 @@ uint32_t eiderwagon_client_step(uint8_t *state, size_t state_size, const uint8_t
  * or no), `delivered=` (messages), `old=`, `quiet=`, `asked=`, `refused=` (answers); or the one line
  * `settings=refused`, which is no refusal of these functions. */
 
-/* Starts the reading of a capture in pieces. Its receiver is that of a refused start, ended, its name ten spaces, its
- * numbers 1, until settings are read; bad settings leave it as it is.
+/* Starts the reading of a capture in pieces. Until settings are read its receiver is an ended one, its name ten spaces,
+ * its next number and its limit 1; bad settings leave it as it is.
  *   state:     EIDERWAGON_CAPTURE_SIZE bytes, written
  *   refusals:  41 */
 uint32_t eiderwagon_capture_start(uint8_t *state, size_t state_size);
