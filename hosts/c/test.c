@@ -275,7 +275,7 @@ static void log_in_and_out(void) {
     DONE(eiderwagon_soup_write_accepted(server + EIDERWAGON_SERVER_SESSION_AT, EIDERWAGON_SESSION_SIZE,
                                         WORD(SERVER_STEP_NUMBER), ROOM(&down), LEND(words)));
     down.size += WORD(WRITE_SIZE);
-    DONE(eiderwagon_soup_write_sequenced(TEXT("one"), ROOM(&down), LEND(words)));
+    DONE(eiderwagon_soup_write_sequenced(TEXT("offer"), ROOM(&down), LEND(words)));
     down.size += WORD(WRITE_SIZE);
     DONE(eiderwagon_soup_write_server_heartbeat(ROOM(&down), LEND(words)));
     down.size += WORD(WRITE_SIZE);
@@ -293,7 +293,7 @@ static void log_in_and_out(void) {
     pass(&down, WORD(CLIENT_STEP_SIZE));
     client_step(client, &down, words);
     CHECK(WORD(CLIENT_STEP_ANSWER) == EIDERWAGON_SESSION_SEQUENCED && WORD(CLIENT_STEP_NUMBER) == 1);
-    CHECK(same(down.bytes + WORD(CLIENT_STEP_OFFSET), WORD(CLIENT_STEP_LENGTH), "one"));
+    CHECK(same(down.bytes + WORD(CLIENT_STEP_OFFSET), WORD(CLIENT_STEP_LENGTH), "offer"));
     pass(&down, WORD(CLIENT_STEP_SIZE));
     client_step(client, &down, words);
     CHECK(WORD(CLIENT_STEP_ANSWER) == EIDERWAGON_SESSION_HEARTBEAT);
@@ -473,7 +473,8 @@ static void refuse_datagrams(void) {
 
     REFUSED(OUTPUT_SHORT, eiderwagon_mold_read(one.bytes, one.size, FEWER(MOLD_READ)));
     REFUSED(DATAGRAM_SHORT, eiderwagon_mold_read(one.bytes, 19, WORDS(MOLD_READ)));
-    REFUSED(DATAGRAM_LONG, eiderwagon_mold_read(LEND(zeros), WORDS(MOLD_READ)));
+    REFUSED(DATAGRAM_LONG, eiderwagon_mold_read(zeros, EIDERWAGON_LARGEST_DATAGRAM + 1, WORDS(MOLD_READ)));
+    REFUSED(NUMBER_ZERO, eiderwagon_mold_read(zeros, EIDERWAGON_LARGEST_DATAGRAM, WORDS(MOLD_READ)));
     REFUSED(NUMBER_ZERO, eiderwagon_mold_read(zeros, 20, WORDS(MOLD_READ)));
     REFUSED(BLOCK_PAST_END, eiderwagon_mold_read(one.bytes, one.size - 1, WORDS(MOLD_READ)));
     REFUSED(BYTES_AFTER_BLOCKS, eiderwagon_mold_read(one.bytes, one.size + 1, WORDS(MOLD_READ)));
@@ -649,7 +650,8 @@ static void refuse_at_a_server(void) {
             eiderwagon_server_step(STATE(EIDERWAGON_SERVER_SIZE - 1), TEXT(accounts), zeros, 2, WORDS(SERVER_STEP)));
     REFUSED(OUTPUT_SHORT,
             eiderwagon_server_step(STATE(EIDERWAGON_SERVER_SIZE), TEXT(accounts), zeros, 2, FEWER(SERVER_STEP)));
-    REFUSED(BAD_SETTING, eiderwagon_server_step(LEND(lent.state), zeros, 1025 * 16, zeros, 0, WORDS(SERVER_STEP)));
+    REFUSED(BAD_SETTING, eiderwagon_server_step(LEND(lent.state), zeros, 1025 * EIDERWAGON_ACCOUNT_SIZE, zeros, 0,
+                                                WORDS(SERVER_STEP)));
     REFUSED(LENGTH_ZERO, SERVER_STEP("\0\0"));
     REFUSED(PACKET_NOT_TAKEN, SERVER_STEP("\0\1U"));
     DONE(SERVER_STEP(LOGIN));
@@ -764,6 +766,75 @@ static void use_no_more_of_a_state_than_its_size(void) {
     CHECK(LENT(CLIENT_STEP_ANSWER) == EIDERWAGON_SESSION_ACCEPTED && LENT(CLIENT_STEP_NUMBER) == UINT64_MAX);
 }
 
+/* Each part of a state stands where the header says. */
+static void keep_parts_in_their_places(void) {
+    const Bytes capture = sample_capture();
+    memset(&lent, 0xA5, sizeof lent);
+
+    DONE(eiderwagon_receiver_start(LEND(name), 258, 772, LEND(lent.state)));
+    CHECK(memcmp(lent.state + EIDERWAGON_RECEIVER_SESSION_AT, name, sizeof name) == 0);
+    CHECK(number_in(lent.state, EIDERWAGON_RECEIVER_NEXT_AT, 8) == 258);
+    CHECK(number_in(lent.state, EIDERWAGON_RECEIVER_LIMIT_AT, 2) == 772);
+    CHECK(lent.state[EIDERWAGON_RECEIVER_ENDED_AT] == 0);
+
+    DONE(eiderwagon_server_start(LEND(name), 258, LEND(lent.state)));
+    CHECK(memcmp(lent.state + EIDERWAGON_SERVER_SESSION_AT, name, sizeof name) == 0);
+    CHECK(number_in(lent.state, EIDERWAGON_SERVER_LAST_AT, 8) == 258);
+    CHECK(lent.state[EIDERWAGON_SERVER_STATE_AT] == EIDERWAGON_SERVER_WAITING);
+    DONE(SERVER_STEP(LOGIN));
+    CHECK(lent.state[EIDERWAGON_SERVER_STATE_AT] == EIDERWAGON_SERVER_IN);
+
+    DONE(eiderwagon_client_start(TEXT(any_session), 0, LEND(lent.state)));
+    CHECK(number_in(lent.state, EIDERWAGON_CLIENT_NUMBER_AT, 8) == 0);
+    CHECK(lent.state[EIDERWAGON_CLIENT_STATE_AT] == EIDERWAGON_CLIENT_ASKED);
+    DONE(CLIENT_STEP(ACCEPTED));
+    CHECK(memcmp(lent.state + EIDERWAGON_CLIENT_SESSION_AT, name, sizeof name) == 0);
+    CHECK(number_in(lent.state, EIDERWAGON_CLIENT_NUMBER_AT, 8) == UINT64_MAX);
+    CHECK(lent.state[EIDERWAGON_CLIENT_STATE_AT] == EIDERWAGON_CLIENT_IN);
+
+    DONE(eiderwagon_capture_start(LEND(lent.state)));
+    DONE(eiderwagon_capture_feed(LEND(lent.state), capture.bytes, capture.size, WORDS(FEED)));
+    CHECK(number_in(lent.state, EIDERWAGON_CAPTURE_RECEIVER_AT + EIDERWAGON_RECEIVER_NEXT_AT, 8) == 6);
+    CHECK(lent.state[EIDERWAGON_CAPTURE_STAGE_AT] == EIDERWAGON_CAPTURE_RECORDS);
+    CHECK(number_in(lent.state, EIDERWAGON_CAPTURE_RECORDS_AT, 8) == 9);
+    CHECK(number_in(lent.state, EIDERWAGON_CAPTURE_DELIVERED_AT, 8) == 5);
+    CHECK(number_in(lent.state, EIDERWAGON_CAPTURE_OLD_AT, 8) == 1);
+    CHECK(number_in(lent.state, EIDERWAGON_CAPTURE_QUIET_AT, 8) == 1);
+    CHECK(number_in(lent.state, EIDERWAGON_CAPTURE_ASKED_AT, 8) == 2);
+    CHECK(number_in(lent.state, EIDERWAGON_CAPTURE_REFUSED_AT, 8) == 1);
+}
+
+/* Just as many bytes as the header says are enough. */
+static void take_sizes_as_they_are_said(void) {
+    static const char login[] = "clerk desk5     ";
+    memset(&lent, 0xA5, sizeof lent);
+    CHECK(sizeof login - 1 == EIDERWAGON_ACCOUNT_SIZE);
+    DONE(eiderwagon_soup_write_login((const uint8_t *)login, EIDERWAGON_USERNAME_SIZE,
+                                     (const uint8_t *)login + EIDERWAGON_USERNAME_SIZE, EIDERWAGON_PASSWORD_SIZE,
+                                     LEND(name), 1, LEND(lent.out), WORDS(WRITE)));
+    REFUSED(OUTPUT_SHORT,
+            eiderwagon_soup_write_login((const uint8_t *)login, EIDERWAGON_USERNAME_SIZE,
+                                        (const uint8_t *)login + EIDERWAGON_USERNAME_SIZE, EIDERWAGON_PASSWORD_SIZE - 1,
+                                        LEND(name), 1, LEND(lent.out), WORDS(WRITE)));
+    DONE(eiderwagon_soup_write_debug(zeros, 4096, OUT(EIDERWAGON_LARGEST_PACKET), WORDS(WRITE)));
+    CHECK(LENT(WRITE_SIZE) == EIDERWAGON_LARGEST_PACKET);
+
+    /* Of the table, bytes left over are no record. */
+    DONE(eiderwagon_server_start(LEND(name), 0, LEND(lent.state)));
+    DONE(eiderwagon_server_step(LEND(lent.state), zeros, 1025 * EIDERWAGON_ACCOUNT_SIZE - 1, zeros, 0,
+                                WORDS(SERVER_STEP)));
+    CHECK(LENT(SERVER_STEP_ANSWER) == EIDERWAGON_SESSION_NEED_MORE);
+
+    DONE(eiderwagon_soup_read(TEXT("\0\2JS"), EIDERWAGON_SOUP_FROM_SERVER, WORDS(SOUP_READ)));
+    CHECK(LENT(SOUP_READ_LETTER) == 'J' && LENT(SOUP_READ_SIZE) == 4 && LENT(SOUP_READ_REASON) == 'S');
+
+    /* The longest report: each count, and the next number, at 2^64 - 1. */
+    memset(lent.state, 0xFF, sizeof lent.state);
+    lent.state[EIDERWAGON_CAPTURE_STAGE_AT] = EIDERWAGON_CAPTURE_DONE;
+    DONE(eiderwagon_capture_write(LEND(lent.state), OUT(EIDERWAGON_LARGEST_REPORT), WORDS(WRITE)));
+    CHECK(LENT(WRITE_SIZE) <= EIDERWAGON_LARGEST_REPORT);
+}
+
 /* Bytes of zero are a state too: a closed session, a capture whose settings are refused, a cursor with no messages
  * left, and a receiver, not ended, of a name of ten zero bytes. */
 static void take_bytes_of_zero_as_states(void) {
@@ -818,7 +889,7 @@ static void walk_past_the_end(void) {
     CHECK(number_in(lent.cursor, EIDERWAGON_CURSOR_LEFT_AT, 2) == 0);
 }
 
-/* The receiver in lent.state is that of a refused start: ended, its name ten spaces, its numbers 1. */
+/* The receiver in lent.state is ended, its name ten spaces, its next number and its limit 1. */
 static void has_no_receiver(void) {
     const uint8_t *receiver = lent.state + EIDERWAGON_CAPTURE_RECEIVER_AT;
     CHECK(same(receiver + EIDERWAGON_RECEIVER_SESSION_AT, EIDERWAGON_SESSION_SIZE, any_session));
@@ -1124,6 +1195,8 @@ int main(void) {
 
     write_no_more_than_is_said();
     use_no_more_of_a_state_than_its_size();
+    keep_parts_in_their_places();
+    take_sizes_as_they_are_said();
     take_bytes_of_zero_as_states();
     leave_the_old_state_at_a_refused_start();
     walk_past_the_end();
