@@ -21,8 +21,7 @@ programs=target/c
 warnings=(-Wall -Wextra -Wconversion -Wpedantic -Werror -I ../include)
 mkdir -p "$programs"
 
-# the header by itself, and from C++, where an empty vector's pointer is NULL
-cc -std=c11 "${warnings[@]}" -x c -fsyntax-only ../include/eiderwagon.h
+# from C++, where an empty vector's pointer is NULL
 c++ -std=c++17 "${warnings[@]}" -x c++ - -x none "$library" -o "$programs/vector" <<'END'
 #include "eiderwagon.h"
 #include <vector>
