@@ -1,21 +1,45 @@
 #!/usr/bin/env bash
 # The hosts' tests, over target/staticlib/libeiderwagon.a, which tools/host_library.sh builds: the Rust wrapper with its
-# examples, the differential tests, and the C program, compiled with the header and with warnings as errors.
+# examples, the differential tests, the header as C and as C++, and the examples and the test in C, with warnings as
+# errors.
 set -euo pipefail
 cd "$(dirname "$0")"
 
-# Rust (1.80 or newer) and a C compiler are on the machine, or come from Debian's packages
-if ! command -v cargo >/dev/null || ! command -v cc >/dev/null; then
+# Rust (1.80 or newer) and compilers of C and C++ are on the machine, or come from Debian's packages
+if ! command -v cargo >/dev/null || ! command -v cc >/dev/null || ! command -v c++ >/dev/null; then
     apt-get update -q
     command -v cc >/dev/null || apt-get install -qy gcc libc6-dev
+    command -v c++ >/dev/null || apt-get install -qy g++
     # Debian 12's own cargo is older; its cargo-web is the newer one that its browsers are built with
     command -v cargo >/dev/null || apt-get install -qy cargo-web || apt-get install -qy cargo
 fi
 
 cargo test --release --offline --workspace -- --nocapture
 
-program=target/host
-warnings='-Wall -Wextra -Wconversion -Wpedantic -Werror'
-# shellcheck disable=SC2086
-cc -std=c11 $warnings -I ../include c/host.c ../target/staticlib/libeiderwagon.a -o "$program"
-"$program"
+library=../target/staticlib/libeiderwagon.a
+programs=target/c
+warnings=(-Wall -Wextra -Wconversion -Wpedantic -Werror -I ../include)
+mkdir -p "$programs"
+
+# from C++, where an empty vector's pointer is NULL
+c++ -std=c++17 "${warnings[@]}" -x c++ - -x none "$library" -o "$programs/vector" <<'END'
+#include "eiderwagon.h"
+#include <vector>
+int main() {
+    std::vector<uint8_t> none;
+    uint64_t words[EIDERWAGON_SCAN_WORDS];
+    uint32_t code = eiderwagon_soup_scan(none.data(), none.size(), EIDERWAGON_SOUP_FROM_CLIENT, words,
+                                         EIDERWAGON_SCAN_WORDS);
+    return EIDERWAGON_NUMBER(code) != EIDERWAGON_OK || words[EIDERWAGON_SCAN_SIZE] != 0;
+}
+END
+"$programs/vector"
+
+# the examples print what is stored beside them
+for program in feed login test; do
+    cc -std=c11 "${warnings[@]}" "c/$program.c" "$library" -o "$programs/$program"
+done
+for example in feed login; do
+    "$programs/$example" | diff "c/$example.txt" -
+done
+"$programs/test"

@@ -1,28 +1,35 @@
 /* Eiderwagon: MoldUDP64 and SoupBinTCP, at both ends, for hosts in C and in every language that calls C.
  *
- * Link with libeiderwagon.a, which `tools/host_library.sh` builds for x86-64 Linux. Nothing here allocates, blocks, reads a clock,
- * touches a socket or keeps anything between two calls: a state is bytes that you keep, and lend to each call.
+ * Link with libeiderwagon.a, which `tools/host_library.sh` builds for x86-64 Linux. Nothing here allocates, blocks,
+ * reads a clock, touches a socket or keeps anything between two calls: a state is bytes that you keep, and lend to each
+ * call. hosts/c has two examples, feed.c and login.c.
  *
  * What is lent
- *   A buffer is a pointer and, behind it, how many elements it has. No pointer is NULL, not even where it has none, and no buffer that
- *   is written overlaps another one of the same call. Any bytes, of any length, may be lent: nothing needs to be checked beforehand.
+ *   A buffer is a pointer and, behind it, how many elements it has. With no elements it may be any pointer, NULL too.
+ *   No buffer that is written overlaps another one of the same call. Any bytes, of any length, may be lent: nothing
+ *   needs to be checked beforehand.
  *
  * What comes back
- *   Each function returns 0, or the number of a refusal (EIDERWAGON_REFUSED_...). On 0, the answer stands in `words`, in the order that
- *   the function's comment gives; each word that it names is set, those that an answer has no value for to 0, and no further one is
- *   touched. A refusal changes no word, no byte of a lent output and no byte of a state.
+ *   Each function returns a code: 0, or a refusal. Compare EIDERWAGON_NUMBER(code) with EIDERWAGON_REFUSED_...: the
+ *   number is in the low 8 bits, and a later library may put a place above them. On 0, the answer stands in `words`,
+ *   at the positions that the function's enum names. Each of its words is set, those that an answer has no value for
+ *   to 0, and no further one is touched. Lend as many as its _WORDS says: a later library may have more. A refusal
+ *   changes no word, no byte of a lent output and no byte of a state.
  *
  * 41
- *   A buffer of a fixed size (a session, a username, a password, a state, a cursor, `words`) with fewer elements than that is refused
- *   with 41, before every other ground; of one with more, only the first are used. An output that is too short for what is to be written
- *   is refused with 41 after every other ground. So each list of refusals below begins with 41, and a writer's ends with it too.
+ *   A buffer of a fixed size (a session, a username, a password, a state, a cursor, `words`) with fewer elements than
+ *   that is refused with 41, before every other ground; of one with more, only the first are used. An output that is
+ *   too short for what is to be written is refused with 41 after every other ground. So each list of refusals below
+ *   begins with 41, and a writer's ends with it too.
  *
  * States and cursors
- *   Their layout is given below, and any bytes are one: a state can be stored, copied, compared and made by hand. Numbers are
- *   big-endian. What is written has one form: ended is 1, closed is 0, settings refused is 0; a success brings a state that was made by
- *   hand into that form, also where its meaning doesn't change. Start every state before its first use, and use none whose start was
- *   refused: it is left as it was. Bytes of zero are a closed session, a capture whose settings are refused, a cursor with no messages
- *   left; and a receiver that isn't ended, of a name of ten zero bytes, that asks for no messages.
+ *   Their layout is given below (_AT and _SIZE), and any bytes are one: a state can be stored, copied, compared and
+ *   made by hand. Numbers are big-endian. What is written has one form: ended is 1, closed is 0, settings refused is
+ *   0; a success brings a state that was made by hand into that form, also where its meaning doesn't change.
+ *   Start every state before its first use, and use none whose start was refused. A refused start changes no byte: so
+ *   clear a state, all bytes 0, before you start it anew. Otherwise the old one is still there where the start is
+ *   refused. Bytes of zero are a closed session, a capture whose settings are refused, a cursor with no messages left;
+ *   and a receiver that isn't ended, of a name of ten zero bytes, that asks for no messages.
  */
 #ifndef EIDERWAGON_H
 #define EIDERWAGON_H
@@ -34,7 +41,7 @@
 extern "C" {
 #endif
 
-/* ---- Refusals ------------------------------------------------------------------------------------------------------------------- */
+/* ---- Refusals ---------------------------------------------------------------------------------------------------- */
 
 enum {
     EIDERWAGON_OK = 0,
@@ -66,64 +73,214 @@ enum {
     EIDERWAGON_REFUSED_REQUEST_COUNT = 48       /* a request whose count is 0 or 65,535 */
 };
 
-/* ---- Sizes, in bytes ------------------------------------------------------------------------------------------------------------ */
+/* The number of a refusal in a returned code, or EIDERWAGON_OK. */
+#define EIDERWAGON_NUMBER(code) ((code) & 0xFFu)
+
+/* The ground of a returned code in words. Never NULL. */
+static inline const char *eiderwagon_ground(uint32_t code) {
+    switch (EIDERWAGON_NUMBER(code)) {
+    case EIDERWAGON_OK:
+        return "no refusal";
+    case EIDERWAGON_REFUSED_DATAGRAM_SHORT:
+        return "a Mold datagram under 20 bytes";
+    case EIDERWAGON_REFUSED_DATAGRAM_LONG:
+        return "a Mold datagram over 65,507 bytes, or a writer's total";
+    case EIDERWAGON_REFUSED_NUMBER_ZERO:
+        return "the number is 0";
+    case EIDERWAGON_REFUSED_NUMBERS_RUN_OUT:
+        return "for data, number + count is above 2^64 - 1";
+    case EIDERWAGON_REFUSED_BLOCK_PAST_END:
+        return "a block runs past the end";
+    case EIDERWAGON_REFUSED_BYTES_AFTER_BLOCKS:
+        return "bytes stand after the last block";
+    case EIDERWAGON_REFUSED_SESSION_DIFFERS:
+        return "the session differs";
+    case EIDERWAGON_REFUSED_SESSION_ENDED:
+        return "the session has already ended";
+    case EIDERWAGON_REFUSED_BAD_SETTING:
+        return "a bad starting setting, or an account table over 1,024 records";
+    case EIDERWAGON_REFUSED_END_BELOW_EXPECTED:
+        return "an end of session below the expected number";
+    case EIDERWAGON_REFUSED_LENGTH_ZERO:
+        return "a packet's length is 0";
+    case EIDERWAGON_REFUSED_PAYLOAD_LONG:
+        return "a payload above 4,096 bytes";
+    case EIDERWAGON_REFUSED_LETTER_NOT_SENT:
+        return "the letter is unknown, or of the wrong sender";
+    case EIDERWAGON_REFUSED_LENGTH_WRONG:
+        return "the length is wrong for the letter";
+    case EIDERWAGON_REFUSED_FIELD_BAD:
+        return "a bad session, number or reason field";
+    case EIDERWAGON_REFUSED_PACKET_NOT_TAKEN:
+        return "the packet isn't taken in this state";
+    case EIDERWAGON_REFUSED_STATE_CLOSED:
+        return "the state is ended or closed";
+    case EIDERWAGON_REFUSED_LOGIN_NOT_ASKED:
+        return "a login accepted doesn't match what was asked";
+    case EIDERWAGON_REFUSED_NUMBERS_USED_UP:
+        return "a sequenced message at 2^64 - 1";
+    case EIDERWAGON_REFUSED_OUTPUT_SHORT:
+        return "the lent output is shorter than needed";
+    case EIDERWAGON_REFUSED_TOO_MANY_MESSAGES:
+        return "over 65,534 messages";
+    case EIDERWAGON_REFUSED_LENGTHS_DIFFER:
+        return "the lengths don't add up to the data";
+    case EIDERWAGON_REFUSED_FIELD_NOT_WRITTEN:
+        return "a writer is given an unsound username or password, a bad session or reason, or A number 0";
+    case EIDERWAGON_REFUSED_REQUEST_SIZE:
+        return "a request that isn't 20 bytes";
+    case EIDERWAGON_REFUSED_REQUEST_COUNT:
+        return "a request whose count is 0 or 65,535";
+    default:
+        return "a refusal that this header doesn't know";
+    }
+}
+
+/* ---- Sizes, in bytes --------------------------------------------------------------------------------------------- */
 
 enum {
-    EIDERWAGON_SESSION_SIZE = 10,       /* the name of a session */
-    EIDERWAGON_USERNAME_SIZE = 6,
-    EIDERWAGON_PASSWORD_SIZE = 10,
-    EIDERWAGON_ACCOUNT_SIZE = 16,       /* an account record: username, then password, each padded with spaces on the right */
-    EIDERWAGON_HEADER_SIZE = 20,        /* the header of a datagram, and a whole request */
-    EIDERWAGON_LARGEST_DATAGRAM = 65507,
-    EIDERWAGON_LARGEST_PACKET = 4099,   /* a SoupBinTCP packet: 2 bytes of length, a letter, 4,096 of payload */
-    EIDERWAGON_CURSOR_SIZE = 10,        /* 0: place in the datagram (8), 8: messages left (2) */
-    EIDERWAGON_RECEIVER_SIZE = 21,      /* 0: session (10), 10: next number (8), 18: asking limit (2), 20: ended, if not 0 (1) */
-    EIDERWAGON_SERVER_SIZE = 19,        /* 0: session (10), 10: last number (8), 18: 1 waiting, 2 in, else closed (1) */
-    EIDERWAGON_CLIENT_SIZE = 19,        /* 0: session (10), 10: number (8), 18: 1 asked, 2 in, 3 ended, else closed (1) */
-    EIDERWAGON_CAPTURE_SIZE = 70,       /* 0: a receiver (21), 21: 1 settings come next, 2 records do, 3 done, else settings refused
-                                           (1), 22: records read (8; above 2^32 - 1 counts as that), 30: messages delivered, and
-                                           answers old, quiet, asked and refused (8 each; a count stops at 2^64 - 1) */
-    EIDERWAGON_LARGEST_REPORT = 256     /* a buffer that every capture's report fits */
+    EIDERWAGON_SESSION_SIZE = 10,        /* the name of a session */
+    EIDERWAGON_USERNAME_SIZE = 6,        /* a username */
+    EIDERWAGON_PASSWORD_SIZE = 10,       /* a password */
+    EIDERWAGON_ACCOUNT_SIZE = 16,        /* an account: username, then password, each padded with spaces on the right */
+    EIDERWAGON_MOLD_HEADER_SIZE = 20,    /* the header of a datagram, and a whole request */
+    EIDERWAGON_LARGEST_DATAGRAM = 65507, /* the largest datagram */
+    EIDERWAGON_LARGEST_PACKET = 4099,    /* the largest packet: 2 bytes of length, a letter, 4,096 of payload */
+    EIDERWAGON_LARGEST_REPORT = 256      /* a buffer that every capture's report fits */
 };
 
-/* ---- MoldUDP64 ------------------------------------------------------------------------------------------------------------------ */
+/* ---- States and cursors: where each part stands, and how many bytes it has --------------------------------------- */
 
-/* What a datagram is: words[0] of eiderwagon_mold_read. */
+/* A cursor over the messages of a datagram. */
 enum {
-    EIDERWAGON_DATA = 1,
-    EIDERWAGON_HEARTBEAT = 2,
-    EIDERWAGON_END_OF_SESSION = 3
+    EIDERWAGON_CURSOR_PLACE_AT = 0, /* place in the datagram (8) */
+    EIDERWAGON_CURSOR_LEFT_AT = 8,  /* messages left (2) */
+    EIDERWAGON_CURSOR_SIZE = 10     /* a cursor */
+};
+
+/* A receiver. */
+enum {
+    EIDERWAGON_RECEIVER_SESSION_AT = 0, /* session (10) */
+    EIDERWAGON_RECEIVER_NEXT_AT = 10,   /* number of the next message (8) */
+    EIDERWAGON_RECEIVER_LIMIT_AT = 18,  /* asking limit (2) */
+    EIDERWAGON_RECEIVER_ENDED_AT = 20,  /* ended, if not 0 (1) */
+    EIDERWAGON_RECEIVER_SIZE = 21       /* a receiver */
+};
+
+/* The server's end of a session. */
+enum {
+    EIDERWAGON_SERVER_SESSION_AT = 0, /* session (10) */
+    EIDERWAGON_SERVER_LAST_AT = 10,   /* number of the last message, 0 if there is none (8) */
+    EIDERWAGON_SERVER_STATE_AT = 18,  /* its state (1); every byte that isn't below is closed too */
+    EIDERWAGON_SERVER_SIZE = 19,      /* a server */
+    EIDERWAGON_SERVER_CLOSED = 0,     /* takes no packet any more */
+    EIDERWAGON_SERVER_WAITING = 1,    /* waits for a login */
+    EIDERWAGON_SERVER_IN = 2          /* the client is in */
+};
+
+/* The client's end of a session. */
+enum {
+    EIDERWAGON_CLIENT_SESSION_AT = 0, /* session (10) */
+    EIDERWAGON_CLIENT_NUMBER_AT = 10, /* number asked for, and then that of the next message (8) */
+    EIDERWAGON_CLIENT_STATE_AT = 18,  /* its state (1); every byte that isn't below is closed too */
+    EIDERWAGON_CLIENT_SIZE = 19,      /* a client */
+    EIDERWAGON_CLIENT_CLOSED = 0,     /* takes no packet any more */
+    EIDERWAGON_CLIENT_ASKED = 1,      /* has asked, and waits for the answer */
+    EIDERWAGON_CLIENT_IN = 2,         /* is in */
+    EIDERWAGON_CLIENT_ENDED = 3       /* the server has ended the session */
+};
+
+/* The reading of a capture. A count stops at 2^64 - 1. */
+enum {
+    EIDERWAGON_CAPTURE_RECEIVER_AT = 0,   /* a receiver (EIDERWAGON_RECEIVER_SIZE) */
+    EIDERWAGON_CAPTURE_STAGE_AT = 21,     /* its stage (1); every byte that isn't below is settings refused too */
+    EIDERWAGON_CAPTURE_RECORDS_AT = 22,   /* records read (8; above 2^32 - 1 counts as that) */
+    EIDERWAGON_CAPTURE_DELIVERED_AT = 30, /* messages delivered (8) */
+    EIDERWAGON_CAPTURE_OLD_AT = 38,       /* answers old (8) */
+    EIDERWAGON_CAPTURE_QUIET_AT = 46,     /* answers quiet (8) */
+    EIDERWAGON_CAPTURE_ASKED_AT = 54,     /* answers asked (8) */
+    EIDERWAGON_CAPTURE_REFUSED_AT = 62,   /* refusals (8) */
+    EIDERWAGON_CAPTURE_SIZE = 70,         /* a reading */
+    EIDERWAGON_CAPTURE_BAD = 0,           /* settings refused */
+    EIDERWAGON_CAPTURE_SETTINGS = 1,      /* settings come next */
+    EIDERWAGON_CAPTURE_RECORDS = 2,       /* records come next */
+    EIDERWAGON_CAPTURE_DONE = 3           /* done */
+};
+
+/* ---- Writers ----------------------------------------------------------------------------------------------------- */
+
+/* The words of every function that writes into `out`. */
+enum {
+    EIDERWAGON_WRITE_SIZE = 0, /* how many bytes of `out` were written */
+    EIDERWAGON_WRITE_WORDS = 1 /* how many words */
+};
+
+/* ---- MoldUDP64 --------------------------------------------------------------------------------------------------- */
+
+/* What a datagram is. */
+enum {
+    EIDERWAGON_MOLD_DATA = 1,          /* data */
+    EIDERWAGON_MOLD_HEARTBEAT = 2,     /* a heartbeat */
+    EIDERWAGON_MOLD_END_OF_SESSION = 3 /* an end of session */
+};
+
+/* The words of eiderwagon_mold_read. */
+enum {
+    EIDERWAGON_MOLD_READ_KIND = 0,   /* what the datagram is */
+    EIDERWAGON_MOLD_READ_NUMBER = 1, /* its sequence number */
+    EIDERWAGON_MOLD_READ_COUNT = 2,  /* how many messages it has, 0 unless it is data */
+    EIDERWAGON_MOLD_READ_WORDS = 3   /* how many words */
 };
 
 /* Reads a datagram. Its session is its first ten bytes.
- *   words (3): what it is; its sequence number; how many messages it has, 0 unless it is data
+ *   words:     EIDERWAGON_MOLD_READ_WORDS
  *   refusals:  41, 11, 12, 13, 14, 15, 16 */
 uint32_t eiderwagon_mold_read(const uint8_t *datagram, size_t datagram_size,
                               uint64_t *words, size_t words_size);
 
-/* Finds one message of a datagram by its place, from 0. In a datagram that would be refused there is none. To visit several, walk.
- *   words (3): 1 if it is there, else 0; the offset of its first byte in the datagram; its length, perhaps 0
+/* The words of eiderwagon_mold_locate. */
+enum {
+    EIDERWAGON_LOCATE_FOUND = 0,  /* 1 if the message is there, else 0 */
+    EIDERWAGON_LOCATE_OFFSET = 1, /* the offset of its first byte in the datagram */
+    EIDERWAGON_LOCATE_LENGTH = 2, /* its length, perhaps 0 */
+    EIDERWAGON_LOCATE_WORDS = 3   /* how many words */
+};
+
+/* Finds one message of a datagram by its place, from 0. In a datagram that would be refused there is none. To visit
+ * several, walk.
+ *   words:     EIDERWAGON_LOCATE_WORDS
  *   refusals:  41 */
 uint32_t eiderwagon_mold_locate(const uint8_t *datagram, size_t datagram_size, uint16_t place,
                                 uint64_t *words, size_t words_size);
 
-/* Sets a cursor to the first message of a datagram: place 20, and as many left as it has, none in one that would be refused.
+/* Sets a cursor to the first message of a datagram: place 20, and as many left as it has, none in one that would be
+ * refused.
  *   cursor:    EIDERWAGON_CURSOR_SIZE bytes, written
  *   refusals:  41 */
 uint32_t eiderwagon_mold_walk(const uint8_t *datagram, size_t datagram_size,
                               uint8_t *cursor, size_t cursor_size);
 
-/* Answers the message at a cursor, and moves the cursor to the next one. Where no message is left the cursor stays. Lend the datagram
- * that the cursor was set for; any other is safe too, and then the answer is about that one's bytes.
+/* The words of eiderwagon_mold_next. */
+enum {
+    EIDERWAGON_NEXT_FOUND = 0,  /* 1 if a message is there, else 0 */
+    EIDERWAGON_NEXT_OFFSET = 1, /* the offset of its first byte in the datagram */
+    EIDERWAGON_NEXT_LENGTH = 2, /* its length, perhaps 0 */
+    EIDERWAGON_NEXT_WORDS = 3   /* how many words */
+};
+
+/* Answers the message at a cursor, and moves the cursor to the next one. Where no message is left, or the one at the
+ * cursor doesn't end within the datagram, none is there and the cursor stays. Lend the datagram that the cursor was set
+ * for; any other is safe too, and then the answer is about that one's bytes.
  *   cursor:    EIDERWAGON_CURSOR_SIZE bytes, read and written
- *   words (3): 1 if a message is there, else 0; the offset of its first byte in the datagram; its length, perhaps 0
+ *   words:     EIDERWAGON_NEXT_WORDS
  *   refusals:  41 */
 uint32_t eiderwagon_mold_next(uint8_t *cursor, size_t cursor_size, const uint8_t *datagram, size_t datagram_size,
                               uint64_t *words, size_t words_size);
 
-/* Writes data: messages from their lengths and their joined bytes, the first with number `first`. No lengths make a heartbeat.
+/* Writes data: messages from their lengths and their joined bytes, the first with number `first`. No lengths make a
+ * heartbeat.
  *   session:   EIDERWAGON_SESSION_SIZE bytes
- *   words (1): how many bytes of `out` were written
+ *   words:     EIDERWAGON_WRITE_WORDS
  *   refusals:  41, 42, 44, 13, 14, 12, 41 */
 uint32_t eiderwagon_mold_write_data(const uint8_t *session, size_t session_size, uint64_t first,
                                     const uint16_t *lengths, size_t lengths_size,
@@ -132,102 +289,138 @@ uint32_t eiderwagon_mold_write_data(const uint8_t *session, size_t session_size,
 
 /* Writes a heartbeat: `next` is the number of the next message.
  *   session:   EIDERWAGON_SESSION_SIZE bytes
- *   words (1): how many bytes of `out` were written
+ *   words:     EIDERWAGON_WRITE_WORDS
  *   refusals:  41, 13, 41 */
 uint32_t eiderwagon_mold_write_heartbeat(const uint8_t *session, size_t session_size, uint64_t next,
                                          uint8_t *out, size_t out_size, uint64_t *words, size_t words_size);
 
 /* Writes an end of session: `next` is one past the number of the last message.
  *   session:   EIDERWAGON_SESSION_SIZE bytes
- *   words (1): how many bytes of `out` were written
+ *   words:     EIDERWAGON_WRITE_WORDS
  *   refusals:  41, 13, 41 */
 uint32_t eiderwagon_mold_write_end(const uint8_t *session, size_t session_size, uint64_t next,
                                    uint8_t *out, size_t out_size, uint64_t *words, size_t words_size);
 
+/* The words of eiderwagon_mold_read_request. */
+enum {
+    EIDERWAGON_READ_REQUEST_FIRST = 0, /* the first number wanted */
+    EIDERWAGON_READ_REQUEST_COUNT = 1, /* how many messages */
+    EIDERWAGON_READ_REQUEST_WORDS = 2  /* how many words */
+};
+
 /* Reads a request. Its session is its first ten bytes.
- *   words (2): the first number wanted; how many messages
+ *   words:     EIDERWAGON_READ_REQUEST_WORDS
  *   refusals:  41, 47, 13, 48 */
 uint32_t eiderwagon_mold_read_request(const uint8_t *request, size_t request_size,
                                       uint64_t *words, size_t words_size);
 
 /* Writes a request for `count` messages from number `first` on.
  *   session:   EIDERWAGON_SESSION_SIZE bytes
- *   words (1): how many bytes of `out` were written
+ *   words:     EIDERWAGON_WRITE_WORDS
  *   refusals:  41, 13, 48, 41 */
 uint32_t eiderwagon_mold_write_request(const uint8_t *session, size_t session_size, uint64_t first, uint16_t count,
                                        uint8_t *out, size_t out_size, uint64_t *words, size_t words_size);
 
-/* ---- The MoldUDP64 receiver ----------------------------------------------------------------------------------------------------- */
+/* ---- The MoldUDP64 receiver -------------------------------------------------------------------------------------- */
 
-/* What a receiver answers: words[0] of eiderwagon_receiver_take. */
-enum {
-    EIDERWAGON_DELIVER = 1, /* deliver messages of this datagram: eiderwagon_receiver_walk finds them */
-    EIDERWAGON_OLD = 2,     /* nothing new */
-    EIDERWAGON_QUIET = 3,   /* a heartbeat, and nothing is missing */
-    EIDERWAGON_ASK = 4,     /* messages are missing: send a request */
-    EIDERWAGON_ENDED = 5    /* the session is over, and nothing is missing */
-};
-
-/* Starts a receiver of a session at the number of the next message, 1 or more. It asks for at most `limit` messages at once, 1 to 65,534.
+/* Starts a receiver of a session at the number of the next message, 1 or more. It asks for at most `limit` messages at
+ * once, 1 to 65,534.
  *   session:   EIDERWAGON_SESSION_SIZE bytes
  *   state:     EIDERWAGON_RECEIVER_SIZE bytes, written
  *   refusals:  41, 19 */
 uint32_t eiderwagon_receiver_start(const uint8_t *session, size_t session_size, uint64_t next, uint16_t limit,
                                    uint8_t *state, size_t state_size);
 
-/* Takes one datagram as it came.
+/* What a receiver answers. */
+enum {
+    EIDERWAGON_RECEIVER_DELIVER = 1, /* deliver messages of this datagram: eiderwagon_receiver_walk finds them */
+    EIDERWAGON_RECEIVER_OLD = 2,     /* nothing new */
+    EIDERWAGON_RECEIVER_QUIET = 3,   /* a heartbeat, and nothing is missing */
+    EIDERWAGON_RECEIVER_ASK = 4,     /* messages are missing: send a request, if none is under way */
+    EIDERWAGON_RECEIVER_ENDED = 5    /* the session is over, and nothing is missing */
+};
+
+/* The words of eiderwagon_receiver_take. */
+enum {
+    EIDERWAGON_TAKE_ANSWER = 0,  /* what to do */
+    EIDERWAGON_TAKE_FIRST = 1,   /* number of the first message delivered, or to ask for */
+    EIDERWAGON_TAKE_COUNT = 2,   /* how many are delivered, or to ask for */
+    EIDERWAGON_TAKE_SKIPPED = 3, /* how many of the datagram's messages are skipped before those delivered */
+    EIDERWAGON_TAKE_WORDS = 4    /* how many words */
+};
+
+/* Takes one datagram as it came. Requests are paced by the host: a datagram ahead isn't kept, and each one asks again,
+ * so that one loss is answered by many EIDERWAGON_RECEIVER_ASK. Send the first, and another only where its first number
+ * differs or a while has passed.
  *   state:     EIDERWAGON_RECEIVER_SIZE bytes, read and written
- *   words (4): what to do, and for it
- *                EIDERWAGON_DELIVER  number of the first message delivered; how many; how many of the datagram's are skipped before it
- *                EIDERWAGON_ASK      first number to ask for; how many; 0
- *                the others          0; 0; 0
+ *   words:     EIDERWAGON_TAKE_WORDS
  *   refusals:  41, 11, 12, 13, 14, 15, 16, 17, 18, 20 */
 uint32_t eiderwagon_receiver_take(uint8_t *state, size_t state_size, const uint8_t *datagram, size_t datagram_size,
                                   uint64_t *words, size_t words_size);
 
-/* Sets a cursor to the first message that an EIDERWAGON_DELIVER answer delivers: `count` and `skipped` are words[2] and words[3] of the
- * answer to this datagram. eiderwagon_mold_next then answers exactly the delivered messages, in order. Other numbers are safe too: the walk
- * ends with the datagram, and where the two add up to more than 65,535 the cursor stands at place 20 with none left.
+/* Sets a cursor to the first message that an EIDERWAGON_RECEIVER_DELIVER answer delivers: `count` and `skipped` are
+ * EIDERWAGON_TAKE_COUNT and EIDERWAGON_TAKE_SKIPPED of the answer to this datagram. eiderwagon_mold_next then answers
+ * exactly the delivered messages, in order. Other numbers are safe too: the walk ends with the datagram. Where the
+ * datagram ends before the skipped messages do, the cursor stands behind the last whole one, at place 20 if there is
+ * none, with count + skipped less those that it passed left; no message is there. Where the two add up to more than
+ * 65,535 it stands at place 20 with none left.
  *   cursor:    EIDERWAGON_CURSOR_SIZE bytes, written
  *   refusals:  41 */
 uint32_t eiderwagon_receiver_walk(const uint8_t *datagram, size_t datagram_size, uint16_t count, uint16_t skipped,
                                   uint8_t *cursor, size_t cursor_size);
 
-/* ---- SoupBinTCP packets --------------------------------------------------------------------------------------------------------- */
+/* ---- SoupBinTCP packets ------------------------------------------------------------------------------------------ */
 
-/* A session is spaces, then letters or digits; all spaces only in 'L' and at eiderwagon_client_start. A username or a password is sound when
- * it is one or more letters or digits, and then only spaces; never zero bytes. */
+/* A session is spaces, then letters or digits; all spaces only in 'L' and at eiderwagon_client_start. A username or a
+ * password is sound when it is one or more letters or digits, and then only spaces; never zero bytes. */
 
 /* Who sends a stream: 0 is the server, every other number the client. */
 enum {
-    EIDERWAGON_FROM_SERVER = 0,
-    EIDERWAGON_FROM_CLIENT = 1
+    EIDERWAGON_SOUP_FROM_SERVER = 0, /* the server sends it */
+    EIDERWAGON_SOUP_FROM_CLIENT = 1  /* the client sends it */
 };
 
-/* Reads the packet at the front of a stream. Its payload is what stands from byte 3 up to its size: of 'A' the session (10) and the
- * number (20), of 'L' the username (6), the password (10), the session (10) and the number (20), of 'J' the reason (1).
- *   words (3): its letter ('+' 'A' 'J' 'S' 'H' 'Z' 'L' 'U' 'R' 'O'), or 0 where more bytes are needed; its size in bytes; the number
- *              of 'A' and 'L', the reason of 'J'
- *   refusals:  41, 21, 22, 23, 24, 25. More is needed before 21 with under 2 bytes, before 23 with under 3, and before 25 until the
- *              packet is whole */
+/* The words of eiderwagon_soup_read. */
+enum {
+    EIDERWAGON_SOUP_READ_LETTER = 0, /* its letter ('+' 'A' 'J' 'S' 'H' 'Z' 'L' 'U' 'R' 'O'), or 0: more is needed */
+    EIDERWAGON_SOUP_READ_SIZE = 1,   /* its size in bytes */
+    EIDERWAGON_SOUP_READ_NUMBER = 2, /* the number of 'A' and 'L' */
+    EIDERWAGON_SOUP_READ_REASON = 2, /* the reason of 'J' */
+    EIDERWAGON_SOUP_READ_WORDS = 3   /* how many words */
+};
+
+/* Reads the packet at the front of a stream. Its payload is what stands from byte 3 up to its size: of 'A' the session
+ * (10) and the number (20), of 'L' the username (6), the password (10), the session (10) and the number (20), of 'J'
+ * the reason (1).
+ *   words:     EIDERWAGON_SOUP_READ_WORDS
+ *   refusals:  41, 21, 22, 23, 24, 25. More is needed before 21 with under 2 bytes, before 23 with under 3, and before
+ *              25 until the packet is whole */
 uint32_t eiderwagon_soup_read(const uint8_t *stream, size_t stream_size, uint8_t sender,
                               uint64_t *words, size_t words_size);
 
+/* The words of eiderwagon_soup_scan. */
+enum {
+    EIDERWAGON_SCAN_COUNT = 0,   /* how many packets */
+    EIDERWAGON_SCAN_SIZE = 1,    /* how many bytes they take */
+    EIDERWAGON_SCAN_REFUSAL = 2, /* the number of the refusal of the packet behind them, or 0: more is needed */
+    EIDERWAGON_SCAN_WORDS = 3    /* how many words */
+};
+
 /* Passes all good packets at the front of a stream, up to the first one that is refused or not whole.
- *   words (3): how many packets; how many bytes they take; the number of the refusal of the packet behind them, or 0 where more bytes
- *              are needed
+ *   words:     EIDERWAGON_SCAN_WORDS
  *   refusals:  41 */
 uint32_t eiderwagon_soup_scan(const uint8_t *stream, size_t stream_size, uint8_t sender,
                               uint64_t *words, size_t words_size);
 
-/* The writers. Each has words (1): how many bytes of `out` were written. */
+/* The writers. Each has EIDERWAGON_WRITE_WORDS. */
 
 /* Debug, '+', of either end.
  *   refusals:  41, 22, 41 */
 uint32_t eiderwagon_soup_write_debug(const uint8_t *payload, size_t payload_size,
                                      uint8_t *out, size_t out_size, uint64_t *words, size_t words_size);
 
-/* Login accepted, 'A', of the server: the session (EIDERWAGON_SESSION_SIZE bytes) and the number of the next message, 1 or more.
+/* Login accepted, 'A', of the server: the session (EIDERWAGON_SESSION_SIZE bytes) and the number of the next message, 1
+ * or more.
  *   refusals:  41, 46, 41 */
 uint32_t eiderwagon_soup_write_accepted(const uint8_t *session, size_t session_size, uint64_t number,
                                         uint8_t *out, size_t out_size, uint64_t *words, size_t words_size);
@@ -250,9 +443,9 @@ uint32_t eiderwagon_soup_write_server_heartbeat(uint8_t *out, size_t out_size, u
  *   refusals:  41, 41 */
 uint32_t eiderwagon_soup_write_end(uint8_t *out, size_t out_size, uint64_t *words, size_t words_size);
 
-/* Login request, 'L', of the client: username (EIDERWAGON_USERNAME_SIZE bytes) and password (EIDERWAGON_PASSWORD_SIZE), padded with
- * spaces on the right; session (EIDERWAGON_SESSION_SIZE), padded with spaces on the left, all spaces for any; the number of the next
- * message wanted, 0 for the most recent one.
+/* Login request, 'L', of the client: username (EIDERWAGON_USERNAME_SIZE bytes) and password (EIDERWAGON_PASSWORD_SIZE),
+ * padded with spaces on the right; session (EIDERWAGON_SESSION_SIZE), padded with spaces on the left, all spaces for
+ * any; the number of the next message wanted, 0 for the most recent one.
  *   refusals:  41, 46, 41 */
 uint32_t eiderwagon_soup_write_login(const uint8_t *username, size_t username_size,
                                      const uint8_t *password, size_t password_size,
@@ -272,100 +465,130 @@ uint32_t eiderwagon_soup_write_client_heartbeat(uint8_t *out, size_t out_size, u
  *   refusals:  41, 41 */
 uint32_t eiderwagon_soup_write_logout(uint8_t *out, size_t out_size, uint64_t *words, size_t words_size);
 
-/* ---- SoupBinTCP sessions -------------------------------------------------------------------------------------------------------- */
+/* ---- SoupBinTCP sessions ----------------------------------------------------------------------------------------- */
 
-/* What a session answers to the front of a stream: words[0] of a step. */
+/* What a session answers to the front of a stream. */
 enum {
-    EIDERWAGON_NEED_MORE = 0,      /* no whole packet yet: read on */
-    EIDERWAGON_ACCEPTED = 1,       /* a login is accepted: the server writes 'A' with its state's session and this number */
-    EIDERWAGON_REJECTED = 2,       /* a login is rejected: the server writes 'J' with this reason; the session is closed */
-    EIDERWAGON_SEQUENCED = 3,      /* a message for the client's program */
-    EIDERWAGON_UNSEQUENCED = 4,    /* a message for the server's program */
-    EIDERWAGON_PEER_HEARTBEAT = 5, /* the other end is alive */
-    EIDERWAGON_DEBUG = 6,          /* a debug packet, to be ignored */
-    EIDERWAGON_LOGGED_OUT = 7,     /* the client logs out; the session is closed */
-    EIDERWAGON_SESSION_OVER = 8    /* the server ends the session */
+    EIDERWAGON_SESSION_NEED_MORE = 0,   /* no whole packet yet: read on */
+    EIDERWAGON_SESSION_ACCEPTED = 1,    /* a login is accepted: the server writes 'A', its session and this number */
+    EIDERWAGON_SESSION_REJECTED = 2,    /* a login is rejected: the server writes 'J' and this reason; it is closed */
+    EIDERWAGON_SESSION_SEQUENCED = 3,   /* a message for the client's program */
+    EIDERWAGON_SESSION_UNSEQUENCED = 4, /* a message for the server's program */
+    EIDERWAGON_SESSION_HEARTBEAT = 5,   /* the other end is alive */
+    EIDERWAGON_SESSION_DEBUG = 6,       /* a debug packet, to be ignored */
+    EIDERWAGON_SESSION_LOGGED_OUT = 7,  /* the client logs out; the session is closed */
+    EIDERWAGON_SESSION_OVER = 8         /* the server ends the session */
 };
 
-/* Starts a server's end of one connection: a session as in 'A', and the highest message number, 0 if there is none, at most 2^64 - 2.
+/* Starts a server's end of one connection: a session as in 'A', and the highest message number, 0 if there is none, at
+ * most 2^64 - 2.
  *   session:   EIDERWAGON_SESSION_SIZE bytes
  *   state:     EIDERWAGON_SERVER_SIZE bytes, written
  *   refusals:  41, 19 */
 uint32_t eiderwagon_server_start(const uint8_t *session, size_t session_size, uint64_t last,
                                  uint8_t *state, size_t state_size);
 
-/* Takes the packet at the front of a client's stream. Go on with the stream from words[1] on. A packet that is refused stays in front
- * and is refused again: close the connection, unless it is 19, which is the table's. The last number is looked at for a login alone,
- * and no step changes it: while no login has come, lay the newer one into the state as messages are added.
+/* The words of eiderwagon_server_step. */
+enum {
+    EIDERWAGON_SERVER_STEP_ANSWER = 0, /* what it answers */
+    EIDERWAGON_SERVER_STEP_SIZE = 1,   /* how many bytes it took, 0 where more are needed */
+    EIDERWAGON_SERVER_STEP_NUMBER = 2, /* of accepted: the number to write in 'A' */
+    EIDERWAGON_SERVER_STEP_REASON = 2, /* of rejected, to write in 'J': 'A' the account, 'S' the session or number */
+    EIDERWAGON_SERVER_STEP_OFFSET = 2, /* of unsequenced: the offset of the message in the stream */
+    EIDERWAGON_SERVER_STEP_LENGTH = 3, /* of unsequenced: its length */
+    EIDERWAGON_SERVER_STEP_WORDS = 5   /* how many words; the last one is 0 */
+};
+
+/* Takes the packet at the front of a client's stream. Go on with the stream from EIDERWAGON_SERVER_STEP_SIZE on. A
+ * packet that is refused stays in front and is refused again: close the connection, unless it is 19, which is the
+ * table's. The last number is looked at for a login alone, and no step changes it: while no login has come, lay the
+ * newer one into the state (EIDERWAGON_SERVER_LAST_AT) as messages are added.
  *   state:     EIDERWAGON_SERVER_SIZE bytes, read and written
- *   accounts:  EIDERWAGON_ACCOUNT_SIZE bytes a record, at most 1,024 records; bytes left over are no record. A record whose username or
- *              password isn't sound is skipped, one padded with zero bytes too. The first other record with the username decides; letters
- *              compare without case
- *   words (5): what it answers; how many bytes it took, 0 where more are needed; and for
- *                EIDERWAGON_ACCEPTED     the number to write in 'A'; 0; 0
- *                EIDERWAGON_REJECTED     the reason to write in 'J'; 0; 0: 'A' for the account, 'S' for the session or the number
- *                EIDERWAGON_UNSEQUENCED  the offset of the message in the stream; its length; 0
- *                the others              0; 0; 0
+ *   accounts:  EIDERWAGON_ACCOUNT_SIZE bytes a record, at most 1,024 records; bytes left over are no record. A record
+ *              whose username or password isn't sound is skipped, one padded with zero bytes too. The first other
+ *              record with the username decides; letters compare without case
+ *   words:     EIDERWAGON_SERVER_STEP_WORDS
  *   refusals:  41, 19, 21, 22, 23, 24, 25, 32, 31. 19 comes even before more is needed, and that before 32 */
 uint32_t eiderwagon_server_step(uint8_t *state, size_t state_size, const uint8_t *accounts, size_t accounts_size,
                                 const uint8_t *stream, size_t stream_size, uint64_t *words, size_t words_size);
 
 /* Starts a client's end of one connection, with the session and the number that its login request asks for.
  *   session:   EIDERWAGON_SESSION_SIZE bytes, all spaces for any
- *   state:     EIDERWAGON_CLIENT_SIZE bytes, written; from an accepted login on, its session is the server's and its number the next
- *              message's
+ *   state:     EIDERWAGON_CLIENT_SIZE bytes, written; from an accepted login on, its session is the server's and its
+ *              number the next message's
  *   refusals:  41, 19 */
 uint32_t eiderwagon_client_start(const uint8_t *session, size_t session_size, uint64_t number,
                                  uint8_t *state, size_t state_size);
 
-/* Takes the packet at the front of a server's stream. Go on with the stream from words[1] on. A packet that is refused stays in front
- * and is refused again: close the connection.
+/* The words of eiderwagon_client_step. */
+enum {
+    EIDERWAGON_CLIENT_STEP_ANSWER = 0, /* what it answers */
+    EIDERWAGON_CLIENT_STEP_SIZE = 1,   /* how many bytes it took, 0 where more are needed */
+    EIDERWAGON_CLIENT_STEP_NUMBER = 2, /* of accepted: the number of the next message; of sequenced: of this one */
+    EIDERWAGON_CLIENT_STEP_REASON = 2, /* of rejected */
+    EIDERWAGON_CLIENT_STEP_OFFSET = 3, /* of sequenced: the offset of the message in the stream */
+    EIDERWAGON_CLIENT_STEP_LENGTH = 4, /* of sequenced: its length */
+    EIDERWAGON_CLIENT_STEP_WORDS = 5   /* how many words */
+};
+
+/* Takes the packet at the front of a server's stream. Go on with the stream from EIDERWAGON_CLIENT_STEP_SIZE on. A
+ * packet that is refused stays in front and is refused again: close the connection.
  *   state:     EIDERWAGON_CLIENT_SIZE bytes, read and written
- *   words (5): what it answers; how many bytes it took, 0 where more are needed; and for
- *                EIDERWAGON_ACCEPTED   the number of the next message; 0; 0
- *                EIDERWAGON_REJECTED   the reason; 0; 0
- *                EIDERWAGON_SEQUENCED  the number of the message; its offset in the stream; its length
- *                the others            0; 0; 0
+ *   words:     EIDERWAGON_CLIENT_STEP_WORDS
  *   refusals:  41, 21, 22, 23, 24, 25, 32, 31, 33, 34. More is needed before 32 */
 uint32_t eiderwagon_client_step(uint8_t *state, size_t state_size, const uint8_t *stream, size_t stream_size,
                                 uint64_t *words, size_t words_size);
 
-/* ---- Captures ------------------------------------------------------------------------------------------------------------------- */
+/* ---- Captures ---------------------------------------------------------------------------------------------------- */
 
-/* A capture is three lines, `session=` with ten bytes from 0x20 to 0x7E, `next=` with 1 to 2^64 - 1 and `limit=` with 1 to 65534, each ended
- * by one line feed, numbers without leading zeros; and then records, each a length of 2 bytes, big-endian, and so many bytes: one
- * datagram as it came. Its report is eight lines: `session=`, `next=`, `ended=` (yes or no), `delivered=` (messages), `old=`, `quiet=`,
- * `asked=`, `refused=` (answers); or the one line `settings=refused`, which is no refusal of these functions. */
+/* A capture is three lines, `session=` with ten bytes from 0x20 to 0x7E, `next=` with 1 to 2^64 - 1 and `limit=` with 1
+ * to 65534, each ended by one line feed, numbers without leading zeros; and then records, each a length of 2 bytes,
+ * big-endian, and so many bytes: one datagram as it came. Its report is eight lines: `session=`, `next=`, `ended=` (yes
+ * or no), `delivered=` (messages), `old=`, `quiet=`, `asked=`, `refused=` (answers); or the one line
+ * `settings=refused`, which is no refusal of these functions. */
 
-/* Starts the reading of a capture in pieces.
+/* Starts the reading of a capture in pieces. Until settings are read its receiver is an ended one, its name ten spaces,
+ * its next number and its limit 1; bad settings leave it as it is.
  *   state:     EIDERWAGON_CAPTURE_SIZE bytes, written
  *   refusals:  41 */
 uint32_t eiderwagon_capture_start(uint8_t *state, size_t state_size);
 
-/* Feeds some bytes, after which more may come. Settings that are read start the report anew. Keep the bytes that were not used, at most
- * 65,536, and feed them again in front of the next piece. Once 2^32 - 1 records were read no byte is used any more, though words[1]
- * stays 0: where more than 65,536 bytes are left unused, stop reading and drop them.
+/* The words of eiderwagon_capture_feed. */
+enum {
+    EIDERWAGON_FEED_USED = 0, /* how many bytes were used */
+    EIDERWAGON_FEED_OVER = 1, /* 1 once the reading is over, so that nothing that follows changes the report, else 0 */
+    EIDERWAGON_FEED_WORDS = 2 /* how many words */
+};
+
+/* Feeds some bytes, after which more may come. Settings that are read start the report anew. Keep the bytes that were
+ * not used, at most 65,536, and feed them again in front of the next piece. While the settings are due, fewer than 57
+ * bytes are too few to tell: none are used then. Once the reading is over, by bad settings or by
+ * eiderwagon_capture_finish, a feed uses all of its bytes, and so does the one that meets bad settings. But once
+ * 2^32 - 1 records were read no byte is used any more, though EIDERWAGON_FEED_OVER stays 0: where more than 65,536
+ * bytes are left unused, stop reading and drop them.
  *   state:     EIDERWAGON_CAPTURE_SIZE bytes, read and written
- *   words (2): how many bytes were used; 1 once the reading is over, so that nothing that follows changes the report, else 0. While
- *              the settings are due, fewer than 57 bytes are too few to tell: none are used then
+ *   words:     EIDERWAGON_FEED_WORDS
  *   refusals:  41 */
 uint32_t eiderwagon_capture_feed(uint8_t *state, size_t state_size, const uint8_t *bytes, size_t bytes_size,
                                  uint64_t *words, size_t words_size);
 
-/* Feeds the last bytes: those that were kept, with what came behind them. A record that is cut short counts as one refusal.
+/* Feeds the last bytes: those that were kept, with what came behind them. A record that is cut short counts as one
+ * refusal.
  *   state:     EIDERWAGON_CAPTURE_SIZE bytes, read and written
  *   refusals:  41 */
 uint32_t eiderwagon_capture_finish(uint8_t *state, size_t state_size, const uint8_t *bytes, size_t bytes_size);
 
 /* Writes what was read so far as a report, or `settings=refused` while no settings were read.
  *   state:     EIDERWAGON_CAPTURE_SIZE bytes, read
- *   words (1): how many bytes of `out` were written; EIDERWAGON_LARGEST_REPORT are enough
+ *   out:       EIDERWAGON_LARGEST_REPORT bytes are enough
+ *   words:     EIDERWAGON_WRITE_WORDS
  *   refusals:  41, 41 */
 uint32_t eiderwagon_capture_write(const uint8_t *state, size_t state_size,
                                   uint8_t *out, size_t out_size, uint64_t *words, size_t words_size);
 
 /* Writes the report of a whole capture.
- *   words (1): how many bytes of `out` were written; EIDERWAGON_LARGEST_REPORT are enough
+ *   out:       EIDERWAGON_LARGEST_REPORT bytes are enough
+ *   words:     EIDERWAGON_WRITE_WORDS
  *   refusals:  41, 41 */
 uint32_t eiderwagon_capture_report(const uint8_t *capture, size_t capture_size,
                                    uint8_t *out, size_t out_size, uint64_t *words, size_t words_size);

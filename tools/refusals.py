@@ -1,7 +1,7 @@
 #!/usr/bin/env python3
 """One table of the refusals: crates/wire/src/refusal.rt has each with its number, its name and, in words, its ground.
 
-    tools/refusals.py            writes its names and words into the four places that repeat them
+    tools/refusals.py            writes its names and words into the five places that repeat them
     tools/refusals.py --check    compares, and exits 1 on a difference
 
 Where OUTPUT_SHORT stands in the table, the definitions say outputShort, the header EIDERWAGON_REFUSED_OUTPUT_SHORT, the
@@ -49,21 +49,34 @@ def wide(row):
 
 
 # each place: its file, how a row is found there (its number or its name in a group), and how it is to read
-PLACES = {
-    "crates/wire/specs/Refusals.antt": (
+PLACES = (
+    (
+        "crates/wire/specs/Refusals.antt",
         r"^-- .*\nabbrev pub \w+ : ℕ\n\w+ = (?P<number>\d+)$",
         lambda row: f"-- {small(row[2])}\nabbrev pub {camel(row[1])} : ℕ\n{camel(row[1])} = {row[0]}",
     ),
-    "include/eiderwagon.h": (
+    (
+        "include/eiderwagon.h",
         r"^    EIDERWAGON_REFUSED_\w+ = (?P<number>\d+),? */\* [^*]*? \*/$",
         lambda row: f"    {f'EIDERWAGON_REFUSED_{row[1]} = {row[0]}' + row[3]:<44}/* {wrapped(small(row[2]))} */",
     ),
-    "hosts/eiderwagon/src/raw.rs": (
+    # the rows of eiderwagon_ground
+    (
+        "include/eiderwagon.h",
+        r"^    case EIDERWAGON_REFUSED_(?P<name>\w+):\n        return \"[^\"]*\";$",
+        lambda row: f'    case EIDERWAGON_REFUSED_{row[1]}:\n        return "{small(row[2])}";',
+    ),
+    (
+        "hosts/eiderwagon/src/raw.rs",
         r"^    /// .*\n    REFUSED_\w+: u32 = (?P<number>\d+);$",
         lambda row: f"    /// {row[2]}.\n    REFUSED_{row[1]}: u32 = {row[0]};",
     ),
-    "hosts/eiderwagon/src/refusal.rs": (r"^(?:    ///.*\n)*    \w+ = REFUSED_(?P<name>\w+),\s*\"[^\"]*\";$", wide),
-}
+    (
+        "hosts/eiderwagon/src/refusal.rs",
+        r"^(?:    ///.*\n)*    \w+ = REFUSED_(?P<name>\w+),\s*\"[^\"]*\";$",
+        wide,
+    ),
+)
 
 
 def main():
@@ -73,7 +86,7 @@ def main():
     # C takes no comma behind the last one
     rows = [(*row, "," if row is not rows[-1] else "") for row in rows]
     by_number, by_name = {str(row[0]): row for row in rows}, {row[1]: row for row in rows}
-    for file, (pattern, written) in PLACES.items():
+    for file, pattern, written in PLACES:
         path = ROOT / file
         text, seen = path.read_text(), []
 

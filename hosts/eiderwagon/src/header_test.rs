@@ -1,4 +1,5 @@
-//! Holds `raw` to the header: the same constants, and the same functions with the same parameters.
+//! Holds `raw` to the header: the same constants, and the same functions with the same parameters;
+//! and the refusals' grounds in words to those of its `eiderwagon_ground`.
 
 use crate::{raw, Refusal};
 use std::fmt::Debug;
@@ -89,4 +90,31 @@ fn the_refusals_are_the_headers() {
     let theirs = constants(&header());
     let theirs = theirs.iter().filter(|(name, _)| name.starts_with("REFUSED_"));
     assert_same(&ours, &theirs.map(|&(_, number)| number).collect::<Vec<_>>());
+}
+
+#[test]
+fn the_grounds_are_the_headers() {
+    let header = header();
+    let case = |text: &str| {
+        let (name, rest) = text.split_once(':')?;
+        let ground = rest.trim().strip_prefix("return \"")?.split_once('"')?.0;
+        Some((name.trim().to_string(), ground.to_string()))
+    };
+    let theirs: Vec<_> =
+        header.split("case EIDERWAGON_REFUSED_").skip(1).filter_map(case).collect();
+    let name = |refusal: &Refusal| {
+        let named = raw::CONSTANTS.iter().find(|(name, number)| {
+            name.starts_with("REFUSED_") && *number == u64::from(refusal.number())
+        });
+        named.expect("a refusal has a name").0.trim_start_matches("REFUSED_").to_string()
+    };
+    let ours: Vec<_> = Refusal::ALL.iter().map(|r| (name(r), r.ground().to_string())).collect();
+    assert_same(&ours, &theirs);
+}
+
+#[test]
+fn a_codes_number_is_its_low_8_bits() {
+    assert!(header().contains("#define EIDERWAGON_NUMBER(code) ((code) & 0xFFu)"));
+    assert_eq!(raw::number(raw::OK), raw::OK);
+    assert_eq!(raw::number(raw::REFUSED_REQUEST_COUNT | 0xFFFF_FF00), raw::REFUSED_REQUEST_COUNT);
 }

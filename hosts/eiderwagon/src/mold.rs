@@ -54,9 +54,9 @@ impl<'a> Datagram<'a> {
     pub fn read(bytes: &'a [u8]) -> Result<Self, Refusal> {
         let [kind, number, messages] = words(|words| raw::mold_read(bytes, words))?;
         let kind = match kind {
-            raw::DATA => Kind::Data { count: count(messages) },
-            raw::HEARTBEAT => Kind::Heartbeat,
-            raw::END_OF_SESSION => Kind::EndOfSession,
+            raw::MOLD_DATA => Kind::Data { count: count(messages) },
+            raw::MOLD_HEARTBEAT => Kind::Heartbeat,
+            raw::MOLD_END_OF_SESSION => Kind::EndOfSession,
             other => unknown(other),
         };
         Ok(Datagram { bytes, number, kind })

@@ -1,17 +1,19 @@
 //! The exported functions as they are, on slices: the only module with `unsafe` in it.
 //!
 //! Each function is the one of the same name in `include/eiderwagon.h`, where its contract stands:
-//! what is lent, which words it answers, which refusals it has. It returns 0 or the number of a
-//! refusal. A pointer with its size is one slice here, and the constants lose their prefix. The
-//! modules beside this one are the same functions with types.
+//! what is lent, which words it answers, which refusals it has. It returns 0 or the code of a
+//! refusal, whose number [`number`] gives. A pointer with its size is one slice here, and the
+//! constants lose their prefix. The modules beside this one are the same functions with types.
 //!
 //! ```
 //! use eiderwagon::raw;
 //!
-//! let mut words = [0; 3];
+//! let mut words = [0; raw::MOLD_READ_WORDS];
 //! assert_eq!(raw::mold_read(b"READROOM01\0\0\0\0\0\0\0\x06\0\0", &mut words), raw::OK);
-//! assert_eq!(words, [raw::HEARTBEAT, 6, 0]);
-//! assert_eq!(raw::mold_read(b"READROOM01", &mut words), raw::REFUSED_DATAGRAM_SHORT);
+//! assert_eq!(words[raw::MOLD_READ_KIND], raw::MOLD_HEARTBEAT);
+//! assert_eq!(words[raw::MOLD_READ_NUMBER], 6);
+//! let code = raw::mold_read(b"READROOM01", &mut words);
+//! assert_eq!(raw::number(code), raw::REFUSED_DATAGRAM_SHORT);
 //! ```
 
 /// Makes the constants, and for `header_test.rs` their list.
@@ -55,9 +57,9 @@ macro_rules! exported {
                 fn exported($($c)*) -> u32;
             }
             // SAFETY: the header declares this function with these parameters, as a test checks.
-            // It takes any bytes of any length, keeps no pointer, and asks two things of its
-            // caller, which slices have: no pointer is null, not even that of an empty slice, and
-            // what it writes overlaps nothing else, being borrowed alone.
+            // It takes any bytes of any length, keeps no pointer, and asks one thing of its
+            // caller, which slices have: what it writes overlaps nothing else, being borrowed
+            // alone.
             unsafe { exported($($lent)*) }
         }
     };
@@ -119,73 +121,257 @@ constants! {
 
     /// The name of a session, in bytes.
     SESSION_SIZE: usize = 10;
-    /// A username field, in bytes.
+    /// A username, in bytes.
     USERNAME_SIZE: usize = 6;
-    /// A password field, in bytes.
+    /// A password, in bytes.
     PASSWORD_SIZE: usize = 10;
-    /// An account record, in bytes: username, then password.
+    /// An account, in bytes: username, then password.
     ACCOUNT_SIZE: usize = 16;
     /// The header of a datagram and a whole request, in bytes.
-    HEADER_SIZE: usize = 20;
+    MOLD_HEADER_SIZE: usize = 20;
     /// The largest datagram, in bytes.
     LARGEST_DATAGRAM: usize = 65507;
     /// The largest SoupBinTCP packet, in bytes.
     LARGEST_PACKET: usize = 4099;
-    /// A cursor, in bytes: place in the datagram (8), messages left (2).
-    CURSOR_SIZE: usize = 10;
-    /// A receiver, in bytes: session (10), next number (8), asking limit (2), ended if not 0 (1).
-    RECEIVER_SIZE: usize = 21;
-    /// A server, in bytes: session (10), last number (8), state (1): 1 waiting, 2 in, else closed.
-    SERVER_SIZE: usize = 19;
-    /// A client, in bytes: session (10), number (8), state (1): 1 asked, 2 in, 3 ended, else
-    /// closed.
-    CLIENT_SIZE: usize = 19;
-    /// The reading of a capture, in bytes.
-    CAPTURE_SIZE: usize = 70;
     /// A buffer that every capture's report fits, in bytes.
     LARGEST_REPORT: usize = 256;
 
-    /// A datagram is data: the first word of [`mold_read`].
-    DATA: u64 = 1;
+    /// Offset in a cursor: place in the datagram (8).
+    CURSOR_PLACE_AT: usize = 0;
+    /// Offset in a cursor: messages left (2).
+    CURSOR_LEFT_AT: usize = 8;
+    /// A cursor, in bytes.
+    CURSOR_SIZE: usize = 10;
+
+    /// Offset in a receiver: session (10).
+    RECEIVER_SESSION_AT: usize = 0;
+    /// Offset in a receiver: number of the next message (8).
+    RECEIVER_NEXT_AT: usize = 10;
+    /// Offset in a receiver: asking limit (2).
+    RECEIVER_LIMIT_AT: usize = 18;
+    /// Offset in a receiver: ended, if not 0 (1).
+    RECEIVER_ENDED_AT: usize = 20;
+    /// A receiver, in bytes.
+    RECEIVER_SIZE: usize = 21;
+
+    /// Offset in a server: session (10).
+    SERVER_SESSION_AT: usize = 0;
+    /// Offset in a server: number of the last message, 0 if there is none (8).
+    SERVER_LAST_AT: usize = 10;
+    /// Offset in a server: its state (1); every byte that isn't below is closed too.
+    SERVER_STATE_AT: usize = 18;
+    /// A server, in bytes.
+    SERVER_SIZE: usize = 19;
+    /// A server's state: takes no packet any more.
+    SERVER_CLOSED: u8 = 0;
+    /// A server's state: waits for a login.
+    SERVER_WAITING: u8 = 1;
+    /// A server's state: the client is in.
+    SERVER_IN: u8 = 2;
+
+    /// Offset in a client: session (10).
+    CLIENT_SESSION_AT: usize = 0;
+    /// Offset in a client: number asked for, and then that of the next message (8).
+    CLIENT_NUMBER_AT: usize = 10;
+    /// Offset in a client: its state (1); every byte that isn't below is closed too.
+    CLIENT_STATE_AT: usize = 18;
+    /// A client, in bytes.
+    CLIENT_SIZE: usize = 19;
+    /// A client's state: takes no packet any more.
+    CLIENT_CLOSED: u8 = 0;
+    /// A client's state: has asked, and waits for the answer.
+    CLIENT_ASKED: u8 = 1;
+    /// A client's state: is in.
+    CLIENT_IN: u8 = 2;
+    /// A client's state: the server has ended the session.
+    CLIENT_ENDED: u8 = 3;
+
+    /// Offset in the reading of a capture: a receiver.
+    CAPTURE_RECEIVER_AT: usize = 0;
+    /// Offset in the reading of a capture: its stage (1); every byte that isn't below is settings
+    /// refused too.
+    CAPTURE_STAGE_AT: usize = 21;
+    /// Offset in the reading of a capture: records read (8; above 2^32 - 1 counts as that).
+    CAPTURE_RECORDS_AT: usize = 22;
+    /// Offset in the reading of a capture: messages delivered (8).
+    CAPTURE_DELIVERED_AT: usize = 30;
+    /// Offset in the reading of a capture: answers old (8).
+    CAPTURE_OLD_AT: usize = 38;
+    /// Offset in the reading of a capture: answers quiet (8).
+    CAPTURE_QUIET_AT: usize = 46;
+    /// Offset in the reading of a capture: answers asked (8).
+    CAPTURE_ASKED_AT: usize = 54;
+    /// Offset in the reading of a capture: refusals (8).
+    CAPTURE_REFUSED_AT: usize = 62;
+    /// The reading of a capture, in bytes.
+    CAPTURE_SIZE: usize = 70;
+    /// A capture's stage: settings refused.
+    CAPTURE_BAD: u8 = 0;
+    /// A capture's stage: settings come next.
+    CAPTURE_SETTINGS: u8 = 1;
+    /// A capture's stage: records come next.
+    CAPTURE_RECORDS: u8 = 2;
+    /// A capture's stage: done.
+    CAPTURE_DONE: u8 = 3;
+
+    /// Word of every writer: how many bytes of the output were written.
+    WRITE_SIZE: usize = 0;
+    /// How many words a writer has.
+    WRITE_WORDS: usize = 1;
+
+    /// A datagram is data.
+    MOLD_DATA: u64 = 1;
     /// A datagram is a heartbeat.
-    HEARTBEAT: u64 = 2;
+    MOLD_HEARTBEAT: u64 = 2;
     /// A datagram is an end of session.
-    END_OF_SESSION: u64 = 3;
+    MOLD_END_OF_SESSION: u64 = 3;
 
-    /// Deliver messages of this datagram: the first word of [`receiver_take`].
-    DELIVER: u64 = 1;
-    /// Nothing new.
-    OLD: u64 = 2;
-    /// A heartbeat, and nothing is missing.
-    QUIET: u64 = 3;
-    /// Messages are missing: send a request.
-    ASK: u64 = 4;
-    /// The session is over, and nothing is missing.
-    ENDED: u64 = 5;
+    /// Word of [`mold_read`]: what the datagram is.
+    MOLD_READ_KIND: usize = 0;
+    /// Word of [`mold_read`]: its sequence number.
+    MOLD_READ_NUMBER: usize = 1;
+    /// Word of [`mold_read`]: how many messages it has, 0 unless it is data.
+    MOLD_READ_COUNT: usize = 2;
+    /// How many words [`mold_read`] has.
+    MOLD_READ_WORDS: usize = 3;
 
-    /// The server sends the stream.
-    FROM_SERVER: u8 = 0;
-    /// The client sends the stream.
-    FROM_CLIENT: u8 = 1;
+    /// Word of [`mold_locate`]: 1 if the message is there, else 0.
+    LOCATE_FOUND: usize = 0;
+    /// Word of [`mold_locate`]: the offset of its first byte in the datagram.
+    LOCATE_OFFSET: usize = 1;
+    /// Word of [`mold_locate`]: its length, perhaps 0.
+    LOCATE_LENGTH: usize = 2;
+    /// How many words [`mold_locate`] has.
+    LOCATE_WORDS: usize = 3;
 
-    /// No whole packet yet: the first word of [`server_step`] and [`client_step`].
-    NEED_MORE: u64 = 0;
-    /// A login is accepted.
-    ACCEPTED: u64 = 1;
-    /// A login is rejected.
-    REJECTED: u64 = 2;
-    /// A message for the client's program.
-    SEQUENCED: u64 = 3;
-    /// A message for the server's program.
-    UNSEQUENCED: u64 = 4;
-    /// The other end is alive.
-    PEER_HEARTBEAT: u64 = 5;
-    /// A debug packet, to be ignored.
-    DEBUG: u64 = 6;
-    /// The client logs out.
-    LOGGED_OUT: u64 = 7;
-    /// The server ends the session.
+    /// Word of [`mold_next`]: 1 if a message is there, else 0.
+    NEXT_FOUND: usize = 0;
+    /// Word of [`mold_next`]: the offset of its first byte in the datagram.
+    NEXT_OFFSET: usize = 1;
+    /// Word of [`mold_next`]: its length, perhaps 0.
+    NEXT_LENGTH: usize = 2;
+    /// How many words [`mold_next`] has.
+    NEXT_WORDS: usize = 3;
+
+    /// Word of [`mold_read_request`]: the first number wanted.
+    READ_REQUEST_FIRST: usize = 0;
+    /// Word of [`mold_read_request`]: how many messages.
+    READ_REQUEST_COUNT: usize = 1;
+    /// How many words [`mold_read_request`] has.
+    READ_REQUEST_WORDS: usize = 2;
+
+    /// A receiver answers: deliver messages of this datagram; [`receiver_walk`] finds them.
+    RECEIVER_DELIVER: u64 = 1;
+    /// A receiver answers: nothing new.
+    RECEIVER_OLD: u64 = 2;
+    /// A receiver answers: a heartbeat, and nothing is missing.
+    RECEIVER_QUIET: u64 = 3;
+    /// A receiver answers: messages are missing; send a request, if none is under way.
+    RECEIVER_ASK: u64 = 4;
+    /// A receiver answers: the session is over, and nothing is missing.
+    RECEIVER_ENDED: u64 = 5;
+
+    /// Word of [`receiver_take`]: what to do.
+    TAKE_ANSWER: usize = 0;
+    /// Word of [`receiver_take`]: number of the first message delivered, or to ask for.
+    TAKE_FIRST: usize = 1;
+    /// Word of [`receiver_take`]: how many are delivered, or to ask for.
+    TAKE_COUNT: usize = 2;
+    /// Word of [`receiver_take`]: how many of the datagram's messages are skipped before those
+    /// delivered.
+    TAKE_SKIPPED: usize = 3;
+    /// How many words [`receiver_take`] has.
+    TAKE_WORDS: usize = 4;
+
+    /// Of a stream: the server sends it.
+    SOUP_FROM_SERVER: u8 = 0;
+    /// Of a stream: the client sends it.
+    SOUP_FROM_CLIENT: u8 = 1;
+
+    /// Word of [`soup_read`]: the letter of the packet, or 0 where more is needed.
+    SOUP_READ_LETTER: usize = 0;
+    /// Word of [`soup_read`]: its size in bytes.
+    SOUP_READ_SIZE: usize = 1;
+    /// Word of [`soup_read`]: the number of 'A' and 'L'.
+    SOUP_READ_NUMBER: usize = 2;
+    /// Word of [`soup_read`]: the reason of 'J'.
+    SOUP_READ_REASON: usize = 2;
+    /// How many words [`soup_read`] has.
+    SOUP_READ_WORDS: usize = 3;
+
+    /// Word of [`soup_scan`]: how many packets.
+    SCAN_COUNT: usize = 0;
+    /// Word of [`soup_scan`]: how many bytes they take.
+    SCAN_SIZE: usize = 1;
+    /// Word of [`soup_scan`]: the number of the refusal of the packet behind them, or 0 where more
+    /// is needed.
+    SCAN_REFUSAL: usize = 2;
+    /// How many words [`soup_scan`] has.
+    SCAN_WORDS: usize = 3;
+
+    /// A session answers: no whole packet yet; read on.
+    SESSION_NEED_MORE: u64 = 0;
+    /// A session answers: a login is accepted; the server writes 'A', its session and this number.
+    SESSION_ACCEPTED: u64 = 1;
+    /// A session answers: a login is rejected; the server writes 'J' and this reason; it is closed.
+    SESSION_REJECTED: u64 = 2;
+    /// A session answers: a message for the client's program.
+    SESSION_SEQUENCED: u64 = 3;
+    /// A session answers: a message for the server's program.
+    SESSION_UNSEQUENCED: u64 = 4;
+    /// A session answers: the other end is alive.
+    SESSION_HEARTBEAT: u64 = 5;
+    /// A session answers: a debug packet, to be ignored.
+    SESSION_DEBUG: u64 = 6;
+    /// A session answers: the client logs out; the session is closed.
+    SESSION_LOGGED_OUT: u64 = 7;
+    /// A session answers: the server ends the session.
     SESSION_OVER: u64 = 8;
+
+    /// Word of [`server_step`]: what it answers.
+    SERVER_STEP_ANSWER: usize = 0;
+    /// Word of [`server_step`]: how many bytes it took, 0 where more are needed.
+    SERVER_STEP_SIZE: usize = 1;
+    /// Word of [`server_step`]: of accepted, the number to write in 'A'.
+    SERVER_STEP_NUMBER: usize = 2;
+    /// Word of [`server_step`]: of rejected, to write in 'J': 'A' the account, 'S' the session or
+    /// number.
+    SERVER_STEP_REASON: usize = 2;
+    /// Word of [`server_step`]: of unsequenced, the offset of the message in the stream.
+    SERVER_STEP_OFFSET: usize = 2;
+    /// Word of [`server_step`]: of unsequenced, its length.
+    SERVER_STEP_LENGTH: usize = 3;
+    /// How many words [`server_step`] has; the last one is 0.
+    SERVER_STEP_WORDS: usize = 5;
+
+    /// Word of [`client_step`]: what it answers.
+    CLIENT_STEP_ANSWER: usize = 0;
+    /// Word of [`client_step`]: how many bytes it took, 0 where more are needed.
+    CLIENT_STEP_SIZE: usize = 1;
+    /// Word of [`client_step`]: of accepted, the number of the next message; of sequenced: of this
+    /// one.
+    CLIENT_STEP_NUMBER: usize = 2;
+    /// Word of [`client_step`]: of rejected.
+    CLIENT_STEP_REASON: usize = 2;
+    /// Word of [`client_step`]: of sequenced, the offset of the message in the stream.
+    CLIENT_STEP_OFFSET: usize = 3;
+    /// Word of [`client_step`]: of sequenced, its length.
+    CLIENT_STEP_LENGTH: usize = 4;
+    /// How many words [`client_step`] has.
+    CLIENT_STEP_WORDS: usize = 5;
+
+    /// Word of [`capture_feed`]: how many bytes were used.
+    FEED_USED: usize = 0;
+    /// Word of [`capture_feed`]: 1 once the reading is over, so that nothing that follows changes
+    /// the report, else 0.
+    FEED_OVER: usize = 1;
+    /// How many words [`capture_feed`] has.
+    FEED_WORDS: usize = 2;
+}
+
+/// The number of a refusal in a returned code, or [`OK`]: its low 8 bits.
+pub const fn number(code: u32) -> u32 {
+    code & 0xFF
 }
 
 exported! {

@@ -73,14 +73,16 @@ impl Receiver {
         let [what, first, many, skipped] =
             words(|words| raw::receiver_take(state, datagram, words))?;
         Ok(match what {
-            raw::DELIVER => {
+            raw::RECEIVER_DELIVER => {
                 let messages = Messages::delivered(datagram, count(many), count(skipped));
                 Answer::Deliver { first, messages }
             }
-            raw::OLD => Answer::Old,
-            raw::QUIET => Answer::Quiet,
-            raw::ASK => Answer::Ask(Request { session: self.session(), first, count: count(many) }),
-            raw::ENDED => Answer::Ended,
+            raw::RECEIVER_OLD => Answer::Old,
+            raw::RECEIVER_QUIET => Answer::Quiet,
+            raw::RECEIVER_ASK => {
+                Answer::Ask(Request { session: self.session(), first, count: count(many) })
+            }
+            raw::RECEIVER_ENDED => Answer::Ended,
             other => unknown(other),
         })
     }

@@ -32,9 +32,9 @@ use std::fmt;
 #[repr(u8)]
 pub enum Sender {
     /// The server.
-    Server = raw::FROM_SERVER,
+    Server = raw::SOUP_FROM_SERVER,
     /// The client.
-    Client = raw::FROM_CLIENT,
+    Client = raw::SOUP_FROM_CLIENT,
 }
 
 /// A logical packet; messages and texts are parts of the stream that it was read from.

@@ -65,14 +65,14 @@ impl Client {
         let [what, size, value, offset, length] =
             words(|words| raw::client_step(&mut self.state, stream, words))?;
         let answer = match what {
-            raw::NEED_MORE => ClientAnswer::NeedMore,
-            raw::ACCEPTED => ClientAnswer::Accepted { number: value },
-            raw::REJECTED => ClientAnswer::Rejected(Reason::of(value)),
-            raw::SEQUENCED => {
+            raw::SESSION_NEED_MORE => ClientAnswer::NeedMore,
+            raw::SESSION_ACCEPTED => ClientAnswer::Accepted { number: value },
+            raw::SESSION_REJECTED => ClientAnswer::Rejected(Reason::of(value)),
+            raw::SESSION_SEQUENCED => {
                 ClientAnswer::Sequenced { number: value, message: pointed(stream, offset, length) }
             }
-            raw::PEER_HEARTBEAT => ClientAnswer::Heartbeat,
-            raw::DEBUG => ClientAnswer::Debug,
+            raw::SESSION_HEARTBEAT => ClientAnswer::Heartbeat,
+            raw::SESSION_DEBUG => ClientAnswer::Debug,
             raw::SESSION_OVER => ClientAnswer::SessionOver,
             other => unknown(other),
         };

@@ -62,13 +62,13 @@ impl Server {
         let [what, size, value, length, _] =
             words(|w| raw::server_step(&mut self.state, accounts.as_bytes(), stream, w))?;
         let answer = match what {
-            raw::NEED_MORE => ServerAnswer::NeedMore,
-            raw::ACCEPTED => ServerAnswer::Accepted { number: value },
-            raw::REJECTED => ServerAnswer::Rejected(Reason::of(value)),
-            raw::UNSEQUENCED => ServerAnswer::Unsequenced(pointed(stream, value, length)),
-            raw::PEER_HEARTBEAT => ServerAnswer::Heartbeat,
-            raw::DEBUG => ServerAnswer::Debug,
-            raw::LOGGED_OUT => ServerAnswer::LoggedOut,
+            raw::SESSION_NEED_MORE => ServerAnswer::NeedMore,
+            raw::SESSION_ACCEPTED => ServerAnswer::Accepted { number: value },
+            raw::SESSION_REJECTED => ServerAnswer::Rejected(Reason::of(value)),
+            raw::SESSION_UNSEQUENCED => ServerAnswer::Unsequenced(pointed(stream, value, length)),
+            raw::SESSION_HEARTBEAT => ServerAnswer::Heartbeat,
+            raw::SESSION_DEBUG => ServerAnswer::Debug,
+            raw::SESSION_LOGGED_OUT => ServerAnswer::LoggedOut,
             other => unknown(other),
         };
         Ok(Step { answer, size: size as usize })

@@ -1,0 +1,1214 @@
+/* A test that each exported function does what eiderwagon.h says, and that the header itself holds.
+ *
+ * ../test.sh builds and runs it. feed.c and login.c, beside it, are the examples. The parts, in order:
+ *   1. a MoldUDP64 receiver, with a gap      5. what is done, and that it changes no more than it says
+ *   2. a SoupBinTCP login and session        6. buffers with no elements, at NULL
+ *   3. a capture, whole and in pieces        7. codes, and grounds in words
+ *   4. what is refused, and that it changes nothing
+ */
+#include "eiderwagon.h"
+
+#include <inttypes.h>
+#include <stdio.h>
+#include <stdlib.h>
+#include <string.h>
+
+/* ---- What a test needs ------------------------------------------------------------------------------------------- */
+
+static unsigned long checks = 0;
+
+#define CHECK(holds)                                                            \
+    do {                                                                        \
+        if (!(holds)) {                                                         \
+            fprintf(stderr, "%s:%d: not so: %s\n", __FILE__, __LINE__, #holds); \
+            exit(1);                                                            \
+        }                                                                       \
+        checks += 1;                                                            \
+    } while (0)
+
+/* A call that gives this refusal, or EIDERWAGON_OK. */
+#define GIVES(number, call)                                                                          \
+    do {                                                                                             \
+        uint32_t given = (call);                                                                     \
+        if (EIDERWAGON_NUMBER(given) != (number)) {                                                  \
+            fprintf(stderr, "%s:%d: %s: %s\n", __FILE__, __LINE__, #call, eiderwagon_ground(given)); \
+            exit(1);                                                                                 \
+        }                                                                                            \
+        checks += 1;                                                                                 \
+    } while (0)
+
+/* A call that isn't refused. */
+#define DONE(call) GIVES(EIDERWAGON_OK, call)
+
+/* A word of an answer, by its name in the header. */
+#define WORD(name) words[EIDERWAGON_##name]
+
+/* ---- What a host needs ------------------------------------------------------------------------------------------- */
+
+/* Lends an array, or the characters of a literal: a pointer, and behind it how many elements there are. */
+#define LEND(array) (array), sizeof(array) / sizeof((array)[0])
+#define TEXT(literal) (const uint8_t *)(literal), sizeof(literal) - 1
+
+/* Bytes on their way: a datagram, or a stream that fills up. */
+typedef struct {
+    uint8_t bytes[512];
+    size_t size;
+} Bytes;
+
+static const uint8_t name[EIDERWAGON_SESSION_SIZE] = {'R', 'E', 'A', 'D', 'R', 'O', 'O', 'M', '0', '1'};
+
+static int same(const uint8_t *bytes, size_t size, const char *text) {
+    return size == strlen(text) && memcmp(bytes, text, size) == 0;
+}
+
+/* A number of so many bytes in a state. */
+static uint64_t number_in(const uint8_t *state, size_t at, size_t size) {
+    uint64_t number = 0;
+    for (size_t i = 0; i < size; i++) {
+        number = number << 8 | state[at + i];
+    }
+    return number;
+}
+
+/* Messages, from their lengths and their joined text. */
+static Bytes data(uint64_t first, size_t count, const uint16_t *lengths, const char *joined) {
+    Bytes datagram = {{0}, 0};
+    uint64_t words[EIDERWAGON_WRITE_WORDS];
+    DONE(eiderwagon_mold_write_data(LEND(name), first, lengths, count, (const uint8_t *)joined, strlen(joined),
+                                    LEND(datagram.bytes), LEND(words)));
+    datagram.size = WORD(WRITE_SIZE);
+    return datagram;
+}
+
+static Bytes heartbeat(uint64_t next) {
+    Bytes datagram = {{0}, 0};
+    uint64_t words[EIDERWAGON_WRITE_WORDS];
+    DONE(eiderwagon_mold_write_heartbeat(LEND(name), next, LEND(datagram.bytes), LEND(words)));
+    datagram.size = WORD(WRITE_SIZE);
+    return datagram;
+}
+
+static Bytes end_of_session(uint64_t next) {
+    Bytes datagram = {{0}, 0};
+    uint64_t words[EIDERWAGON_WRITE_WORDS];
+    DONE(eiderwagon_mold_write_end(LEND(name), next, LEND(datagram.bytes), LEND(words)));
+    datagram.size = WORD(WRITE_SIZE);
+    return datagram;
+}
+
+/* ---- 1. A receiver ----------------------------------------------------------------------------------------------- */
+
+/* What the program shows: one line for each message, with its number. */
+static char screen[256];
+
+/* Shows the messages that a deliver answer delivers. */
+static void deliver(const Bytes *datagram, const uint64_t *answer) {
+    uint8_t cursor[EIDERWAGON_CURSOR_SIZE];
+    uint64_t words[EIDERWAGON_NEXT_WORDS];
+    uint64_t number = answer[EIDERWAGON_TAKE_FIRST];
+    DONE(eiderwagon_receiver_walk(datagram->bytes, datagram->size, (uint16_t)answer[EIDERWAGON_TAKE_COUNT],
+                                  (uint16_t)answer[EIDERWAGON_TAKE_SKIPPED], LEND(cursor)));
+    for (;;) {
+        DONE(eiderwagon_mold_next(LEND(cursor), datagram->bytes, datagram->size, LEND(words)));
+        if (WORD(NEXT_FOUND) == 0) {
+            break;
+        }
+        size_t used = strlen(screen);
+        snprintf(screen + used, sizeof screen - used, "%" PRIu64 " %.*s\n", number, (int)WORD(NEXT_LENGTH),
+                 (const char *)datagram->bytes + WORD(NEXT_OFFSET));
+        number += 1;
+    }
+    CHECK(number == answer[EIDERWAGON_TAKE_FIRST] + answer[EIDERWAGON_TAKE_COUNT]);
+}
+
+/* Gives a receiver one datagram, does what it answers, and returns which answer it was. */
+static uint64_t take(uint8_t receiver[EIDERWAGON_RECEIVER_SIZE], const Bytes *datagram, Bytes *request) {
+    uint64_t answer[EIDERWAGON_TAKE_WORDS];
+    uint64_t words[EIDERWAGON_WRITE_WORDS];
+    DONE(eiderwagon_receiver_take(receiver, EIDERWAGON_RECEIVER_SIZE, datagram->bytes, datagram->size, LEND(answer)));
+    switch (answer[EIDERWAGON_TAKE_ANSWER]) {
+    case EIDERWAGON_RECEIVER_DELIVER:
+        deliver(datagram, answer);
+        break;
+    case EIDERWAGON_RECEIVER_ASK:
+        CHECK(answer[EIDERWAGON_TAKE_SKIPPED] == 0);
+        DONE(eiderwagon_mold_write_request(receiver + EIDERWAGON_RECEIVER_SESSION_AT, EIDERWAGON_SESSION_SIZE,
+                                           answer[EIDERWAGON_TAKE_FIRST], (uint16_t)answer[EIDERWAGON_TAKE_COUNT],
+                                           LEND(request->bytes), LEND(words)));
+        request->size = WORD(WRITE_SIZE);
+        break;
+    default: /* EIDERWAGON_RECEIVER_OLD, EIDERWAGON_RECEIVER_QUIET, EIDERWAGON_RECEIVER_ENDED: nothing to do */
+        CHECK(answer[EIDERWAGON_TAKE_FIRST] == 0 && answer[EIDERWAGON_TAKE_COUNT] == 0);
+        CHECK(answer[EIDERWAGON_TAKE_SKIPPED] == 0);
+        break;
+    }
+    return answer[EIDERWAGON_TAKE_ANSWER];
+}
+
+static void follow_a_feed(void) {
+    const Bytes one_two = data(1, 2, (const uint16_t[]){3, 3}, "onetwo");
+    const Bytes two_to_four = data(2, 3, (const uint16_t[]){3, 0, 4}, "twofour");
+    const Bytes five = data(5, 1, (const uint16_t[]){4}, "five");
+    const Bytes still_at_six = heartbeat(6);
+    const Bytes far_ahead = heartbeat(UINT64_MAX);
+    const Bytes end = end_of_session(6);
+    uint8_t receiver[EIDERWAGON_RECEIVER_SIZE];
+    uint64_t words[EIDERWAGON_READ_REQUEST_WORDS];
+    Bytes request = {{0}, 0};
+
+    DONE(eiderwagon_receiver_start(LEND(name), 1, 100, LEND(receiver)));
+    CHECK(take(receiver, &one_two, &request) == EIDERWAGON_RECEIVER_DELIVER);
+    CHECK(take(receiver, &one_two, &request) == EIDERWAGON_RECEIVER_OLD);
+
+    /* Messages 3 and 4 are lost: message 5 isn't kept, and the receiver asks. */
+    CHECK(request.size == 0);
+    CHECK(take(receiver, &five, &request) == EIDERWAGON_RECEIVER_ASK);
+    CHECK(request.size == EIDERWAGON_MOLD_HEADER_SIZE && memcmp(request.bytes, name, sizeof name) == 0);
+
+    /* The venue reads the request, and sends again. It begins at 2: the receiver skips what it has. */
+    DONE(eiderwagon_mold_read_request(request.bytes, request.size, LEND(words)));
+    CHECK(WORD(READ_REQUEST_FIRST) == 3 && WORD(READ_REQUEST_COUNT) == 2);
+    CHECK(take(receiver, &two_to_four, &request) == EIDERWAGON_RECEIVER_DELIVER);
+    CHECK(take(receiver, &five, &request) == EIDERWAGON_RECEIVER_DELIVER);
+    CHECK(strcmp(screen, "1 one\n2 two\n3 \n4 four\n5 five\n") == 0);
+
+    CHECK(take(receiver, &still_at_six, &request) == EIDERWAGON_RECEIVER_QUIET);
+
+    /* It never asks for more than its limit at once, however much is missing; and each datagram ahead asks again. */
+    for (int times = 0; times < 3; times++) {
+        request.size = 0;
+        CHECK(take(receiver, &far_ahead, &request) == EIDERWAGON_RECEIVER_ASK);
+        DONE(eiderwagon_mold_read_request(request.bytes, request.size, LEND(words)));
+        CHECK(WORD(READ_REQUEST_FIRST) == 6 && WORD(READ_REQUEST_COUNT) == 100);
+    }
+    CHECK(take(receiver, &end, &request) == EIDERWAGON_RECEIVER_ENDED);
+    CHECK(receiver[EIDERWAGON_RECEIVER_ENDED_AT] == 1);
+}
+
+/* A datagram without a receiver: what it is, one message by its place, and all of them. */
+static void read_a_datagram(void) {
+    const Bytes datagram = data(7, 2, (const uint16_t[]){0, 3}, "two");
+    const Bytes last_heartbeat = heartbeat(UINT64_MAX);
+    const Bytes end = end_of_session(9);
+    uint8_t cursor[EIDERWAGON_CURSOR_SIZE];
+    uint64_t words[EIDERWAGON_MOLD_READ_WORDS];
+
+    DONE(eiderwagon_mold_read(datagram.bytes, datagram.size, LEND(words)));
+    CHECK(WORD(MOLD_READ_KIND) == EIDERWAGON_MOLD_DATA && WORD(MOLD_READ_NUMBER) == 7 && WORD(MOLD_READ_COUNT) == 2);
+    DONE(eiderwagon_mold_read(last_heartbeat.bytes, last_heartbeat.size, LEND(words)));
+    CHECK(WORD(MOLD_READ_KIND) == EIDERWAGON_MOLD_HEARTBEAT && WORD(MOLD_READ_NUMBER) == UINT64_MAX);
+    CHECK(WORD(MOLD_READ_COUNT) == 0);
+    DONE(eiderwagon_mold_read(end.bytes, end.size, LEND(words)));
+    CHECK(WORD(MOLD_READ_KIND) == EIDERWAGON_MOLD_END_OF_SESSION && WORD(MOLD_READ_NUMBER) == 9);
+    CHECK(WORD(MOLD_READ_COUNT) == 0);
+
+    DONE(eiderwagon_mold_locate(datagram.bytes, datagram.size, 1, LEND(words)));
+    CHECK(WORD(LOCATE_FOUND) == 1 && same(datagram.bytes + WORD(LOCATE_OFFSET), WORD(LOCATE_LENGTH), "two"));
+    DONE(eiderwagon_mold_locate(datagram.bytes, datagram.size, 2, LEND(words)));
+    CHECK(WORD(LOCATE_FOUND) == 0 && WORD(LOCATE_OFFSET) == 0 && WORD(LOCATE_LENGTH) == 0);
+
+    DONE(eiderwagon_mold_walk(datagram.bytes, datagram.size, LEND(cursor)));
+    /* Another datagram than the cursor's, here one that has no byte at its place, is safe: no message is there. */
+    DONE(eiderwagon_mold_next(LEND(cursor), end.bytes, end.size, LEND(words)));
+    CHECK(WORD(NEXT_FOUND) == 0 && WORD(NEXT_OFFSET) == 0 && WORD(NEXT_LENGTH) == 0);
+    DONE(eiderwagon_mold_next(LEND(cursor), datagram.bytes, datagram.size, LEND(words)));
+    CHECK(WORD(NEXT_FOUND) == 1 && WORD(NEXT_OFFSET) == 22 && WORD(NEXT_LENGTH) == 0);
+    DONE(eiderwagon_mold_next(LEND(cursor), datagram.bytes, datagram.size, LEND(words)));
+    CHECK(WORD(NEXT_FOUND) == 1 && WORD(NEXT_OFFSET) == 24 && WORD(NEXT_LENGTH) == 3);
+    CHECK(number_in(cursor, EIDERWAGON_CURSOR_LEFT_AT, 2) == 0);
+    DONE(eiderwagon_mold_next(LEND(cursor), datagram.bytes, datagram.size, LEND(words)));
+    CHECK(WORD(NEXT_FOUND) == 0 && WORD(NEXT_OFFSET) == 0 && WORD(NEXT_LENGTH) == 0);
+}
+
+/* ---- 2. A login -------------------------------------------------------------------------------------------------- */
+
+/* Two records of EIDERWAGON_ACCOUNT_SIZE bytes: username (6) and password (10), with spaces on the right. */
+static const char accounts[] = "readeropensesame"
+                               "clerk desk5     ";
+
+static const char any_session[] = "          ";
+
+/* Where the next packet goes in a stream: the room behind the bytes that are there. */
+#define ROOM(stream) (stream)->bytes + (stream)->size, sizeof((stream)->bytes) - (stream)->size
+
+/* Takes the first `size` bytes off a stream, as a step says. */
+static void pass(Bytes *stream, uint64_t size) {
+    stream->size -= size;
+    memmove(stream->bytes, stream->bytes + size, stream->size);
+}
+
+static void server_step(uint8_t server[EIDERWAGON_SERVER_SIZE], const Bytes *stream, uint64_t *words) {
+    DONE(eiderwagon_server_step(server, EIDERWAGON_SERVER_SIZE, TEXT(accounts), stream->bytes, stream->size, words,
+                                EIDERWAGON_SERVER_STEP_WORDS));
+}
+
+static void client_step(uint8_t client[EIDERWAGON_CLIENT_SIZE], const Bytes *stream, uint64_t *words) {
+    DONE(eiderwagon_client_step(client, EIDERWAGON_CLIENT_SIZE, stream->bytes, stream->size, words,
+                                EIDERWAGON_CLIENT_STEP_WORDS));
+}
+
+static void log_in_and_out(void) {
+    uint8_t server[EIDERWAGON_SERVER_SIZE];
+    uint8_t client[EIDERWAGON_CLIENT_SIZE];
+    Bytes up = {{0}, 0};   /* from the client to the server */
+    Bytes down = {{0}, 0}; /* and back */
+    uint64_t words[EIDERWAGON_SERVER_STEP_WORDS]; /* as many as EIDERWAGON_CLIENT_STEP_WORDS */
+
+    /* The server's session has one message. The client wants any session, from message 1 on. */
+    DONE(eiderwagon_server_start(LEND(name), 1, LEND(server)));
+    DONE(eiderwagon_client_start(TEXT(any_session), 1, LEND(client)));
+    DONE(eiderwagon_soup_write_login(TEXT("Clerk "), TEXT("DESK5     "), TEXT(any_session), 1, ROOM(&up), LEND(words)));
+    CHECK(WORD(WRITE_SIZE) == 49);
+
+    /* Before all of the login is there, the server needs more and takes nothing. */
+    up.size = WORD(WRITE_SIZE) - 1;
+    server_step(server, &up, words);
+    CHECK(WORD(SERVER_STEP_ANSWER) == EIDERWAGON_SESSION_NEED_MORE && WORD(SERVER_STEP_SIZE) == 0);
+    up.size += 1;
+    server_step(server, &up, words);
+    CHECK(WORD(SERVER_STEP_ANSWER) == EIDERWAGON_SESSION_ACCEPTED && WORD(SERVER_STEP_SIZE) == 49);
+    CHECK(WORD(SERVER_STEP_NUMBER) == 1);
+    pass(&up, WORD(SERVER_STEP_SIZE));
+    CHECK(up.size == 0);
+
+    /* The server writes A, with its session and the number of the answer, and then its messages from that number on. */
+    DONE(eiderwagon_soup_write_accepted(server + EIDERWAGON_SERVER_SESSION_AT, EIDERWAGON_SESSION_SIZE,
+                                        WORD(SERVER_STEP_NUMBER), ROOM(&down), LEND(words)));
+    down.size += WORD(WRITE_SIZE);
+    DONE(eiderwagon_soup_write_sequenced(TEXT("offer"), ROOM(&down), LEND(words)));
+    down.size += WORD(WRITE_SIZE);
+    DONE(eiderwagon_soup_write_server_heartbeat(ROOM(&down), LEND(words)));
+    down.size += WORD(WRITE_SIZE);
+    DONE(eiderwagon_soup_write_debug(TEXT("text for people"), ROOM(&down), LEND(words)));
+    down.size += WORD(WRITE_SIZE);
+    DONE(eiderwagon_soup_read(down.bytes, down.size, EIDERWAGON_SOUP_FROM_SERVER, LEND(words)));
+    CHECK(WORD(SOUP_READ_LETTER) == 'A' && WORD(SOUP_READ_SIZE) == 33 && WORD(SOUP_READ_NUMBER) == 1);
+    DONE(eiderwagon_soup_scan(down.bytes, down.size, EIDERWAGON_SOUP_FROM_SERVER, LEND(words)));
+    CHECK(WORD(SCAN_COUNT) == 4 && WORD(SCAN_SIZE) == down.size && WORD(SCAN_REFUSAL) == 0);
+
+    /* The client takes packet after packet. A message comes with its number, and as a place in the stream. */
+    client_step(client, &down, words);
+    CHECK(WORD(CLIENT_STEP_ANSWER) == EIDERWAGON_SESSION_ACCEPTED && WORD(CLIENT_STEP_NUMBER) == 1);
+    CHECK(memcmp(client + EIDERWAGON_CLIENT_SESSION_AT, name, sizeof name) == 0);
+    pass(&down, WORD(CLIENT_STEP_SIZE));
+    client_step(client, &down, words);
+    CHECK(WORD(CLIENT_STEP_ANSWER) == EIDERWAGON_SESSION_SEQUENCED && WORD(CLIENT_STEP_NUMBER) == 1);
+    CHECK(same(down.bytes + WORD(CLIENT_STEP_OFFSET), WORD(CLIENT_STEP_LENGTH), "offer"));
+    pass(&down, WORD(CLIENT_STEP_SIZE));
+    client_step(client, &down, words);
+    CHECK(WORD(CLIENT_STEP_ANSWER) == EIDERWAGON_SESSION_HEARTBEAT);
+    pass(&down, WORD(CLIENT_STEP_SIZE));
+    client_step(client, &down, words);
+    CHECK(WORD(CLIENT_STEP_ANSWER) == EIDERWAGON_SESSION_DEBUG);
+    pass(&down, WORD(CLIENT_STEP_SIZE));
+    client_step(client, &down, words);
+    CHECK(WORD(CLIENT_STEP_ANSWER) == EIDERWAGON_SESSION_NEED_MORE && WORD(CLIENT_STEP_SIZE) == 0);
+
+    /* The client sends a message of its own, a heartbeat, and logs out. */
+    DONE(eiderwagon_soup_write_unsequenced(TEXT("hello"), ROOM(&up), LEND(words)));
+    up.size += WORD(WRITE_SIZE);
+    DONE(eiderwagon_soup_write_client_heartbeat(ROOM(&up), LEND(words)));
+    up.size += WORD(WRITE_SIZE);
+    DONE(eiderwagon_soup_write_logout(ROOM(&up), LEND(words)));
+    up.size += WORD(WRITE_SIZE);
+    server_step(server, &up, words);
+    CHECK(WORD(SERVER_STEP_ANSWER) == EIDERWAGON_SESSION_UNSEQUENCED);
+    CHECK(same(up.bytes + WORD(SERVER_STEP_OFFSET), WORD(SERVER_STEP_LENGTH), "hello"));
+    CHECK(WORD(SERVER_STEP_WORDS - 1) == 0);
+    pass(&up, WORD(SERVER_STEP_SIZE));
+    server_step(server, &up, words);
+    CHECK(WORD(SERVER_STEP_ANSWER) == EIDERWAGON_SESSION_HEARTBEAT);
+    pass(&up, WORD(SERVER_STEP_SIZE));
+    server_step(server, &up, words);
+    CHECK(WORD(SERVER_STEP_ANSWER) == EIDERWAGON_SESSION_LOGGED_OUT);
+    CHECK(server[EIDERWAGON_SERVER_STATE_AT] == EIDERWAGON_SERVER_CLOSED);
+
+    /* Had the client stayed, the server would have ended the session some day. */
+    DONE(eiderwagon_soup_write_end(ROOM(&down), LEND(words)));
+    down.size += WORD(WRITE_SIZE);
+    client_step(client, &down, words);
+    CHECK(WORD(CLIENT_STEP_ANSWER) == EIDERWAGON_SESSION_OVER);
+    CHECK(client[EIDERWAGON_CLIENT_STATE_AT] == EIDERWAGON_CLIENT_ENDED);
+}
+
+/* A wrong password: the server answers J with a reason, and both ends are closed. */
+static void be_rejected(void) {
+    uint8_t server[EIDERWAGON_SERVER_SIZE];
+    uint8_t client[EIDERWAGON_CLIENT_SIZE];
+    Bytes up = {{0}, 0};
+    Bytes down = {{0}, 0};
+    uint64_t words[EIDERWAGON_SERVER_STEP_WORDS] = {9, 9, 9, 9, 9};
+
+    DONE(eiderwagon_server_start(LEND(name), 1, LEND(server)));
+    DONE(eiderwagon_client_start(LEND(name), 0, LEND(client)));
+    DONE(eiderwagon_soup_write_login(TEXT("clerk "), TEXT("desk      "), LEND(name), 0, ROOM(&up), LEND(words)));
+    up.size = WORD(WRITE_SIZE);
+
+    /* Without a session, the packet itself can be read too. */
+    DONE(eiderwagon_soup_read(up.bytes, up.size, EIDERWAGON_SOUP_FROM_CLIENT, LEND(words)));
+    CHECK(WORD(SOUP_READ_LETTER) == 'L' && WORD(SOUP_READ_SIZE) == up.size && WORD(SOUP_READ_NUMBER) == 0);
+    CHECK(same(up.bytes + 3, EIDERWAGON_USERNAME_SIZE, "clerk "));
+
+    server_step(server, &up, words);
+    CHECK(WORD(SERVER_STEP_ANSWER) == EIDERWAGON_SESSION_REJECTED && WORD(SERVER_STEP_REASON) == 'A');
+    DONE(eiderwagon_soup_write_rejected((uint8_t)WORD(SERVER_STEP_REASON), ROOM(&down), LEND(words)));
+    down.size = WORD(WRITE_SIZE);
+    client_step(client, &down, words);
+    CHECK(WORD(CLIENT_STEP_ANSWER) == EIDERWAGON_SESSION_REJECTED && WORD(CLIENT_STEP_REASON) == 'A');
+    CHECK(WORD(CLIENT_STEP_OFFSET) == 0 && WORD(CLIENT_STEP_LENGTH) == 0);
+    CHECK(server[EIDERWAGON_SERVER_STATE_AT] == EIDERWAGON_SERVER_CLOSED);
+    CHECK(client[EIDERWAGON_CLIENT_STATE_AT] == EIDERWAGON_CLIENT_CLOSED);
+}
+
+/* ---- 3. A capture ------------------------------------------------------------------------------------------------ */
+
+static const char report[] = "session=READROOM01\n"
+                             "next=6\n"
+                             "ended=yes\n"
+                             "delivered=5\n"
+                             "old=1\n"
+                             "quiet=1\n"
+                             "asked=2\n"
+                             "refused=1\n";
+
+/* A record: a length of two bytes, the high one first, and a datagram. */
+static void record(Bytes *capture, Bytes datagram) {
+    capture->bytes[capture->size] = (uint8_t)(datagram.size >> 8);
+    capture->bytes[capture->size + 1] = (uint8_t)(datagram.size & 0xFF);
+    memcpy(capture->bytes + capture->size + 2, datagram.bytes, datagram.size);
+    capture->size += 2 + datagram.size;
+}
+
+static Bytes sample_capture(void) {
+    static const char settings[] = "session=READROOM01\nnext=1\nlimit=100\n";
+    Bytes capture = {{0}, sizeof settings - 1};
+    Bytes nineteen_bytes = heartbeat(6);
+    nineteen_bytes.size = 19;
+    memcpy(capture.bytes, settings, capture.size);
+    record(&capture, data(1, 2, (const uint16_t[]){3, 3}, "onetwo"));
+    record(&capture, data(5, 1, (const uint16_t[]){4}, "five"));
+    record(&capture, heartbeat(6));
+    record(&capture, data(2, 3, (const uint16_t[]){3, 5, 4}, "twothreefour"));
+    record(&capture, data(1, 2, (const uint16_t[]){3, 3}, "onetwo"));
+    record(&capture, data(5, 1, (const uint16_t[]){4}, "five"));
+    record(&capture, heartbeat(6));
+    record(&capture, nineteen_bytes);
+    record(&capture, end_of_session(6));
+    return capture;
+}
+
+/* Reads a capture in pieces, and keeps what was not used for the next one. */
+static void report_in_pieces(const Bytes *capture, size_t piece) {
+    uint8_t reading[EIDERWAGON_CAPTURE_SIZE];
+    uint8_t out[EIDERWAGON_LARGEST_REPORT];
+    Bytes kept = {{0}, 0};
+    uint64_t words[EIDERWAGON_FEED_WORDS];
+    DONE(eiderwagon_capture_start(LEND(reading)));
+    for (size_t at = 0; at < capture->size; at += piece) {
+        size_t left = capture->size - at;
+        size_t came = left < piece ? left : piece;
+        memcpy(kept.bytes + kept.size, capture->bytes + at, came);
+        kept.size += came;
+        DONE(eiderwagon_capture_feed(LEND(reading), kept.bytes, kept.size, LEND(words)));
+        CHECK(WORD(FEED_USED) <= kept.size && WORD(FEED_OVER) == 0);
+        pass(&kept, WORD(FEED_USED));
+    }
+    DONE(eiderwagon_capture_finish(LEND(reading), kept.bytes, kept.size));
+    DONE(eiderwagon_capture_write(LEND(reading), LEND(out), LEND(words)));
+    CHECK(same(out, WORD(WRITE_SIZE), report));
+}
+
+static void report_captures(void) {
+    const Bytes capture = sample_capture();
+    uint8_t out[EIDERWAGON_LARGEST_REPORT];
+    uint64_t words[EIDERWAGON_WRITE_WORDS];
+    DONE(eiderwagon_capture_report(capture.bytes, capture.size, LEND(out), LEND(words)));
+    CHECK(same(out, WORD(WRITE_SIZE), report));
+    for (size_t piece = 1; piece <= 7; piece++) {
+        report_in_pieces(&capture, piece);
+    }
+    /* A last record that is cut short counts as one refusal: here the end of session, which then isn't seen. */
+    DONE(eiderwagon_capture_report(capture.bytes, capture.size - 1, LEND(out), LEND(words)));
+    CHECK(same(out, WORD(WRITE_SIZE),
+               "session=READROOM01\nnext=6\nended=no\ndelivered=5\nold=1\nquiet=1\nasked=2\nrefused=2\n"));
+    /* Bad settings are a report too, and no refusal. */
+    DONE(eiderwagon_capture_report(TEXT("session=short\n"), LEND(out), LEND(words)));
+    CHECK(same(out, WORD(WRITE_SIZE), "settings=refused\n"));
+}
+
+/* ---- 4. Refusals ------------------------------------------------------------------------------------------------- */
+
+/* Everything that a call of this part may be lent to write in. */
+static struct {
+    uint8_t state[EIDERWAGON_CAPTURE_SIZE];
+    uint8_t cursor[EIDERWAGON_CURSOR_SIZE];
+    uint8_t out[EIDERWAGON_LARGEST_PACKET];
+    uint64_t words[EIDERWAGON_SERVER_STEP_WORDS]; /* no function has more */
+} lent, before;
+
+#define LENT(name) lent.words[EIDERWAGON_##name]
+
+/* A call that is refused on this ground, and changes no byte of what it was lent. */
+#define REFUSED(ground, call)                            \
+    do {                                                 \
+        memcpy(&before, &lent, sizeof lent);             \
+        GIVES(EIDERWAGON_REFUSED_##ground, call);        \
+        CHECK(memcmp(&before, &lent, sizeof lent) == 0); \
+    } while (0)
+
+static const uint8_t zeros[EIDERWAGON_LARGEST_DATAGRAM + 1];
+static const uint16_t too_many_lengths[65535];
+
+/* The first elements of a buffer: fewer than the call needs, or just as many. */
+#define STATE(size) lent.state, (size_t)(size)
+#define OUT(size) lent.out, (size_t)(size)
+
+/* As many words as a function needs, and one fewer. */
+#define WORDS(function) lent.words, (size_t)EIDERWAGON_##function##_WORDS
+#define FEWER(function) lent.words, (size_t)EIDERWAGON_##function##_WORDS - 1
+
+static void refuse_datagrams(void) {
+    const Bytes one = data(1, 1, (const uint16_t[]){3}, "one");
+    Bytes bad = one;
+
+    REFUSED(OUTPUT_SHORT, eiderwagon_mold_read(one.bytes, one.size, FEWER(MOLD_READ)));
+    REFUSED(DATAGRAM_SHORT, eiderwagon_mold_read(one.bytes, 19, WORDS(MOLD_READ)));
+    REFUSED(DATAGRAM_LONG, eiderwagon_mold_read(zeros, EIDERWAGON_LARGEST_DATAGRAM + 1, WORDS(MOLD_READ)));
+    REFUSED(NUMBER_ZERO, eiderwagon_mold_read(zeros, EIDERWAGON_LARGEST_DATAGRAM, WORDS(MOLD_READ)));
+    REFUSED(NUMBER_ZERO, eiderwagon_mold_read(zeros, 20, WORDS(MOLD_READ)));
+    REFUSED(BLOCK_PAST_END, eiderwagon_mold_read(one.bytes, one.size - 1, WORDS(MOLD_READ)));
+    REFUSED(BYTES_AFTER_BLOCKS, eiderwagon_mold_read(one.bytes, one.size + 1, WORDS(MOLD_READ)));
+    memset(bad.bytes + 10, 0xFF, 8);
+    REFUSED(NUMBERS_RUN_OUT, eiderwagon_mold_read(bad.bytes, bad.size, WORDS(MOLD_READ)));
+
+    REFUSED(OUTPUT_SHORT, eiderwagon_mold_locate(one.bytes, one.size, 0, FEWER(LOCATE)));
+    REFUSED(OUTPUT_SHORT, eiderwagon_mold_walk(one.bytes, one.size, lent.cursor, EIDERWAGON_CURSOR_SIZE - 1));
+    REFUSED(OUTPUT_SHORT,
+            eiderwagon_mold_next(lent.cursor, EIDERWAGON_CURSOR_SIZE - 1, one.bytes, one.size, WORDS(NEXT)));
+    REFUSED(OUTPUT_SHORT, eiderwagon_mold_next(LEND(lent.cursor), one.bytes, one.size, FEWER(NEXT)));
+    REFUSED(OUTPUT_SHORT, eiderwagon_receiver_walk(one.bytes, one.size, 1, 0, lent.cursor, EIDERWAGON_CURSOR_SIZE - 1));
+}
+
+static void refuse_written_datagrams(void) {
+    const uint16_t lengths[] = {3};
+    const uint16_t long_length[] = {65486};
+
+    /* A short name and short words come before every other ground, a short output after. */
+    REFUSED(OUTPUT_SHORT,
+            eiderwagon_mold_write_data(name, 9, 0, LEND(lengths), TEXT("one"), LEND(lent.out), WORDS(WRITE)));
+    REFUSED(OUTPUT_SHORT,
+            eiderwagon_mold_write_data(LEND(name), 0, LEND(lengths), TEXT("one"), LEND(lent.out), FEWER(WRITE)));
+    REFUSED(OUTPUT_SHORT, eiderwagon_mold_write_data(LEND(name), 1, LEND(lengths), TEXT("one"), OUT(24), WORDS(WRITE)));
+    REFUSED(TOO_MANY_MESSAGES,
+            eiderwagon_mold_write_data(LEND(name), 1, LEND(too_many_lengths), TEXT(""), OUT(0), WORDS(WRITE)));
+    REFUSED(LENGTHS_DIFFER,
+            eiderwagon_mold_write_data(LEND(name), 0, LEND(lengths), TEXT("four"), OUT(0), WORDS(WRITE)));
+    REFUSED(NUMBER_ZERO, eiderwagon_mold_write_data(LEND(name), 0, LEND(lengths), TEXT("one"), OUT(0), WORDS(WRITE)));
+    REFUSED(NUMBERS_RUN_OUT,
+            eiderwagon_mold_write_data(LEND(name), UINT64_MAX, LEND(lengths), TEXT("one"), OUT(0), WORDS(WRITE)));
+    REFUSED(DATAGRAM_LONG,
+            eiderwagon_mold_write_data(LEND(name), 1, LEND(long_length), zeros, 65486, OUT(0), WORDS(WRITE)));
+
+    REFUSED(OUTPUT_SHORT, eiderwagon_mold_write_heartbeat(name, 9, 1, LEND(lent.out), WORDS(WRITE)));
+    REFUSED(OUTPUT_SHORT, eiderwagon_mold_write_heartbeat(LEND(name), 1, LEND(lent.out), FEWER(WRITE)));
+    REFUSED(OUTPUT_SHORT, eiderwagon_mold_write_heartbeat(LEND(name), 1, OUT(19), WORDS(WRITE)));
+    REFUSED(NUMBER_ZERO, eiderwagon_mold_write_heartbeat(LEND(name), 0, OUT(19), WORDS(WRITE)));
+
+    REFUSED(OUTPUT_SHORT, eiderwagon_mold_write_end(name, 9, 1, LEND(lent.out), WORDS(WRITE)));
+    REFUSED(OUTPUT_SHORT, eiderwagon_mold_write_end(LEND(name), 1, LEND(lent.out), FEWER(WRITE)));
+    REFUSED(OUTPUT_SHORT, eiderwagon_mold_write_end(LEND(name), 1, OUT(19), WORDS(WRITE)));
+    REFUSED(NUMBER_ZERO, eiderwagon_mold_write_end(LEND(name), 0, OUT(19), WORDS(WRITE)));
+}
+
+static void refuse_requests(void) {
+    const Bytes count_zero = heartbeat(1);
+    const Bytes count_of_an_end = end_of_session(1);
+
+    REFUSED(OUTPUT_SHORT, eiderwagon_mold_read_request(zeros, 0, FEWER(READ_REQUEST)));
+    REFUSED(REQUEST_SIZE, eiderwagon_mold_read_request(zeros, 21, WORDS(READ_REQUEST)));
+    REFUSED(NUMBER_ZERO, eiderwagon_mold_read_request(zeros, 20, WORDS(READ_REQUEST)));
+    REFUSED(REQUEST_COUNT, eiderwagon_mold_read_request(count_zero.bytes, 20, WORDS(READ_REQUEST)));
+    REFUSED(REQUEST_COUNT, eiderwagon_mold_read_request(count_of_an_end.bytes, 20, WORDS(READ_REQUEST)));
+
+    REFUSED(OUTPUT_SHORT, eiderwagon_mold_write_request(name, 9, 1, 1, LEND(lent.out), WORDS(WRITE)));
+    REFUSED(OUTPUT_SHORT, eiderwagon_mold_write_request(LEND(name), 1, 1, LEND(lent.out), FEWER(WRITE)));
+    REFUSED(OUTPUT_SHORT, eiderwagon_mold_write_request(LEND(name), 1, 1, OUT(19), WORDS(WRITE)));
+    REFUSED(NUMBER_ZERO, eiderwagon_mold_write_request(LEND(name), 0, 0, OUT(19), WORDS(WRITE)));
+    REFUSED(REQUEST_COUNT, eiderwagon_mold_write_request(LEND(name), 1, 0, OUT(19), WORDS(WRITE)));
+    REFUSED(REQUEST_COUNT, eiderwagon_mold_write_request(LEND(name), 1, 65535, OUT(19), WORDS(WRITE)));
+}
+
+static void refuse_at_a_receiver(void) {
+    const Bytes end_at_five = end_of_session(5);
+    const Bytes end_at_four = end_of_session(4);
+    Bytes other = end_at_five;
+    other.bytes[9] = '2';
+
+    REFUSED(OUTPUT_SHORT, eiderwagon_receiver_start(name, 9, 5, 100, STATE(EIDERWAGON_RECEIVER_SIZE)));
+    REFUSED(OUTPUT_SHORT, eiderwagon_receiver_start(LEND(name), 5, 100, STATE(EIDERWAGON_RECEIVER_SIZE - 1)));
+    REFUSED(BAD_SETTING, eiderwagon_receiver_start(LEND(name), 0, 100, LEND(lent.state)));
+    REFUSED(BAD_SETTING, eiderwagon_receiver_start(LEND(name), 5, 0, LEND(lent.state)));
+    REFUSED(BAD_SETTING, eiderwagon_receiver_start(LEND(name), 5, 65535, LEND(lent.state)));
+
+    DONE(eiderwagon_receiver_start(LEND(name), 5, 100, LEND(lent.state)));
+    REFUSED(OUTPUT_SHORT, eiderwagon_receiver_take(STATE(EIDERWAGON_RECEIVER_SIZE - 1), zeros, 0, WORDS(TAKE)));
+    REFUSED(OUTPUT_SHORT, eiderwagon_receiver_take(STATE(EIDERWAGON_RECEIVER_SIZE), zeros, 0, FEWER(TAKE)));
+    REFUSED(DATAGRAM_SHORT, eiderwagon_receiver_take(LEND(lent.state), zeros, 0, WORDS(TAKE)));
+    REFUSED(SESSION_DIFFERS, eiderwagon_receiver_take(LEND(lent.state), other.bytes, other.size, WORDS(TAKE)));
+    REFUSED(END_BELOW_EXPECTED,
+            eiderwagon_receiver_take(LEND(lent.state), end_at_four.bytes, end_at_four.size, WORDS(TAKE)));
+
+    DONE(eiderwagon_receiver_take(LEND(lent.state), end_at_five.bytes, end_at_five.size, WORDS(TAKE)));
+    REFUSED(SESSION_ENDED,
+            eiderwagon_receiver_take(LEND(lent.state), end_at_five.bytes, end_at_five.size, WORDS(TAKE)));
+}
+
+static void refuse_packets(void) {
+    REFUSED(OUTPUT_SHORT, eiderwagon_soup_read(TEXT("\0\1H"), EIDERWAGON_SOUP_FROM_SERVER, FEWER(SOUP_READ)));
+    REFUSED(LENGTH_ZERO, eiderwagon_soup_read(zeros, 2, EIDERWAGON_SOUP_FROM_SERVER, WORDS(SOUP_READ)));
+    REFUSED(PAYLOAD_LONG, eiderwagon_soup_read(TEXT("\x10\2"), EIDERWAGON_SOUP_FROM_SERVER, WORDS(SOUP_READ)));
+    REFUSED(LETTER_NOT_SENT, eiderwagon_soup_read(TEXT("\0\1H"), EIDERWAGON_SOUP_FROM_CLIENT, WORDS(SOUP_READ)));
+    REFUSED(LETTER_NOT_SENT, eiderwagon_soup_read(TEXT("\0\1H"), 255, WORDS(SOUP_READ)));
+    REFUSED(LENGTH_WRONG, eiderwagon_soup_read(TEXT("\0\2H"), EIDERWAGON_SOUP_FROM_SERVER, WORDS(SOUP_READ)));
+    REFUSED(FIELD_BAD, eiderwagon_soup_read(TEXT("\0\2JX"), EIDERWAGON_SOUP_FROM_SERVER, WORDS(SOUP_READ)));
+
+    /* A scan isn't refused by what stopped it: the number stands in its answer. */
+    REFUSED(OUTPUT_SHORT, eiderwagon_soup_scan(TEXT("\0\1H"), EIDERWAGON_SOUP_FROM_SERVER, FEWER(SCAN)));
+    DONE(eiderwagon_soup_scan(TEXT("\0\1H\0\2JX"), EIDERWAGON_SOUP_FROM_SERVER, WORDS(SCAN)));
+    CHECK(LENT(SCAN_COUNT) == 1 && LENT(SCAN_SIZE) == 3 && LENT(SCAN_REFUSAL) == EIDERWAGON_REFUSED_FIELD_BAD);
+}
+
+/* A writer of bytes, and one of a packet that has none: each lacks words, then an output, then takes too many bytes. */
+typedef uint32_t (*PayloadWriter)(const uint8_t *, size_t, uint8_t *, size_t, uint64_t *, size_t);
+typedef uint32_t (*BareWriter)(uint8_t *, size_t, uint64_t *, size_t);
+
+static void refuse_payload(PayloadWriter write) {
+    REFUSED(OUTPUT_SHORT, write(zeros, 4097, LEND(lent.out), FEWER(WRITE)));
+    REFUSED(OUTPUT_SHORT, write(zeros, 4096, OUT(EIDERWAGON_LARGEST_PACKET - 1), WORDS(WRITE)));
+    REFUSED(PAYLOAD_LONG, write(zeros, 4097, OUT(0), WORDS(WRITE)));
+}
+
+static void refuse_bare(BareWriter write) {
+    REFUSED(OUTPUT_SHORT, write(OUT(3), FEWER(WRITE)));
+    REFUSED(OUTPUT_SHORT, write(OUT(2), WORDS(WRITE)));
+}
+
+static void refuse_written_packets(void) {
+    refuse_payload(eiderwagon_soup_write_debug);
+    refuse_payload(eiderwagon_soup_write_sequenced);
+    refuse_payload(eiderwagon_soup_write_unsequenced);
+    refuse_bare(eiderwagon_soup_write_server_heartbeat);
+    refuse_bare(eiderwagon_soup_write_end);
+    refuse_bare(eiderwagon_soup_write_client_heartbeat);
+    refuse_bare(eiderwagon_soup_write_logout);
+
+    REFUSED(OUTPUT_SHORT, eiderwagon_soup_write_accepted(name, 9, 0, LEND(lent.out), WORDS(WRITE)));
+    REFUSED(OUTPUT_SHORT, eiderwagon_soup_write_accepted(LEND(name), 0, LEND(lent.out), FEWER(WRITE)));
+    REFUSED(OUTPUT_SHORT, eiderwagon_soup_write_accepted(LEND(name), 1, OUT(32), WORDS(WRITE)));
+    REFUSED(FIELD_NOT_WRITTEN, eiderwagon_soup_write_accepted(LEND(name), 0, OUT(32), WORDS(WRITE)));
+    REFUSED(FIELD_NOT_WRITTEN, eiderwagon_soup_write_accepted(TEXT(any_session), 1, OUT(32), WORDS(WRITE)));
+
+    REFUSED(OUTPUT_SHORT, eiderwagon_soup_write_rejected('X', LEND(lent.out), FEWER(WRITE)));
+    REFUSED(OUTPUT_SHORT, eiderwagon_soup_write_rejected('A', OUT(3), WORDS(WRITE)));
+    REFUSED(FIELD_NOT_WRITTEN, eiderwagon_soup_write_rejected('X', OUT(3), WORDS(WRITE)));
+
+    REFUSED(OUTPUT_SHORT,
+            eiderwagon_soup_write_login(TEXT("clerk"), TEXT("desk5     "), LEND(name), 1,
+                                        LEND(lent.out), WORDS(WRITE)));
+    REFUSED(OUTPUT_SHORT,
+            eiderwagon_soup_write_login(TEXT("clerk "), TEXT("desk5    "), LEND(name), 1,
+                                        LEND(lent.out), WORDS(WRITE)));
+    REFUSED(OUTPUT_SHORT,
+            eiderwagon_soup_write_login(TEXT("clerk "), TEXT("desk5     "), name, 9, 1, LEND(lent.out), WORDS(WRITE)));
+    REFUSED(OUTPUT_SHORT,
+            eiderwagon_soup_write_login(TEXT("clerk "), TEXT("desk5     "), LEND(name), 1,
+                                        LEND(lent.out), FEWER(WRITE)));
+    REFUSED(OUTPUT_SHORT,
+            eiderwagon_soup_write_login(TEXT("clerk "), TEXT("desk5     "), LEND(name), 1, OUT(48), WORDS(WRITE)));
+    REFUSED(FIELD_NOT_WRITTEN,
+            eiderwagon_soup_write_login(TEXT("      "), TEXT("desk5     "), LEND(name), 1, OUT(48), WORDS(WRITE)));
+    REFUSED(FIELD_NOT_WRITTEN,
+            eiderwagon_soup_write_login(TEXT("clerk "), zeros, 10, LEND(name), 1, OUT(48), WORDS(WRITE)));
+}
+
+/* One step of the server, or the client, that is kept in lent.state. */
+#define SERVER_STEP(stream) \
+    eiderwagon_server_step(STATE(EIDERWAGON_SERVER_SIZE), TEXT(accounts), TEXT(stream), WORDS(SERVER_STEP))
+#define CLIENT_STEP(stream) eiderwagon_client_step(STATE(EIDERWAGON_CLIENT_SIZE), TEXT(stream), WORDS(SERVER_STEP))
+
+#define LOGIN "\0\x2F" "Lclerk desk5               " "                   1"
+#define ACCEPTED "\0\x1F" "AREADROOM01" "18446744073709551615"
+
+static void refuse_at_a_server(void) {
+    REFUSED(OUTPUT_SHORT, eiderwagon_server_start(name, 9, 0, STATE(EIDERWAGON_SERVER_SIZE)));
+    REFUSED(OUTPUT_SHORT, eiderwagon_server_start(LEND(name), 0, STATE(EIDERWAGON_SERVER_SIZE - 1)));
+    REFUSED(BAD_SETTING, eiderwagon_server_start(LEND(name), UINT64_MAX, LEND(lent.state)));
+    REFUSED(BAD_SETTING, eiderwagon_server_start(TEXT(any_session), 0, LEND(lent.state)));
+
+    DONE(eiderwagon_server_start(LEND(name), 0, LEND(lent.state)));
+    REFUSED(OUTPUT_SHORT,
+            eiderwagon_server_step(STATE(EIDERWAGON_SERVER_SIZE - 1), TEXT(accounts), zeros, 2, WORDS(SERVER_STEP)));
+    REFUSED(OUTPUT_SHORT,
+            eiderwagon_server_step(STATE(EIDERWAGON_SERVER_SIZE), TEXT(accounts), zeros, 2, FEWER(SERVER_STEP)));
+    REFUSED(BAD_SETTING, eiderwagon_server_step(LEND(lent.state), zeros, 1025 * EIDERWAGON_ACCOUNT_SIZE, zeros, 0,
+                                                WORDS(SERVER_STEP)));
+    REFUSED(LENGTH_ZERO, SERVER_STEP("\0\0"));
+    REFUSED(PACKET_NOT_TAKEN, SERVER_STEP("\0\1U"));
+    DONE(SERVER_STEP(LOGIN));
+    CHECK(LENT(SERVER_STEP_ANSWER) == EIDERWAGON_SESSION_ACCEPTED);
+    REFUSED(PACKET_NOT_TAKEN, SERVER_STEP(LOGIN));
+    DONE(SERVER_STEP("\0\1O"));
+    REFUSED(STATE_CLOSED, SERVER_STEP("\0\1+"));
+}
+
+static void refuse_at_a_client(void) {
+    REFUSED(OUTPUT_SHORT, eiderwagon_client_start(name, 9, 1, STATE(EIDERWAGON_CLIENT_SIZE)));
+    REFUSED(OUTPUT_SHORT, eiderwagon_client_start(LEND(name), 1, STATE(EIDERWAGON_CLIENT_SIZE - 1)));
+    REFUSED(BAD_SETTING, eiderwagon_client_start(zeros, 10, 1, LEND(lent.state)));
+
+    DONE(eiderwagon_client_start(LEND(name), 1, LEND(lent.state)));
+    REFUSED(OUTPUT_SHORT, eiderwagon_client_step(STATE(EIDERWAGON_CLIENT_SIZE - 1), zeros, 2, WORDS(CLIENT_STEP)));
+    REFUSED(OUTPUT_SHORT, eiderwagon_client_step(STATE(EIDERWAGON_CLIENT_SIZE), zeros, 2, FEWER(CLIENT_STEP)));
+    REFUSED(LENGTH_ZERO, CLIENT_STEP("\0\0"));
+    REFUSED(PACKET_NOT_TAKEN, CLIENT_STEP("\0\1S"));
+    REFUSED(LOGIN_NOT_ASKED, CLIENT_STEP(ACCEPTED));
+
+    DONE(eiderwagon_client_start(LEND(name), 0, LEND(lent.state)));
+    DONE(CLIENT_STEP(ACCEPTED));
+    REFUSED(NUMBERS_USED_UP, CLIENT_STEP("\0\1S"));
+    DONE(CLIENT_STEP("\0\1Z"));
+    REFUSED(STATE_CLOSED, CLIENT_STEP("\0\1H"));
+}
+
+static void refuse_captures(void) {
+    REFUSED(OUTPUT_SHORT, eiderwagon_capture_start(STATE(EIDERWAGON_CAPTURE_SIZE - 1)));
+    DONE(eiderwagon_capture_start(LEND(lent.state)));
+    REFUSED(OUTPUT_SHORT, eiderwagon_capture_feed(STATE(EIDERWAGON_CAPTURE_SIZE - 1), TEXT("bad"), WORDS(FEED)));
+    REFUSED(OUTPUT_SHORT, eiderwagon_capture_feed(LEND(lent.state), TEXT("bad"), FEWER(FEED)));
+    REFUSED(OUTPUT_SHORT, eiderwagon_capture_finish(STATE(EIDERWAGON_CAPTURE_SIZE - 1), TEXT("bad")));
+    REFUSED(OUTPUT_SHORT, eiderwagon_capture_write(STATE(EIDERWAGON_CAPTURE_SIZE - 1), LEND(lent.out), WORDS(WRITE)));
+    REFUSED(OUTPUT_SHORT, eiderwagon_capture_write(LEND(lent.state), LEND(lent.out), FEWER(WRITE)));
+    REFUSED(OUTPUT_SHORT, eiderwagon_capture_write(LEND(lent.state), OUT(16), WORDS(WRITE)));
+    REFUSED(OUTPUT_SHORT, eiderwagon_capture_report(TEXT("bad"), LEND(lent.out), FEWER(WRITE)));
+    REFUSED(OUTPUT_SHORT, eiderwagon_capture_report(TEXT("bad"), OUT(16), WORDS(WRITE)));
+}
+
+/* ---- 5. What isn't named stays ----------------------------------------------------------------------------------- */
+
+static int untouched(const void *place, size_t size) {
+    const uint8_t *bytes = place;
+    for (size_t at = 0; at < size; at++) {
+        if (bytes[at] != 0xA5) {
+            return 0;
+        }
+    }
+    return 1;
+}
+
+/* A writer that is lent more than it needs: it writes so many bytes, and one word. */
+#define WRITES(written, call)                                                           \
+    do {                                                                                \
+        memset(&lent, 0xA5, sizeof lent);                                               \
+        DONE(call);                                                                     \
+        CHECK(LENT(WRITE_SIZE) == (written));                                           \
+        CHECK(untouched(&LENT(WRITE_WORDS), sizeof lent.words - sizeof lent.words[0])); \
+        CHECK(untouched(lent.out + (written), sizeof lent.out - (written)));            \
+    } while (0)
+
+/* A call that is lent a state of EIDERWAGON_CAPTURE_SIZE bytes: it uses the first `size`. */
+#define USES(size, call)                                                   \
+    do {                                                                   \
+        DONE(call);                                                        \
+        CHECK(untouched(lent.state + (size), sizeof lent.state - (size))); \
+        CHECK(untouched(lent.out, sizeof lent.out));                       \
+    } while (0)
+
+static void write_no_more_than_is_said(void) {
+    const uint16_t lengths[] = {3};
+    WRITES(25, eiderwagon_mold_write_data(LEND(name), 1, LEND(lengths), TEXT("one"), LEND(lent.out), LEND(lent.words)));
+    WRITES(20, eiderwagon_mold_write_heartbeat(LEND(name), 1, LEND(lent.out), LEND(lent.words)));
+    WRITES(20, eiderwagon_mold_write_end(LEND(name), 1, LEND(lent.out), LEND(lent.words)));
+    WRITES(20, eiderwagon_mold_write_request(LEND(name), 1, 1, LEND(lent.out), LEND(lent.words)));
+    WRITES(8, eiderwagon_soup_write_debug(TEXT("hello"), LEND(lent.out), LEND(lent.words)));
+    WRITES(33, eiderwagon_soup_write_accepted(LEND(name), 1, LEND(lent.out), LEND(lent.words)));
+    WRITES(4, eiderwagon_soup_write_rejected('S', LEND(lent.out), LEND(lent.words)));
+    WRITES(8, eiderwagon_soup_write_sequenced(TEXT("hello"), LEND(lent.out), LEND(lent.words)));
+    WRITES(3, eiderwagon_soup_write_server_heartbeat(LEND(lent.out), LEND(lent.words)));
+    WRITES(3, eiderwagon_soup_write_end(LEND(lent.out), LEND(lent.words)));
+    WRITES(49,
+           eiderwagon_soup_write_login(TEXT("clerk "), TEXT("desk5     "), LEND(name), 1,
+                                       LEND(lent.out), LEND(lent.words)));
+    WRITES(8, eiderwagon_soup_write_unsequenced(TEXT("hello"), LEND(lent.out), LEND(lent.words)));
+    WRITES(3, eiderwagon_soup_write_client_heartbeat(LEND(lent.out), LEND(lent.words)));
+    WRITES(3, eiderwagon_soup_write_logout(LEND(lent.out), LEND(lent.words)));
+    WRITES(17, eiderwagon_capture_report(TEXT("bad"), LEND(lent.out), LEND(lent.words)));
+}
+
+static void use_no_more_of_a_state_than_its_size(void) {
+    const Bytes end = end_of_session(5);
+    memset(&lent, 0xA5, sizeof lent);
+    USES(EIDERWAGON_RECEIVER_SIZE, eiderwagon_receiver_start(LEND(name), 5, 100, LEND(lent.state)));
+    USES(EIDERWAGON_RECEIVER_SIZE, eiderwagon_receiver_take(LEND(lent.state), end.bytes, end.size, LEND(lent.words)));
+    CHECK(LENT(TAKE_ANSWER) == EIDERWAGON_RECEIVER_ENDED && LENT(TAKE_FIRST) == 0);
+    CHECK(LENT(TAKE_COUNT) == 0 && LENT(TAKE_SKIPPED) == 0);
+    CHECK(untouched(&LENT(TAKE_WORDS), sizeof lent.words - EIDERWAGON_TAKE_WORDS * sizeof lent.words[0]));
+
+    memset(&lent, 0xA5, sizeof lent);
+    USES(EIDERWAGON_SERVER_SIZE, eiderwagon_server_start(LEND(name), 0, LEND(lent.state)));
+    USES(EIDERWAGON_SERVER_SIZE,
+         eiderwagon_server_step(LEND(lent.state), TEXT(accounts), TEXT(LOGIN), LEND(lent.words)));
+    CHECK(LENT(SERVER_STEP_ANSWER) == EIDERWAGON_SESSION_ACCEPTED && LENT(SERVER_STEP_NUMBER) == 1);
+    CHECK(LENT(SERVER_STEP_LENGTH) == 0 && LENT(SERVER_STEP_WORDS - 1) == 0);
+
+    memset(&lent, 0xA5, sizeof lent);
+    USES(EIDERWAGON_CLIENT_SIZE, eiderwagon_client_start(LEND(name), 0, LEND(lent.state)));
+    USES(EIDERWAGON_CLIENT_SIZE, eiderwagon_client_step(LEND(lent.state), TEXT(ACCEPTED), LEND(lent.words)));
+    CHECK(LENT(CLIENT_STEP_ANSWER) == EIDERWAGON_SESSION_ACCEPTED && LENT(CLIENT_STEP_NUMBER) == UINT64_MAX);
+}
+
+/* Each part of a state stands where the header says. */
+static void keep_parts_in_their_places(void) {
+    const Bytes capture = sample_capture();
+    memset(&lent, 0xA5, sizeof lent);
+
+    DONE(eiderwagon_receiver_start(LEND(name), 258, 772, LEND(lent.state)));
+    CHECK(memcmp(lent.state + EIDERWAGON_RECEIVER_SESSION_AT, name, sizeof name) == 0);
+    CHECK(number_in(lent.state, EIDERWAGON_RECEIVER_NEXT_AT, 8) == 258);
+    CHECK(number_in(lent.state, EIDERWAGON_RECEIVER_LIMIT_AT, 2) == 772);
+    CHECK(lent.state[EIDERWAGON_RECEIVER_ENDED_AT] == 0);
+
+    DONE(eiderwagon_server_start(LEND(name), 258, LEND(lent.state)));
+    CHECK(memcmp(lent.state + EIDERWAGON_SERVER_SESSION_AT, name, sizeof name) == 0);
+    CHECK(number_in(lent.state, EIDERWAGON_SERVER_LAST_AT, 8) == 258);
+    CHECK(lent.state[EIDERWAGON_SERVER_STATE_AT] == EIDERWAGON_SERVER_WAITING);
+    DONE(SERVER_STEP(LOGIN));
+    CHECK(lent.state[EIDERWAGON_SERVER_STATE_AT] == EIDERWAGON_SERVER_IN);
+
+    DONE(eiderwagon_client_start(TEXT(any_session), 0, LEND(lent.state)));
+    CHECK(number_in(lent.state, EIDERWAGON_CLIENT_NUMBER_AT, 8) == 0);
+    CHECK(lent.state[EIDERWAGON_CLIENT_STATE_AT] == EIDERWAGON_CLIENT_ASKED);
+    DONE(CLIENT_STEP(ACCEPTED));
+    CHECK(memcmp(lent.state + EIDERWAGON_CLIENT_SESSION_AT, name, sizeof name) == 0);
+    CHECK(number_in(lent.state, EIDERWAGON_CLIENT_NUMBER_AT, 8) == UINT64_MAX);
+    CHECK(lent.state[EIDERWAGON_CLIENT_STATE_AT] == EIDERWAGON_CLIENT_IN);
+
+    DONE(eiderwagon_capture_start(LEND(lent.state)));
+    DONE(eiderwagon_capture_feed(LEND(lent.state), capture.bytes, capture.size, WORDS(FEED)));
+    CHECK(number_in(lent.state, EIDERWAGON_CAPTURE_RECEIVER_AT + EIDERWAGON_RECEIVER_NEXT_AT, 8) == 6);
+    CHECK(lent.state[EIDERWAGON_CAPTURE_STAGE_AT] == EIDERWAGON_CAPTURE_RECORDS);
+    CHECK(number_in(lent.state, EIDERWAGON_CAPTURE_RECORDS_AT, 8) == 9);
+    CHECK(number_in(lent.state, EIDERWAGON_CAPTURE_DELIVERED_AT, 8) == 5);
+    CHECK(number_in(lent.state, EIDERWAGON_CAPTURE_OLD_AT, 8) == 1);
+    CHECK(number_in(lent.state, EIDERWAGON_CAPTURE_QUIET_AT, 8) == 1);
+    CHECK(number_in(lent.state, EIDERWAGON_CAPTURE_ASKED_AT, 8) == 2);
+    CHECK(number_in(lent.state, EIDERWAGON_CAPTURE_REFUSED_AT, 8) == 1);
+}
+
+/* Just as many bytes as the header says are enough. */
+static void take_sizes_as_they_are_said(void) {
+    static const char login[] = "clerk desk5     ";
+    memset(&lent, 0xA5, sizeof lent);
+    CHECK(sizeof login - 1 == EIDERWAGON_ACCOUNT_SIZE);
+    DONE(eiderwagon_soup_write_login((const uint8_t *)login, EIDERWAGON_USERNAME_SIZE,
+                                     (const uint8_t *)login + EIDERWAGON_USERNAME_SIZE, EIDERWAGON_PASSWORD_SIZE,
+                                     LEND(name), 1, LEND(lent.out), WORDS(WRITE)));
+    REFUSED(OUTPUT_SHORT,
+            eiderwagon_soup_write_login((const uint8_t *)login, EIDERWAGON_USERNAME_SIZE,
+                                        (const uint8_t *)login + EIDERWAGON_USERNAME_SIZE, EIDERWAGON_PASSWORD_SIZE - 1,
+                                        LEND(name), 1, LEND(lent.out), WORDS(WRITE)));
+    DONE(eiderwagon_soup_write_debug(zeros, 4096, OUT(EIDERWAGON_LARGEST_PACKET), WORDS(WRITE)));
+    CHECK(LENT(WRITE_SIZE) == EIDERWAGON_LARGEST_PACKET);
+
+    /* Of the table, bytes left over are no record. */
+    DONE(eiderwagon_server_start(LEND(name), 0, LEND(lent.state)));
+    DONE(eiderwagon_server_step(LEND(lent.state), zeros, 1025 * EIDERWAGON_ACCOUNT_SIZE - 1, zeros, 0,
+                                WORDS(SERVER_STEP)));
+    CHECK(LENT(SERVER_STEP_ANSWER) == EIDERWAGON_SESSION_NEED_MORE);
+
+    DONE(eiderwagon_soup_read(TEXT("\0\2JS"), EIDERWAGON_SOUP_FROM_SERVER, WORDS(SOUP_READ)));
+    CHECK(LENT(SOUP_READ_LETTER) == 'J' && LENT(SOUP_READ_SIZE) == 4 && LENT(SOUP_READ_REASON) == 'S');
+
+    /* The longest report: each count, and the next number, at 2^64 - 1. */
+    memset(lent.state, 0xFF, sizeof lent.state);
+    lent.state[EIDERWAGON_CAPTURE_STAGE_AT] = EIDERWAGON_CAPTURE_DONE;
+    DONE(eiderwagon_capture_write(LEND(lent.state), OUT(EIDERWAGON_LARGEST_REPORT), WORDS(WRITE)));
+    CHECK(LENT(WRITE_SIZE) <= EIDERWAGON_LARGEST_REPORT);
+}
+
+/* Bytes of zero are a state too: a closed session, a capture whose settings are refused, a cursor with no messages
+ * left, and a receiver, not ended, of a name of ten zero bytes. */
+static void take_bytes_of_zero_as_states(void) {
+    const Bytes one = data(1, 1, (const uint16_t[]){3}, "one");
+    const uint8_t end_of_zeros[EIDERWAGON_MOLD_HEADER_SIZE] = {[17] = 1, [18] = 0xFF, [19] = 0xFF};
+    memset(&lent, 0, sizeof lent);
+    REFUSED(STATE_CLOSED, SERVER_STEP("\0\1+"));
+    REFUSED(STATE_CLOSED, CLIENT_STEP("\0\1+"));
+
+    DONE(eiderwagon_capture_feed(LEND(lent.state), TEXT("more"), LEND(lent.words)));
+    CHECK(LENT(FEED_USED) == 4 && LENT(FEED_OVER) == 1);
+    DONE(eiderwagon_capture_write(LEND(lent.state), LEND(lent.out), LEND(lent.words)));
+    CHECK(same(lent.out, LENT(WRITE_SIZE), "settings=refused\n"));
+
+    DONE(eiderwagon_mold_next(LEND(lent.cursor), one.bytes, one.size, LEND(lent.words)));
+    CHECK(LENT(NEXT_FOUND) == 0 && LENT(NEXT_OFFSET) == 0 && LENT(NEXT_LENGTH) == 0);
+
+    memset(&lent, 0, sizeof lent);
+    REFUSED(SESSION_DIFFERS, eiderwagon_receiver_take(LEND(lent.state), one.bytes, one.size, LEND(lent.words)));
+    DONE(eiderwagon_receiver_take(LEND(lent.state), LEND(end_of_zeros), LEND(lent.words)));
+    CHECK(LENT(TAKE_ANSWER) == EIDERWAGON_RECEIVER_ASK);
+}
+
+/* A refused start leaves what was there: a host that starts a state anew clears it first. */
+static void leave_the_old_state_at_a_refused_start(void) {
+    const Bytes one = data(1, 1, (const uint16_t[]){3}, "one");
+    memset(&lent, 0, sizeof lent);
+    DONE(eiderwagon_receiver_start(LEND(name), 1, 100, LEND(lent.state)));
+    REFUSED(BAD_SETTING, eiderwagon_receiver_start(LEND(name), 1, 0, LEND(lent.state)));
+    DONE(eiderwagon_receiver_take(LEND(lent.state), one.bytes, one.size, LEND(lent.words)));
+    CHECK(LENT(TAKE_ANSWER) == EIDERWAGON_RECEIVER_DELIVER);
+
+    memset(lent.state, 0, sizeof lent.state);
+    REFUSED(BAD_SETTING, eiderwagon_receiver_start(LEND(name), 1, 0, LEND(lent.state)));
+    REFUSED(SESSION_DIFFERS, eiderwagon_receiver_take(LEND(lent.state), one.bytes, one.size, LEND(lent.words)));
+}
+
+/* Where the datagram ends before the skipped messages do, a walk's cursor stands behind the last whole one. */
+static void walk_past_the_end(void) {
+    const Bytes one_two = data(1, 2, (const uint16_t[]){3, 3}, "onetwo");
+    for (size_t cut = 0; cut <= 1; cut++) {
+        size_t size = one_two.size - cut;
+        DONE(eiderwagon_receiver_walk(one_two.bytes, size, 3, 5, LEND(lent.cursor)));
+        CHECK(number_in(lent.cursor, EIDERWAGON_CURSOR_PLACE_AT, 8) == (cut ? 25 : 30));
+        CHECK(number_in(lent.cursor, EIDERWAGON_CURSOR_LEFT_AT, 2) == (cut ? 7 : 6));
+        memcpy(&before, &lent, sizeof lent);
+        DONE(eiderwagon_mold_next(LEND(lent.cursor), one_two.bytes, size, WORDS(NEXT)));
+        CHECK(LENT(NEXT_FOUND) == 0 && memcmp(before.cursor, lent.cursor, sizeof lent.cursor) == 0);
+    }
+    DONE(eiderwagon_receiver_walk(one_two.bytes, one_two.size, 65535, 1, LEND(lent.cursor)));
+    CHECK(number_in(lent.cursor, EIDERWAGON_CURSOR_PLACE_AT, 8) == 20);
+    CHECK(number_in(lent.cursor, EIDERWAGON_CURSOR_LEFT_AT, 2) == 0);
+}
+
+/* The receiver in lent.state is ended, its name ten spaces, its next number and its limit 1. */
+static void has_no_receiver(void) {
+    const uint8_t *receiver = lent.state + EIDERWAGON_CAPTURE_RECEIVER_AT;
+    CHECK(same(receiver + EIDERWAGON_RECEIVER_SESSION_AT, EIDERWAGON_SESSION_SIZE, any_session));
+    CHECK(number_in(receiver, EIDERWAGON_RECEIVER_NEXT_AT, 8) == 1);
+    CHECK(number_in(receiver, EIDERWAGON_RECEIVER_LIMIT_AT, 2) == 1);
+    CHECK(receiver[EIDERWAGON_RECEIVER_ENDED_AT] == 1);
+}
+
+/* Once the reading in lent.state is over a feed uses all of its bytes, and changes no byte of it. */
+static void uses_all(void) {
+    for (size_t size = 0; size <= 70000; size += 17500) {
+        static const uint8_t many[70000];
+        memcpy(&before, &lent, sizeof lent);
+        DONE(eiderwagon_capture_feed(LEND(lent.state), many, size, WORDS(FEED)));
+        CHECK(LENT(FEED_USED) == size && LENT(FEED_OVER) == 1);
+        CHECK(memcmp(before.state, lent.state, sizeof lent.state) == 0);
+    }
+}
+
+static void end_a_capture(void) {
+    static const char good[] = "session=READROOM01\nnext=1\nlimit=100\n";
+    uint8_t *records = lent.state + EIDERWAGON_CAPTURE_RECORDS_AT;
+
+    /* By settings that are bad, in a feed and at the end. */
+    memset(&lent, 0xA5, sizeof lent);
+    DONE(eiderwagon_capture_start(LEND(lent.state)));
+    has_no_receiver();
+    CHECK(lent.state[EIDERWAGON_CAPTURE_STAGE_AT] == EIDERWAGON_CAPTURE_SETTINGS);
+    DONE(eiderwagon_capture_feed(LEND(lent.state), zeros, 56, WORDS(FEED)));
+    CHECK(LENT(FEED_USED) == 0 && LENT(FEED_OVER) == 0);
+    DONE(eiderwagon_capture_feed(LEND(lent.state), zeros, 57, WORDS(FEED)));
+    CHECK(LENT(FEED_USED) == 57 && LENT(FEED_OVER) == 1);
+    has_no_receiver();
+    CHECK(lent.state[EIDERWAGON_CAPTURE_STAGE_AT] == EIDERWAGON_CAPTURE_BAD);
+    uses_all();
+    DONE(eiderwagon_capture_start(LEND(lent.state)));
+    DONE(eiderwagon_capture_finish(LEND(lent.state), zeros, 0));
+    has_no_receiver();
+    CHECK(lent.state[EIDERWAGON_CAPTURE_STAGE_AT] == EIDERWAGON_CAPTURE_BAD);
+    uses_all();
+
+    /* By the end of a good one. */
+    DONE(eiderwagon_capture_start(LEND(lent.state)));
+    DONE(eiderwagon_capture_finish(LEND(lent.state), TEXT(good)));
+    CHECK(memcmp(lent.state + EIDERWAGON_CAPTURE_RECEIVER_AT + EIDERWAGON_RECEIVER_SESSION_AT, name, 10) == 0);
+    CHECK(lent.state[EIDERWAGON_CAPTURE_STAGE_AT] == EIDERWAGON_CAPTURE_DONE);
+    uses_all();
+
+    /* After 2^32 - 1 records nothing is used any more, and it isn't over. */
+    lent.state[EIDERWAGON_CAPTURE_STAGE_AT] = EIDERWAGON_CAPTURE_RECORDS;
+    memset(records, 0, 8);
+    records[4] = records[5] = records[6] = records[7] = 0xFF;
+    DONE(eiderwagon_capture_feed(LEND(lent.state), zeros, 2, WORDS(FEED)));
+    CHECK(LENT(FEED_USED) == 0 && LENT(FEED_OVER) == 0);
+    records[7] = 0xFE;
+    DONE(eiderwagon_capture_feed(LEND(lent.state), zeros, 4, WORDS(FEED)));
+    CHECK(LENT(FEED_USED) == 2 && LENT(FEED_OVER) == 0);
+    CHECK(number_in(lent.state, EIDERWAGON_CAPTURE_RECORDS_AT, 8) == UINT32_MAX);
+    CHECK(number_in(lent.state, EIDERWAGON_CAPTURE_REFUSED_AT, 8) == 1);
+}
+
+/* ---- 6. No elements, at NULL ------------------------------------------------------------------------------------- */
+
+/* A buffer with no elements. Each function gets it in the place of each of its buffers, and of all of them. */
+#define NONE NULL, 0
+
+static void lend_no_bytes_to_datagrams(void) {
+    const Bytes one = data(1, 1, (const uint16_t[]){3}, "one");
+    const uint16_t three[] = {3};
+    const uint16_t nothing[] = {0};
+    memset(&lent, 0xA5, sizeof lent);
+
+    REFUSED(DATAGRAM_SHORT, eiderwagon_mold_read(NONE, WORDS(MOLD_READ)));
+    REFUSED(OUTPUT_SHORT, eiderwagon_mold_read(one.bytes, one.size, NONE));
+    REFUSED(OUTPUT_SHORT, eiderwagon_mold_read(NONE, NONE));
+
+    DONE(eiderwagon_mold_locate(NONE, 0, WORDS(LOCATE)));
+    CHECK(LENT(LOCATE_FOUND) == 0 && LENT(LOCATE_OFFSET) == 0 && LENT(LOCATE_LENGTH) == 0);
+    REFUSED(OUTPUT_SHORT, eiderwagon_mold_locate(one.bytes, one.size, 0, NONE));
+    REFUSED(OUTPUT_SHORT, eiderwagon_mold_locate(NONE, 0, NONE));
+
+    DONE(eiderwagon_mold_walk(NONE, LEND(lent.cursor)));
+    CHECK(number_in(lent.cursor, EIDERWAGON_CURSOR_PLACE_AT, 8) == 20);
+    CHECK(number_in(lent.cursor, EIDERWAGON_CURSOR_LEFT_AT, 2) == 0);
+    REFUSED(OUTPUT_SHORT, eiderwagon_mold_walk(one.bytes, one.size, NONE));
+    REFUSED(OUTPUT_SHORT, eiderwagon_mold_walk(NONE, NONE));
+
+    DONE(eiderwagon_mold_walk(one.bytes, one.size, LEND(lent.cursor)));
+    REFUSED(OUTPUT_SHORT, eiderwagon_mold_next(NONE, one.bytes, one.size, WORDS(NEXT)));
+    DONE(eiderwagon_mold_next(LEND(lent.cursor), NONE, WORDS(NEXT)));
+    CHECK(LENT(NEXT_FOUND) == 0 && number_in(lent.cursor, EIDERWAGON_CURSOR_LEFT_AT, 2) == 1);
+    REFUSED(OUTPUT_SHORT, eiderwagon_mold_next(LEND(lent.cursor), one.bytes, one.size, NONE));
+    REFUSED(OUTPUT_SHORT, eiderwagon_mold_next(NONE, NONE, NONE));
+
+    REFUSED(OUTPUT_SHORT, eiderwagon_mold_write_data(NONE, 1, LEND(three), TEXT("one"), LEND(lent.out), WORDS(WRITE)));
+    REFUSED(LENGTHS_DIFFER, eiderwagon_mold_write_data(LEND(name), 1, NONE, TEXT("one"), LEND(lent.out), WORDS(WRITE)));
+    REFUSED(LENGTHS_DIFFER, eiderwagon_mold_write_data(LEND(name), 1, LEND(three), NONE, LEND(lent.out), WORDS(WRITE)));
+    DONE(eiderwagon_mold_write_data(LEND(name), 1, LEND(nothing), NONE, LEND(lent.out), WORDS(WRITE)));
+    CHECK(LENT(WRITE_SIZE) == 22);
+    DONE(eiderwagon_mold_write_data(LEND(name), 1, NONE, NONE, LEND(lent.out), WORDS(WRITE)));
+    CHECK(LENT(WRITE_SIZE) == 20);
+    REFUSED(OUTPUT_SHORT, eiderwagon_mold_write_data(LEND(name), 1, LEND(three), TEXT("one"), NONE, WORDS(WRITE)));
+    REFUSED(OUTPUT_SHORT, eiderwagon_mold_write_data(LEND(name), 1, NONE, NONE, NONE, WORDS(WRITE)));
+    REFUSED(OUTPUT_SHORT, eiderwagon_mold_write_data(LEND(name), 1, LEND(three), TEXT("one"), LEND(lent.out), NONE));
+    REFUSED(OUTPUT_SHORT, eiderwagon_mold_write_data(NONE, 1, NONE, NONE, NONE, NONE));
+
+    REFUSED(OUTPUT_SHORT, eiderwagon_mold_write_heartbeat(NONE, 1, LEND(lent.out), WORDS(WRITE)));
+    REFUSED(OUTPUT_SHORT, eiderwagon_mold_write_heartbeat(LEND(name), 1, NONE, WORDS(WRITE)));
+    REFUSED(OUTPUT_SHORT, eiderwagon_mold_write_heartbeat(LEND(name), 1, LEND(lent.out), NONE));
+    REFUSED(OUTPUT_SHORT, eiderwagon_mold_write_heartbeat(NONE, 1, NONE, NONE));
+
+    REFUSED(OUTPUT_SHORT, eiderwagon_mold_write_end(NONE, 1, LEND(lent.out), WORDS(WRITE)));
+    REFUSED(OUTPUT_SHORT, eiderwagon_mold_write_end(LEND(name), 1, NONE, WORDS(WRITE)));
+    REFUSED(OUTPUT_SHORT, eiderwagon_mold_write_end(LEND(name), 1, LEND(lent.out), NONE));
+    REFUSED(OUTPUT_SHORT, eiderwagon_mold_write_end(NONE, 1, NONE, NONE));
+
+    REFUSED(REQUEST_SIZE, eiderwagon_mold_read_request(NONE, WORDS(READ_REQUEST)));
+    REFUSED(OUTPUT_SHORT, eiderwagon_mold_read_request(one.bytes, 20, NONE));
+    REFUSED(OUTPUT_SHORT, eiderwagon_mold_read_request(NONE, NONE));
+
+    REFUSED(OUTPUT_SHORT, eiderwagon_mold_write_request(NONE, 1, 1, LEND(lent.out), WORDS(WRITE)));
+    REFUSED(OUTPUT_SHORT, eiderwagon_mold_write_request(LEND(name), 1, 1, NONE, WORDS(WRITE)));
+    REFUSED(OUTPUT_SHORT, eiderwagon_mold_write_request(LEND(name), 1, 1, LEND(lent.out), NONE));
+    REFUSED(OUTPUT_SHORT, eiderwagon_mold_write_request(NONE, 1, 1, NONE, NONE));
+
+    REFUSED(OUTPUT_SHORT, eiderwagon_receiver_start(NONE, 1, 1, LEND(lent.state)));
+    REFUSED(OUTPUT_SHORT, eiderwagon_receiver_start(LEND(name), 1, 1, NONE));
+    REFUSED(OUTPUT_SHORT, eiderwagon_receiver_start(NONE, 1, 1, NONE));
+
+    DONE(eiderwagon_receiver_start(LEND(name), 1, 1, LEND(lent.state)));
+    REFUSED(OUTPUT_SHORT, eiderwagon_receiver_take(NONE, one.bytes, one.size, WORDS(TAKE)));
+    REFUSED(DATAGRAM_SHORT, eiderwagon_receiver_take(LEND(lent.state), NONE, WORDS(TAKE)));
+    REFUSED(OUTPUT_SHORT, eiderwagon_receiver_take(LEND(lent.state), one.bytes, one.size, NONE));
+    REFUSED(OUTPUT_SHORT, eiderwagon_receiver_take(NONE, NONE, NONE));
+
+    DONE(eiderwagon_receiver_walk(NONE, 2, 1, LEND(lent.cursor)));
+    CHECK(number_in(lent.cursor, EIDERWAGON_CURSOR_PLACE_AT, 8) == 20);
+    CHECK(number_in(lent.cursor, EIDERWAGON_CURSOR_LEFT_AT, 2) == 3);
+    REFUSED(OUTPUT_SHORT, eiderwagon_receiver_walk(one.bytes, one.size, 1, 0, NONE));
+    REFUSED(OUTPUT_SHORT, eiderwagon_receiver_walk(NONE, 1, 0, NONE));
+}
+
+static void write_no_payload(PayloadWriter write) {
+    DONE(write(NONE, LEND(lent.out), WORDS(WRITE)));
+    CHECK(LENT(WRITE_SIZE) == 3);
+    REFUSED(OUTPUT_SHORT, write(NONE, NONE, WORDS(WRITE)));
+    REFUSED(OUTPUT_SHORT, write(TEXT("hello"), NONE, WORDS(WRITE)));
+    REFUSED(OUTPUT_SHORT, write(TEXT("hello"), LEND(lent.out), NONE));
+    REFUSED(OUTPUT_SHORT, write(NONE, NONE, NONE));
+}
+
+static void write_into_nothing(BareWriter write) {
+    REFUSED(OUTPUT_SHORT, write(NONE, WORDS(WRITE)));
+    REFUSED(OUTPUT_SHORT, write(LEND(lent.out), NONE));
+    REFUSED(OUTPUT_SHORT, write(NONE, NONE));
+}
+
+#define USERNAME TEXT("clerk ")
+#define PASSWORD TEXT("desk5     ")
+
+static void lend_no_bytes_to_packets(void) {
+    memset(&lent, 0xA5, sizeof lent);
+
+    DONE(eiderwagon_soup_read(NONE, EIDERWAGON_SOUP_FROM_SERVER, WORDS(SOUP_READ)));
+    CHECK(LENT(SOUP_READ_LETTER) == 0 && LENT(SOUP_READ_SIZE) == 0 && LENT(SOUP_READ_NUMBER) == 0);
+    REFUSED(OUTPUT_SHORT, eiderwagon_soup_read(TEXT("\0\1H"), EIDERWAGON_SOUP_FROM_SERVER, NONE));
+    REFUSED(OUTPUT_SHORT, eiderwagon_soup_read(NONE, EIDERWAGON_SOUP_FROM_SERVER, NONE));
+
+    DONE(eiderwagon_soup_scan(NONE, EIDERWAGON_SOUP_FROM_SERVER, WORDS(SCAN)));
+    CHECK(LENT(SCAN_COUNT) == 0 && LENT(SCAN_SIZE) == 0 && LENT(SCAN_REFUSAL) == 0);
+    REFUSED(OUTPUT_SHORT, eiderwagon_soup_scan(TEXT("\0\1H"), EIDERWAGON_SOUP_FROM_SERVER, NONE));
+    REFUSED(OUTPUT_SHORT, eiderwagon_soup_scan(NONE, EIDERWAGON_SOUP_FROM_SERVER, NONE));
+
+    write_no_payload(eiderwagon_soup_write_debug);
+    write_no_payload(eiderwagon_soup_write_sequenced);
+    write_no_payload(eiderwagon_soup_write_unsequenced);
+    write_into_nothing(eiderwagon_soup_write_server_heartbeat);
+    write_into_nothing(eiderwagon_soup_write_end);
+    write_into_nothing(eiderwagon_soup_write_client_heartbeat);
+    write_into_nothing(eiderwagon_soup_write_logout);
+
+    REFUSED(OUTPUT_SHORT, eiderwagon_soup_write_accepted(NONE, 1, LEND(lent.out), WORDS(WRITE)));
+    REFUSED(OUTPUT_SHORT, eiderwagon_soup_write_accepted(LEND(name), 1, NONE, WORDS(WRITE)));
+    REFUSED(OUTPUT_SHORT, eiderwagon_soup_write_accepted(LEND(name), 1, LEND(lent.out), NONE));
+    REFUSED(OUTPUT_SHORT, eiderwagon_soup_write_accepted(NONE, 1, NONE, NONE));
+
+    REFUSED(OUTPUT_SHORT, eiderwagon_soup_write_rejected('A', NONE, WORDS(WRITE)));
+    REFUSED(OUTPUT_SHORT, eiderwagon_soup_write_rejected('A', LEND(lent.out), NONE));
+    REFUSED(OUTPUT_SHORT, eiderwagon_soup_write_rejected('A', NONE, NONE));
+
+    REFUSED(OUTPUT_SHORT, eiderwagon_soup_write_login(NONE, PASSWORD, LEND(name), 1, LEND(lent.out), WORDS(WRITE)));
+    REFUSED(OUTPUT_SHORT, eiderwagon_soup_write_login(USERNAME, NONE, LEND(name), 1, LEND(lent.out), WORDS(WRITE)));
+    REFUSED(OUTPUT_SHORT, eiderwagon_soup_write_login(USERNAME, PASSWORD, NONE, 1, LEND(lent.out), WORDS(WRITE)));
+    REFUSED(OUTPUT_SHORT, eiderwagon_soup_write_login(USERNAME, PASSWORD, LEND(name), 1, NONE, WORDS(WRITE)));
+    REFUSED(OUTPUT_SHORT, eiderwagon_soup_write_login(USERNAME, PASSWORD, LEND(name), 1, LEND(lent.out), NONE));
+    REFUSED(OUTPUT_SHORT, eiderwagon_soup_write_login(NONE, NONE, NONE, 1, NONE, NONE));
+}
+
+static void lend_no_bytes_to_sessions(void) {
+    memset(&lent, 0xA5, sizeof lent);
+
+    REFUSED(OUTPUT_SHORT, eiderwagon_server_start(NONE, 0, LEND(lent.state)));
+    REFUSED(OUTPUT_SHORT, eiderwagon_server_start(LEND(name), 0, NONE));
+    REFUSED(OUTPUT_SHORT, eiderwagon_server_start(NONE, 0, NONE));
+
+    DONE(eiderwagon_server_start(LEND(name), 0, LEND(lent.state)));
+    REFUSED(OUTPUT_SHORT, eiderwagon_server_step(NONE, TEXT(accounts), TEXT(LOGIN), WORDS(SERVER_STEP)));
+    DONE(eiderwagon_server_step(LEND(lent.state), TEXT(accounts), NONE, WORDS(SERVER_STEP)));
+    CHECK(LENT(SERVER_STEP_ANSWER) == EIDERWAGON_SESSION_NEED_MORE && LENT(SERVER_STEP_SIZE) == 0);
+    DONE(eiderwagon_server_step(LEND(lent.state), NONE, NONE, WORDS(SERVER_STEP)));
+    CHECK(LENT(SERVER_STEP_ANSWER) == EIDERWAGON_SESSION_NEED_MORE && LENT(SERVER_STEP_SIZE) == 0);
+    REFUSED(OUTPUT_SHORT, eiderwagon_server_step(LEND(lent.state), TEXT(accounts), TEXT(LOGIN), NONE));
+    REFUSED(OUTPUT_SHORT, eiderwagon_server_step(NONE, NONE, NONE, NONE));
+    DONE(eiderwagon_server_step(LEND(lent.state), NONE, TEXT(LOGIN), WORDS(SERVER_STEP)));
+    CHECK(LENT(SERVER_STEP_ANSWER) == EIDERWAGON_SESSION_REJECTED && LENT(SERVER_STEP_REASON) == 'A');
+
+    REFUSED(OUTPUT_SHORT, eiderwagon_client_start(NONE, 0, LEND(lent.state)));
+    REFUSED(OUTPUT_SHORT, eiderwagon_client_start(LEND(name), 0, NONE));
+    REFUSED(OUTPUT_SHORT, eiderwagon_client_start(NONE, 0, NONE));
+
+    DONE(eiderwagon_client_start(LEND(name), 0, LEND(lent.state)));
+    REFUSED(OUTPUT_SHORT, eiderwagon_client_step(NONE, TEXT(ACCEPTED), WORDS(CLIENT_STEP)));
+    DONE(eiderwagon_client_step(LEND(lent.state), NONE, WORDS(CLIENT_STEP)));
+    CHECK(LENT(CLIENT_STEP_ANSWER) == EIDERWAGON_SESSION_NEED_MORE && LENT(CLIENT_STEP_SIZE) == 0);
+    REFUSED(OUTPUT_SHORT, eiderwagon_client_step(LEND(lent.state), TEXT(ACCEPTED), NONE));
+    REFUSED(OUTPUT_SHORT, eiderwagon_client_step(NONE, NONE, NONE));
+}
+
+static void lend_no_bytes_to_captures(void) {
+    memset(&lent, 0xA5, sizeof lent);
+
+    REFUSED(OUTPUT_SHORT, eiderwagon_capture_start(NONE));
+
+    DONE(eiderwagon_capture_start(LEND(lent.state)));
+    REFUSED(OUTPUT_SHORT, eiderwagon_capture_feed(NONE, zeros, 57, WORDS(FEED)));
+    DONE(eiderwagon_capture_feed(LEND(lent.state), NONE, WORDS(FEED)));
+    CHECK(LENT(FEED_USED) == 0 && LENT(FEED_OVER) == 0);
+    REFUSED(OUTPUT_SHORT, eiderwagon_capture_feed(LEND(lent.state), zeros, 57, NONE));
+    REFUSED(OUTPUT_SHORT, eiderwagon_capture_feed(NONE, NONE, NONE));
+
+    REFUSED(OUTPUT_SHORT, eiderwagon_capture_finish(NONE, zeros, 57));
+    REFUSED(OUTPUT_SHORT, eiderwagon_capture_finish(NONE, NONE));
+    DONE(eiderwagon_capture_finish(LEND(lent.state), NONE));
+    CHECK(lent.state[EIDERWAGON_CAPTURE_STAGE_AT] == EIDERWAGON_CAPTURE_BAD);
+    /* between records and when it is done, too */
+    for (uint8_t stage = EIDERWAGON_CAPTURE_RECORDS; stage <= EIDERWAGON_CAPTURE_DONE; stage++) {
+        lent.state[EIDERWAGON_CAPTURE_STAGE_AT] = stage;
+        DONE(eiderwagon_capture_feed(LEND(lent.state), NONE, WORDS(FEED)));
+        CHECK(LENT(FEED_USED) == 0 && LENT(FEED_OVER) == (stage == EIDERWAGON_CAPTURE_DONE));
+        DONE(eiderwagon_capture_finish(LEND(lent.state), NONE));
+        CHECK(lent.state[EIDERWAGON_CAPTURE_STAGE_AT] == EIDERWAGON_CAPTURE_DONE);
+        CHECK(number_in(lent.state, EIDERWAGON_CAPTURE_REFUSED_AT, 8) == 0);
+    }
+
+    REFUSED(OUTPUT_SHORT, eiderwagon_capture_write(NONE, LEND(lent.out), WORDS(WRITE)));
+    REFUSED(OUTPUT_SHORT, eiderwagon_capture_write(LEND(lent.state), NONE, WORDS(WRITE)));
+    REFUSED(OUTPUT_SHORT, eiderwagon_capture_write(LEND(lent.state), LEND(lent.out), NONE));
+    REFUSED(OUTPUT_SHORT, eiderwagon_capture_write(NONE, NONE, NONE));
+
+    DONE(eiderwagon_capture_report(NONE, LEND(lent.out), WORDS(WRITE)));
+    CHECK(same(lent.out, LENT(WRITE_SIZE), "settings=refused\n"));
+    REFUSED(OUTPUT_SHORT, eiderwagon_capture_report(TEXT("bad"), NONE, WORDS(WRITE)));
+    REFUSED(OUTPUT_SHORT, eiderwagon_capture_report(TEXT("bad"), LEND(lent.out), NONE));
+    REFUSED(OUTPUT_SHORT, eiderwagon_capture_report(NONE, NONE, NONE));
+}
+
+/* ---- 7. Codes and grounds ---------------------------------------------------------------------------------------- */
+
+static void say_the_grounds(void) {
+    unsigned known = 0;
+    for (uint32_t number = 1; number <= 0xFF; number++) {
+        const char *ground = eiderwagon_ground(number);
+        CHECK(strlen(ground) > 0 && strcmp(ground, eiderwagon_ground(EIDERWAGON_OK)) != 0);
+        known += strcmp(ground, eiderwagon_ground(1)) != 0;
+        /* a place above the number changes neither */
+        CHECK(EIDERWAGON_NUMBER(0xABCDEF00u | number) == number && eiderwagon_ground(0xABCDEF00u | number) == ground);
+    }
+    CHECK(known == 25);
+    CHECK(strcmp(eiderwagon_ground(EIDERWAGON_REFUSED_DATAGRAM_SHORT), "a Mold datagram under 20 bytes") == 0);
+    CHECK(strcmp(eiderwagon_ground(EIDERWAGON_REFUSED_REQUEST_COUNT), "a request whose count is 0 or 65,535") == 0);
+    CHECK(strcmp(eiderwagon_ground(EIDERWAGON_OK), "no refusal") == 0);
+}
+
+int main(void) {
+    follow_a_feed();
+    read_a_datagram();
+
+    log_in_and_out();
+    be_rejected();
+
+    report_captures();
+
+    memset(&lent, 0xA5, sizeof lent);
+    refuse_datagrams();
+    refuse_written_datagrams();
+    refuse_requests();
+    refuse_at_a_receiver();
+    refuse_packets();
+    refuse_written_packets();
+    refuse_at_a_server();
+    refuse_at_a_client();
+    refuse_captures();
+
+    write_no_more_than_is_said();
+    use_no_more_of_a_state_than_its_size();
+    keep_parts_in_their_places();
+    take_sizes_as_they_are_said();
+    take_bytes_of_zero_as_states();
+    leave_the_old_state_at_a_refused_start();
+    walk_past_the_end();
+    end_a_capture();
+
+    lend_no_bytes_to_datagrams();
+    lend_no_bytes_to_packets();
+    lend_no_bytes_to_sessions();
+    lend_no_bytes_to_captures();
+
+    say_the_grounds();
+
+    printf("test.c: %lu checks passed\n", checks);
+    return 0;
+}
