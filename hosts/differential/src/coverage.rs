@@ -59,6 +59,12 @@ capture_write: report | settings=refused | 41 first | 41 last
 capture_report: report | settings=refused | 41 first | 41 last
 ";
 
+/// What was read and written back, by what it was.
+const WRITTEN_BACK: &str = "
+write_back: data | heartbeat | end of session | request | + of the server | + of the client | A | A, leading zeros |
+    J | S | H | Z | L | L, leading zeros | L, unsound | U | R | O
+";
+
 /// How often each outcome of each function was drawn.
 #[derive(Clone, Debug, Default, PartialEq, Eq)]
 pub struct Coverage {
@@ -92,8 +98,17 @@ impl Coverage {
 
 /// The list's functions, each with its outcomes.
 pub fn functions() -> impl Iterator<Item = (&'static str, Vec<&'static str>)> {
+    entries(LIST)
+}
+
+/// The functions, and what is made of several.
+fn all() -> impl Iterator<Item = (&'static str, Vec<&'static str>)> {
+    functions().chain(entries(WRITTEN_BACK))
+}
+
+fn entries(list: &'static str) -> impl Iterator<Item = (&'static str, Vec<&'static str>)> {
     let mut entries: Vec<(&str, Vec<&str>)> = vec![];
-    for line in LIST.lines().filter(|line| !line.is_empty()) {
+    for line in list.lines().filter(|line| !line.is_empty()) {
         let outcomes = match line.split_once(": ") {
             Some((function, outcomes)) => {
                 entries.push((function, vec![]));
@@ -109,14 +124,14 @@ pub fn functions() -> impl Iterator<Item = (&'static str, Vec<&'static str>)> {
 }
 
 fn listed() -> impl Iterator<Item = (&'static str, &'static str)> {
-    functions().flat_map(|(function, outcomes)| {
+    all().flat_map(|(function, outcomes)| {
         outcomes.into_iter().map(move |outcome| (function, outcome))
     })
 }
 
 impl Display for Coverage {
     fn fmt(&self, formatter: &mut Formatter) -> fmt::Result {
-        for (function, outcomes) in functions() {
+        for (function, outcomes) in all() {
             let cells: Vec<String> = outcomes
                 .iter()
                 .map(|outcome| format!("{outcome}: {}", self.times(function, outcome)))
