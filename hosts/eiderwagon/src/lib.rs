@@ -63,3 +63,7 @@ pub mod soup;
 mod header_test;
 
 pub use refusal::Refusal;
+
+/// The name of a session. In MoldUDP64 it is any ten bytes; in SoupBinTCP it is spaces, then
+/// letters or digits.
+pub type Session = [u8; raw::SESSION_SIZE];

@@ -19,13 +19,9 @@
 //! ```
 
 use crate::call::{check, count, field, pointed, sure, unknown, words, written};
-use crate::{raw, Refusal};
+use crate::{raw, Refusal, Session};
 use std::fmt;
 use std::iter::FusedIterator;
-
-/// The name of a session. In MoldUDP64 it is any ten bytes; in SoupBinTCP it is spaces, then
-/// letters or digits.
-pub type Session = [u8; raw::SESSION_SIZE];
 
 /// A datagram that was read: the lent bytes, and what their header says.
 #[derive(Clone, Copy, Debug, PartialEq, Eq)]

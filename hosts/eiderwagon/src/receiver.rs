@@ -28,8 +28,8 @@
 //! ```
 
 use crate::call::{check, count, field, kept_as_bytes, unknown, words};
-use crate::mold::{Messages, Request, Session};
-use crate::{raw, Refusal};
+use crate::mold::{Messages, Request};
+use crate::{raw, Refusal, Session};
 use std::fmt;
 
 /// A receiver of one session. It is plain bytes: a copy goes its own way.

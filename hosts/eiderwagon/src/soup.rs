@@ -23,8 +23,7 @@
 //! ```
 
 use crate::call::{check, field, sure, unknown, words, written};
-use crate::mold::Session;
-use crate::{raw, Refusal};
+use crate::{raw, Refusal, Session};
 use std::fmt;
 
 /// Who sends a stream.

@@ -1,8 +1,7 @@
 use super::Step;
 use crate::call::{check, field, kept_as_bytes, pointed, unknown, words};
-use crate::mold::Session;
 use crate::soup::Reason;
-use crate::{raw, Refusal};
+use crate::{raw, Refusal, Session};
 use std::fmt;
 
 /// The client's end of one connection.

@@ -1,8 +1,7 @@
 use super::{Accounts, Step};
 use crate::call::{check, field, kept_as_bytes, pointed, unknown, words};
-use crate::mold::Session;
 use crate::soup::{Packet, Reason};
-use crate::{raw, Refusal};
+use crate::{raw, Refusal, Session};
 use std::fmt;
 
 /// The server's end of one connection.
