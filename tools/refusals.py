@@ -5,7 +5,7 @@
     tools/refusals.py --check    compares, and exits 1 on a difference
 
 Where OUTPUT_SHORT stands in the table, the definitions say outputShort, the header EIDERWAGON_REFUSED_OUTPUT_SHORT, the
-wrapper REFUSED_OUTPUT_SHORT and OutputShort. A missing row is said, and written by hand.
+wrapper REFUSED_OUTPUT_SHORT and Ground::OutputShort. A missing row is said, and written by hand.
 """
 import re
 import sys
@@ -44,8 +44,8 @@ def wrapped(ground):
 
 def wide(row):
     """A row of the wrapper's enum; a long one takes two lines."""
-    line = f'    {pascal(row[1])} = REFUSED_{row[1]}, "{small(row[2])}";'
-    return line if len(line) <= 100 else line.replace(f'{row[1]}, "', f'{row[1]},\n        "')
+    line = f'    {pascal(row[1])} = {row[0]}, "{small(row[2])}";'
+    return line if len(line) <= 100 else line.replace(', "', ',\n        "', 1)
 
 
 # each place: its file, how a row is found there (its number or its name in a group), and how it is to read
@@ -62,7 +62,7 @@ PLACES = {
         r"^    /// .*\n    REFUSED_\w+: u32 = (?P<number>\d+);$",
         lambda row: f"    /// {row[2]}.\n    REFUSED_{row[1]}: u32 = {row[0]};",
     ),
-    "hosts/eiderwagon/src/refusal.rs": (r"^(?:    ///.*\n)*    \w+ = REFUSED_(?P<name>\w+),\s*\"[^\"]*\";$", wide),
+    "hosts/eiderwagon/src/refusal.rs": (r"^    \w+ = (?P<number>\d+),\s*\"[^\"]*\";$", wide),
 }
 
 

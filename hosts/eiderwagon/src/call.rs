@@ -2,20 +2,35 @@
 
 use crate::Refusal;
 
-/// Takes the number that a call returned.
+/// Takes the number that a call returned which is the caller's alone.
 pub(crate) fn check(number: u32) -> Result<(), Refusal> {
+    answered(number, Refusal::given)
+}
+
+/// 0, or the number of a refusal.
+fn answered(number: u32, refusal: fn(u32) -> Refusal) -> Result<(), Refusal> {
     match number {
         0 => Ok(()),
-        refused => Err(Refusal::from_number(refused).unwrap_or_else(|| unknown(refused.into()))),
+        refused => Err(refusal(refused)),
     }
 }
 
-/// Lends a call `N` words, and takes what it answers in them.
+/// Lends a call `N` words that is the caller's alone, and takes what it answers in them.
 pub(crate) fn words<const N: usize>(
     call: impl FnOnce(&mut [u64]) -> u32,
 ) -> Result<[u64; N], Refusal> {
     let mut words = [0; N];
     check(call(&mut words))?;
+    Ok(words)
+}
+
+/// Lends `N` words to a call that judges what came from the peer, and takes what it answers in
+/// them.
+pub(crate) fn received<const N: usize>(
+    call: impl FnOnce(&mut [u64]) -> u32,
+) -> Result<[u64; N], Refusal> {
+    let mut words = [0; N];
+    answered(call(&mut words), Refusal::received)?;
     Ok(words)
 }
 

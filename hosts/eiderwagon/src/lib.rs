@@ -62,7 +62,7 @@ pub mod soup;
 #[cfg(test)]
 mod header_test;
 
-pub use refusal::Refusal;
+pub use refusal::{Fault, Ground, Refusal};
 
 /// The name of a session. In MoldUDP64 it is any ten bytes; in SoupBinTCP it is spaces, then
 /// letters or digits.

@@ -18,7 +18,7 @@
 //! # Ok::<(), eiderwagon::Refusal>(())
 //! ```
 
-use crate::call::{check, count, field, pointed, sure, unknown, words, written};
+use crate::call::{check, count, field, pointed, received, sure, unknown, words, written};
 use crate::{raw, Refusal, Session};
 use std::fmt;
 use std::iter::FusedIterator;
@@ -48,7 +48,7 @@ pub enum Kind {
 impl<'a> Datagram<'a> {
     /// Reads a datagram, which is to be exactly its header and blocks.
     pub fn read(bytes: &'a [u8]) -> Result<Self, Refusal> {
-        let [kind, number, messages] = words(|words| raw::mold_read(bytes, words))?;
+        let [kind, number, messages] = received(|words| raw::mold_read(bytes, words))?;
         let kind = match kind {
             raw::DATA => Kind::Data { count: count(messages) },
             raw::HEARTBEAT => Kind::Heartbeat,
@@ -159,7 +159,7 @@ pub struct Request {
 impl Request {
     /// Reads a request.
     pub fn read(bytes: &[u8]) -> Result<Self, Refusal> {
-        let [first, wanted] = words(|words| raw::mold_read_request(bytes, words))?;
+        let [first, wanted] = received(|words| raw::mold_read_request(bytes, words))?;
         Ok(Request { session: field(bytes, 0), first, count: count(wanted) })
     }
 

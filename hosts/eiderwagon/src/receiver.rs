@@ -27,7 +27,7 @@
 //! # Ok::<(), eiderwagon::Refusal>(())
 //! ```
 
-use crate::call::{check, count, field, kept_as_bytes, unknown, words};
+use crate::call::{check, count, field, kept_as_bytes, received, unknown};
 use crate::mold::{Messages, Request};
 use crate::{raw, Refusal, Session};
 use std::fmt;
@@ -71,7 +71,7 @@ impl Receiver {
     pub fn take<'a>(&mut self, datagram: &'a [u8]) -> Result<Answer<'a>, Refusal> {
         let state = &mut self.state;
         let [what, first, many, skipped] =
-            words(|words| raw::receiver_take(state, datagram, words))?;
+            received(|words| raw::receiver_take(state, datagram, words))?;
         Ok(match what {
             raw::DELIVER => {
                 let messages = Messages::delivered(datagram, count(many), count(skipped));

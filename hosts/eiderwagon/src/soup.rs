@@ -7,9 +7,13 @@
 //! let size = Packet::SequencedData(b"a message").write(&mut stream)?.len();
 //!
 //! // All but the last byte came: read on.
-//! assert_eq!(soup::read(&stream[..size - 1], Sender::Server)?, Front::NeedMore);
-//! let packet = Packet::SequencedData(b"a message");
-//! assert_eq!(soup::read(&stream[..size], Sender::Server)?, Front::Packet { packet, size });
+//! assert!(matches!(soup::read(&stream[..size - 1], Sender::Server)?, Front::NeedMore));
+//! match soup::read(&stream[..size], Sender::Server)? {
+//!     Front::Packet { packet: Packet::SequencedData(message), size: taken } => {
+//!         assert_eq!((message, taken), (&b"a message"[..], size));
+//!     }
+//!     other => panic!("{other:?}"),
+//! }
 //!
 //! // Only a server sends sequenced data.
 //! let refusal = soup::read(&stream[..size], Sender::Client).unwrap_err();
@@ -18,12 +22,12 @@
 //! // Behind the packet two zero bytes stand, which are a length of 0.
 //! let scan = soup::scan(&stream, Sender::Server);
 //! assert_eq!((scan.packets, scan.bytes), (1, size));
-//! assert_eq!(scan.stop, Stop::Refused(eiderwagon::Refusal::LengthZero));
+//! assert!(matches!(scan.stop, Stop::Refused(refusal) if refusal.number() == 21));
 //! # Ok::<(), eiderwagon::Refusal>(())
 //! ```
 
-use crate::call::{check, field, sure, unknown, words, written};
-use crate::{raw, Refusal, Session};
+use crate::call::{field, received, sure, unknown, words, written};
+use crate::{raw, Ground, Refusal, Session};
 use std::fmt;
 
 /// Who sends a stream.
@@ -131,7 +135,8 @@ impl fmt::Debug for Login {
 /// Text as a field with spaces on its right, as usernames and passwords are.
 pub fn left_justified<const N: usize>(text: &str) -> Result<[u8; N], Refusal> {
     let mut field = [b' '; N];
-    let place = field.get_mut(..text.len()).ok_or(Refusal::FieldNotWritten)?;
+    let long = Refusal::of_caller(Ground::FieldNotWritten);
+    let place = field.get_mut(..text.len()).ok_or(long)?;
     place.copy_from_slice(text.as_bytes());
     Ok(field)
 }
@@ -160,7 +165,7 @@ pub enum Front<'a> {
 /// Reads the packet at the front of a stream. Bytes that come later never change a packet or a
 /// refusal that was given.
 pub fn read(stream: &[u8], sender: Sender) -> Result<Front<'_>, Refusal> {
-    let [letter, size, value] = words(|words| raw::soup_read(stream, sender as u8, words))?;
+    let [letter, size, value] = received(|words| raw::soup_read(stream, sender as u8, words))?;
     if letter == 0 {
         return Ok(Front::NeedMore);
     }
@@ -235,9 +240,9 @@ pub enum Stop {
 /// Passes all good packets at the front of a stream.
 pub fn scan(stream: &[u8], sender: Sender) -> Scan {
     let [packets, bytes, number] = sure(words(|words| raw::soup_scan(stream, sender as u8, words)));
-    let stop = match u32::try_from(number).map(check) {
-        Ok(Ok(())) => Stop::NeedMore,
-        Ok(Err(refusal)) => Stop::Refused(refusal),
+    let stop = match u32::try_from(number) {
+        Ok(0) => Stop::NeedMore,
+        Ok(refused) => Stop::Refused(Refusal::received(refused)),
         Err(_) => unknown(number),
     };
     Scan { packets, bytes: bytes as usize, stop }

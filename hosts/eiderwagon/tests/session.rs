@@ -4,7 +4,7 @@ use eiderwagon::session::{
     Accounts, Client, ClientAnswer, ClientState, Server, ServerAnswer, ServerState, Step,
 };
 use eiderwagon::soup::{Login, Packet, Reason};
-use eiderwagon::Refusal;
+use eiderwagon::Ground;
 
 const NAME: &[u8; 10] = b"READROOM01";
 const BLANK: &[u8; 10] = b"          ";
@@ -210,19 +210,19 @@ fn a_refused_step_leaves_the_client_as_it_was() {
 
 #[test]
 fn bad_starts_are_refused() {
-    assert_eq!(Server::start(BLANK, 0), Err(Refusal::BadSetting));
-    assert_eq!(Server::start(NAME, u64::MAX), Err(Refusal::BadSetting));
-    assert_eq!(Client::start(b"READ ROOM1", 0), Err(Refusal::BadSetting));
+    assert_eq!(Server::start(BLANK, 0).unwrap_err().ground(), Ground::BadSetting);
+    assert_eq!(Server::start(NAME, u64::MAX).unwrap_err().ground(), Ground::BadSetting);
+    assert_eq!(Client::start(b"READ ROOM1", 0).unwrap_err().ground(), Ground::BadSetting);
     assert_eq!(Server::start(NAME, u64::MAX - 1).unwrap().last(), u64::MAX - 1);
 }
 
 #[test]
 fn accounts_that_no_login_could_use_are_refused() {
     for pair in [("", "a"), ("a", ""), ("a b", "c"), ("a", "\0"), ("toolong", "a")] {
-        assert_eq!(Accounts::new([pair]), Err(Refusal::FieldNotWritten));
+        assert_eq!(Accounts::new([pair]).unwrap_err().ground(), Ground::FieldNotWritten);
     }
     assert!(Accounts::new([("a", "b"); 1024]).is_ok());
-    assert_eq!(Accounts::new([("a", "b"); 1025]), Err(Refusal::BadSetting));
+    assert_eq!(Accounts::new([("a", "b"); 1025]).unwrap_err().ground(), Ground::BadSetting);
 }
 
 #[test]

@@ -1,6 +1,6 @@
 use crate::call::words;
 use crate::soup::left_justified;
-use crate::{raw, Refusal};
+use crate::{raw, Ground, Refusal};
 use std::borrow::Cow;
 use std::fmt;
 
@@ -20,7 +20,7 @@ impl Accounts<'static> {
         let mut records = Vec::new();
         for (username, password) in pairs {
             if records.len() == 1024 * raw::ACCOUNT_SIZE {
-                return Err(Refusal::BadSetting);
+                return Err(Refusal::of_caller(Ground::BadSetting));
             }
             records.extend(record(username, password)?);
         }

@@ -1,5 +1,5 @@
 use super::Step;
-use crate::call::{check, field, kept_as_bytes, pointed, unknown, words};
+use crate::call::{check, field, kept_as_bytes, pointed, received, unknown};
 use crate::soup::Reason;
 use crate::{raw, Refusal, Session};
 use std::fmt;
@@ -62,7 +62,7 @@ impl Client {
     /// Takes the packet at the front of the server's stream.
     pub fn step<'a>(&mut self, stream: &'a [u8]) -> Result<Step<ClientAnswer<'a>>, Refusal> {
         let [what, size, value, offset, length] =
-            words(|words| raw::client_step(&mut self.state, stream, words))?;
+            received(|words| raw::client_step(&mut self.state, stream, words))?;
         let answer = match what {
             raw::NEED_MORE => ClientAnswer::NeedMore,
             raw::ACCEPTED => ClientAnswer::Accepted { number: value },

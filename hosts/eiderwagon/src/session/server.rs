@@ -1,5 +1,5 @@
 use super::{Accounts, Step};
-use crate::call::{check, field, kept_as_bytes, pointed, unknown, words};
+use crate::call::{check, field, kept_as_bytes, pointed, received, unknown};
 use crate::soup::{Packet, Reason};
 use crate::{raw, Refusal, Session};
 use std::fmt;
@@ -59,7 +59,7 @@ impl Server {
         stream: &'a [u8],
     ) -> Result<Step<ServerAnswer<'a>>, Refusal> {
         let [what, size, value, length, _] =
-            words(|w| raw::server_step(&mut self.state, accounts.as_bytes(), stream, w))?;
+            received(|w| raw::server_step(&mut self.state, accounts.as_bytes(), stream, w))?;
         let answer = match what {
             raw::NEED_MORE => ServerAnswer::NeedMore,
             raw::ACCEPTED => ServerAnswer::Accepted { number: value },

@@ -30,7 +30,7 @@ fn same<T: Debug + PartialEq>(what: &str, typed: T, wanted: T) -> Option<String>
 
 /// A typed result with the refusal's number, as the reference has it.
 fn numbered<T>(result: Result<T, Refusal>) -> Result<T, u32> {
-    result.map_err(Refusal::number)
+    result.map_err(|refusal| refusal.number())
 }
 
 /// A typed writer wrote what was expected.
