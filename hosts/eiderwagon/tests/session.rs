@@ -219,10 +219,21 @@ fn bad_starts_are_refused() {
 #[test]
 fn accounts_that_no_login_could_use_are_refused() {
     for pair in [("", "a"), ("a", ""), ("a b", "c"), ("a", "\0"), ("toolong", "a")] {
-        assert_eq!(Accounts::new([pair]).unwrap_err().ground(), Ground::FieldNotWritten);
+        let bad = Accounts::new([("a", "b"), pair, ("", "")]).unwrap_err();
+        assert_eq!((bad.place(), bad.refusal().ground()), (1, Ground::FieldNotWritten));
     }
     assert!(Accounts::new([("a", "b"); 1024]).is_ok());
-    assert_eq!(Accounts::new([("a", "b"); 1025]).unwrap_err().ground(), Ground::BadSetting);
+    let bad = Accounts::new([("a", "b"); 1025]).unwrap_err();
+    assert_eq!((bad.place(), bad.refusal().ground()), (1024, Ground::BadSetting));
+}
+
+#[test]
+fn a_bad_account_is_named_by_its_place_and_its_password_not_shown() {
+    let bad = Accounts::new([("reader", "opensesame"), ("clerk", "desk 5")]).unwrap_err();
+    let error: Box<dyn std::error::Error> = bad.into();
+    let shown = error.to_string();
+    assert!(shown.starts_with("the pair at place 1 (from 0): refusal 46: "), "{shown}");
+    assert!(!format!("{shown}{bad:?}").contains("desk"));
 }
 
 #[test]
