@@ -67,3 +67,12 @@ pub use refusal::{Fault, Ground, Refusal};
 /// The name of a session. In MoldUDP64 it is any ten bytes; in SoupBinTCP it is spaces, then
 /// letters or digits.
 pub type Session = [u8; raw::SESSION_SIZE];
+
+/// What has a password in it isn't compared.
+///
+/// ```compile_fail
+/// let login = eiderwagon::soup::Login::new("a", "b", "", 1).unwrap();
+/// let _ = login == login;
+/// ```
+#[cfg(doctest)]
+struct NotToBeHad;

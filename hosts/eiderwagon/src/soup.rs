@@ -41,7 +41,9 @@ pub enum Sender {
 }
 
 /// A logical packet; messages and texts are parts of the stream that it was read from.
-#[derive(Clone, Copy, Debug, PartialEq, Eq)]
+///
+/// Packets don't compare, since a login request has a password in it.
+#[derive(Clone, Debug)]
 pub enum Packet<'a> {
     /// `+`, of either end: text for people, which programs ignore.
     Debug(&'a [u8]),
@@ -91,7 +93,11 @@ impl Reason {
 }
 
 /// What a login request asks for.
-#[derive(Clone, Copy, PartialEq, Eq)]
+///
+/// It has a password, so it isn't copied unnoticed, isn't shown whole, and compares with nothing:
+/// `==` would end at the first byte that differs, and take zero bytes or spaces for a password.
+/// Whether a login is right is for [`Server::step`](crate::session::Server::step) to say.
+#[derive(Clone)]
 pub struct Login {
     /// The username, with spaces on the right.
     pub username: [u8; raw::USERNAME_SIZE],
@@ -149,7 +155,7 @@ pub fn right_justified<const N: usize>(text: &str) -> Result<[u8; N], Refusal> {
 }
 
 /// What stands at the front of a stream.
-#[derive(Clone, Copy, Debug, PartialEq, Eq)]
+#[derive(Clone, Debug)]
 pub enum Front<'a> {
     /// A packet.
     Packet {

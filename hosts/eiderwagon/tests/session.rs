@@ -48,8 +48,8 @@ fn a_login_is_accepted() {
         let (server, answer) = after(&request);
         assert_eq!(answer, ServerAnswer::Accepted { number: granted });
         assert_eq!(server.state(), ServerState::In);
-        let reply = Packet::LoginAccepted { session: *NAME, number: granted };
-        assert_eq!(server.reply(&answer), Some(reply));
+        let reply = bytes(Packet::LoginAccepted { session: *NAME, number: granted });
+        assert_eq!(server.reply(&answer).map(bytes), Some(reply));
     }
 }
 
@@ -74,7 +74,7 @@ fn a_login_is_rejected() {
         let (server, answer) = after(&request);
         assert_eq!(answer, ServerAnswer::Rejected(reason));
         assert_eq!(server.state(), ServerState::Closed);
-        assert_eq!(server.reply(&answer), Some(Packet::LoginRejected(reason)));
+        assert_eq!(server.reply(&answer).map(bytes), Some(bytes(Packet::LoginRejected(reason))));
     }
 }
 
@@ -102,7 +102,7 @@ fn a_server_hands_up_what_a_client_sends() {
         let stream = bytes(packet);
         let size = stream.len();
         assert_eq!(server.step(&accounts(), &stream), Ok(Step { answer, size }));
-        assert_eq!(server.reply(&answer), None);
+        assert!(server.reply(&answer).is_none());
         assert_eq!(server, server_in());
     }
     let step = server.step(&accounts(), b"\0\x01O").unwrap();
@@ -239,7 +239,7 @@ fn a_bad_account_is_named_by_its_place_and_its_password_not_shown() {
 #[test]
 fn accounts_are_records_of_sixteen_bytes() {
     assert_eq!(accounts().as_bytes(), b"readeropensesameclerk desk5     ");
-    assert_eq!(Accounts::from_bytes(accounts().as_bytes()), accounts());
+    assert_eq!(Accounts::from_bytes(b"any bytes").as_bytes(), b"any bytes");
     assert_eq!(format!("{:?}", accounts()), "Accounts { records: 2, .. }");
 }
 

@@ -11,7 +11,8 @@ const MOST: usize = 1024;
 /// The accounts that may log in: at most 1,024 records.
 ///
 /// A login compares with the first record that has its username; upper and lower case are the same.
-#[derive(Clone, PartialEq, Eq)]
+/// Tables themselves don't compare, and aren't shown, since they have passwords in them.
+#[derive(Clone)]
 pub struct Accounts<'a> {
     records: Cow<'a, [u8]>,
 }
