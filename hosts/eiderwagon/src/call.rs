@@ -67,21 +67,3 @@ pub(crate) fn field<const N: usize>(bytes: &[u8], at: usize) -> [u8; N] {
 pub(crate) fn unknown(word: u64) -> ! {
     panic!("libeiderwagon.a answers {word}, which this crate doesn't know: build both anew")
 }
-
-/// Gives a type with the field `state` what every state has: it is bytes, and any bytes are one.
-macro_rules! kept_as_bytes {
-    ($state:ident, $size:ident) => {
-        impl $state {
-            /// The state as bytes, to be stored; `include/eiderwagon.h` has their layout.
-            pub fn as_bytes(&self) -> &[u8; $crate::raw::$size] {
-                &self.state
-            }
-
-            /// The state that was stored as these bytes. Any bytes are one.
-            pub fn from_bytes(state: [u8; $crate::raw::$size]) -> Self {
-                Self { state }
-            }
-        }
-    };
-}
-pub(crate) use kept_as_bytes;

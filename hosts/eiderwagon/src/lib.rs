@@ -7,11 +7,16 @@
 //! - the sockets: it receives, sends what was written, and sends the requests that are answered;
 //! - the clocks: heartbeats are due after a second without sending, and silence ends a connection;
 //! - one [`session::Server`] or [`session::Client`] for each connection, and one
-//!   [`receiver::Receiver`] for each feed. They are plain bytes: the host keeps them, hands each
-//!   datagram or stream to its own, in the order in which it came, and may store and copy them.
+//!   [`receiver::Receiver`] for each feed. The host keeps them, and hands each datagram or stream
+//!   to its own, in the order in which it came.
 //!
 //! Nothing needs to be checked beforehand. What doesn't follow the rules is answered with a
 //! [`Refusal`], which has changed nothing.
+//!
+//! A receiver, a server, a client or a reading is had from a start that succeeded, and in no other
+//! way; it can't be copied or made of bytes. So the state that a call is given is always the one
+//! that the call before left, as the proofs want it. To go on after a restart, keep a receiver's
+//! [`next`](receiver::Receiver::next) number, and start a new one there.
 //!
 //! A receiver over three datagrams, of which the second is lost at first:
 //!
@@ -68,6 +73,20 @@ pub use refusal::{Fault, Ground, Refusal};
 /// letters or digits.
 pub type Session = [u8; raw::SESSION_SIZE];
 
+/// A state is had from a start alone: it isn't made of bytes, and it isn't copied.
+///
+/// ```compile_fail
+/// eiderwagon::receiver::Receiver { state: [0; 21] };
+/// ```
+///
+/// ```compile_fail
+/// eiderwagon::session::Server::from_bytes([0; 19]);
+/// ```
+///
+/// ```compile_fail
+/// eiderwagon::capture::Reading::start().clone();
+/// ```
+///
 /// What has a password in it isn't compared.
 ///
 /// ```compile_fail

@@ -27,13 +27,13 @@
 //! # Ok::<(), eiderwagon::Refusal>(())
 //! ```
 
-use crate::call::{check, count, field, kept_as_bytes, received, unknown};
+use crate::call::{check, count, field, received, unknown};
 use crate::mold::{Messages, Request};
 use crate::{raw, Refusal, Session};
 use std::fmt;
 
-/// A receiver of one session. It is plain bytes: a copy goes its own way.
-#[derive(Clone, PartialEq, Eq)]
+/// A receiver of one session.
+#[derive(PartialEq, Eq)]
 pub struct Receiver {
     state: [u8; raw::RECEIVER_SIZE],
 }
@@ -104,9 +104,12 @@ impl Receiver {
     pub fn is_ended(&self) -> bool {
         self.state[20] != 0
     }
-}
 
-kept_as_bytes!(Receiver, RECEIVER_SIZE);
+    /// The state's bytes, as `include/eiderwagon.h` lays them out.
+    pub fn as_bytes(&self) -> &[u8; raw::RECEIVER_SIZE] {
+        &self.state
+    }
+}
 
 impl fmt::Debug for Receiver {
     fn fmt(&self, f: &mut fmt::Formatter<'_>) -> fmt::Result {

@@ -107,13 +107,3 @@ fn an_output_too_short_for_the_report_stays_as_it_was() {
     assert_eq!(reading.write(&mut short).unwrap_err().ground(), Ground::OutputShort);
     assert!(short.iter().all(|&byte| byte == 9));
 }
-
-#[test]
-fn a_stored_reading_goes_on_where_it_was() {
-    let file = sample();
-    let mut reading = Reading::start();
-    let used = reading.feed(&file[..file.len() - 5]).used;
-    let mut again = Reading::from_bytes(*reading.as_bytes());
-    again.finish(&file[used..]);
-    assert_eq!(again.report(), capture::report(&file));
-}

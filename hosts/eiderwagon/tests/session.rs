@@ -127,9 +127,9 @@ fn an_end_needs_more_until_a_packet_is_whole() {
 #[test]
 fn a_refused_step_leaves_the_server_as_it_was() {
     let refused = |mut server: Server, accounts: &Accounts, stream: &[u8]| {
-        let before = server.clone();
+        let before = *server.as_bytes();
         let refusal = server.step(accounts, stream).unwrap_err();
-        assert_eq!(server, before, "{refusal}");
+        assert_eq!(*server.as_bytes(), before, "{refusal}");
         refusal.number()
     };
     let many = vec![b'a'; 1025 * 16];
@@ -144,7 +144,8 @@ fn a_refused_step_leaves_the_server_as_it_was() {
     );
     assert_eq!(refused(server_in(), &accounts(), &login("clerk", "desk5", "", 1)), 31);
     assert_eq!(refused(Server::start(NAME, 2).unwrap(), &accounts(), b"\0\x01R"), 31);
-    assert_eq!(refused(Server::from_bytes([0; 19]), &accounts(), b"\0\x01+"), 32);
+    let closed = after(&login("nobody", "desk5", "", 1)).0;
+    assert_eq!(refused(closed, &accounts(), b"\0\x01+"), 32);
 }
 
 #[test]
@@ -190,9 +191,9 @@ fn a_client_takes_heartbeats_texts_and_the_end() {
 #[test]
 fn a_refused_step_leaves_the_client_as_it_was() {
     let refused = |mut client: Client, stream: &[u8]| {
-        let before = client.clone();
+        let before = *client.as_bytes();
         let refusal = client.step(stream).unwrap_err();
-        assert_eq!(client, before, "{refusal}");
+        assert_eq!(*client.as_bytes(), before, "{refusal}");
         refusal.number()
     };
     let mut ended = client_in();
@@ -244,13 +245,9 @@ fn accounts_are_records_of_sixteen_bytes() {
 }
 
 #[test]
-fn stored_ends_go_on_where_they_were() {
-    let mut server = Server::from_bytes(*server_in().as_bytes());
-    assert_eq!(server.step(&accounts(), b"\0\x01R").unwrap().answer, ServerAnswer::Heartbeat);
-    let client = Client::from_bytes(*client_in().as_bytes());
-    assert_eq!(client, client_in());
+fn ends_show_what_they_are() {
     let shown = "Client { state: In, session: \"READROOM01\", number: 1 }";
-    assert_eq!(format!("{client:?}"), shown);
+    assert_eq!(format!("{:?}", client_in()), shown);
     let shown = "Server { state: In, session: \"READROOM01\", last: 2 }";
-    assert_eq!(format!("{server:?}"), shown);
+    assert_eq!(format!("{:?}", server_in()), shown);
 }

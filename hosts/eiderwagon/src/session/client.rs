@@ -1,11 +1,11 @@
 use super::Step;
-use crate::call::{check, field, kept_as_bytes, pointed, received, unknown};
+use crate::call::{check, field, pointed, received, unknown};
 use crate::soup::Reason;
 use crate::{raw, Refusal, Session};
 use std::fmt;
 
 /// The client's end of one connection.
-#[derive(Clone, PartialEq, Eq)]
+#[derive(PartialEq, Eq)]
 pub struct Client {
     state: [u8; raw::CLIENT_SIZE],
 }
@@ -97,9 +97,12 @@ impl Client {
     pub fn number(&self) -> u64 {
         u64::from_be_bytes(field(&self.state, 10))
     }
-}
 
-kept_as_bytes!(Client, CLIENT_SIZE);
+    /// The state's bytes, as `include/eiderwagon.h` lays them out.
+    pub fn as_bytes(&self) -> &[u8; raw::CLIENT_SIZE] {
+        &self.state
+    }
+}
 
 impl fmt::Debug for Client {
     fn fmt(&self, f: &mut fmt::Formatter<'_>) -> fmt::Result {

@@ -1,11 +1,11 @@
 use super::{Accounts, Step};
-use crate::call::{check, field, kept_as_bytes, pointed, received, unknown};
+use crate::call::{check, field, pointed, received, unknown};
 use crate::soup::{Packet, Reason};
 use crate::{raw, Refusal, Session};
 use std::fmt;
 
 /// The server's end of one connection.
-#[derive(Clone, PartialEq, Eq)]
+#[derive(PartialEq, Eq)]
 pub struct Server {
     state: [u8; raw::SERVER_SIZE],
 }
@@ -103,9 +103,12 @@ impl Server {
     pub fn last(&self) -> u64 {
         u64::from_be_bytes(field(&self.state, 10))
     }
-}
 
-kept_as_bytes!(Server, SERVER_SIZE);
+    /// The state's bytes, as `include/eiderwagon.h` lays them out.
+    pub fn as_bytes(&self) -> &[u8; raw::SERVER_SIZE] {
+        &self.state
+    }
+}
 
 impl fmt::Debug for Server {
     fn fmt(&self, f: &mut fmt::Formatter<'_>) -> fmt::Result {

@@ -1,7 +1,7 @@
 //! `eiderwagon::session`.
 
 use super::soup::reason;
-use super::{front, numbered, same, same_state};
+use super::{front, numbered, reach, same, same_state};
 use crate::call::Call;
 use crate::compare::Expected;
 use crate::layout;
@@ -66,7 +66,7 @@ fn server_step(
     stream: &[u8],
     expected: &Expected,
 ) -> Option<String> {
-    let mut server = Server::from_bytes(*state);
+    let mut server = reach::server(state)?;
     let mut wanted = layout::server(state);
     let step = wanted.step(&layout::accounts(accounts), stream);
     let typed = numbered(server.step(&Accounts::from_bytes(accounts), stream));
@@ -115,7 +115,7 @@ fn server_answer<'a>(answer: &Answer, stream: &'a [u8]) -> ServerAnswer<'a> {
 }
 
 fn client_step(state: &[u8; layout::CLIENT], stream: &[u8], expected: &Expected) -> Option<String> {
-    let mut client = Client::from_bytes(*state);
+    let mut client = reach::client(state)?;
     let mut wanted = layout::client(state);
     let step = wanted.step(stream).map(|step| Step {
         answer: client_answer(&step.answer, stream),
