@@ -18,6 +18,8 @@
 //! that the call before left, as the proofs want it. To go on after a restart, keep a receiver's
 //! [`next`](receiver::Receiver::next) number, and start a new one there.
 //!
+//! An enum to which later rules may add is `#[non_exhaustive]`: a `match` needs an arm for the rest.
+//!
 //! A receiver over three datagrams, of which the second is lost at first:
 //!
 //! ```
@@ -42,8 +44,8 @@
 //!             let mut packet = [0; 20];
 //!             request.write(&mut packet)?;
 //!         }
-//!         Answer::Old | Answer::Quiet => {}
 //!         Answer::Ended => break,
+//!         _ => {} // old or quiet: nothing to do
 //!     }
 //! }
 //! let all: [&[u8]; 4] = [b"offer 1", b"offer 2", b"offer 1 withdrawn", b"offer 4"];

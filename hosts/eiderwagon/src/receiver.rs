@@ -40,6 +40,7 @@ pub struct Receiver {
 
 /// What a receiver makes of a datagram.
 #[derive(Clone, Debug, PartialEq, Eq)]
+#[non_exhaustive]
 pub enum Answer<'a> {
     /// These messages are new, and none before them is missing.
     Deliver {

@@ -25,6 +25,7 @@ pub enum ClientState {
 
 /// What a client's end answers to a server's packet.
 #[derive(Clone, Copy, Debug, PartialEq, Eq)]
+#[non_exhaustive]
 pub enum ClientAnswer<'a> {
     /// No whole packet yet: read on.
     NeedMore,

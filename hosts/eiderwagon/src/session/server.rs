@@ -23,6 +23,7 @@ pub enum ServerState {
 
 /// What a server's end answers to a client's packet.
 #[derive(Clone, Copy, Debug, PartialEq, Eq)]
+#[non_exhaustive]
 pub enum ServerAnswer<'a> {
     /// No whole packet yet: read on.
     NeedMore,

@@ -165,6 +165,7 @@ fn take(state: &[u8; layout::RECEIVER], datagram: &[u8], expected: &Expected) ->
         typed::Answer::Quiet => (3, None, vec![], None),
         typed::Answer::Ask(request) => (4, None, vec![], Some(request)),
         typed::Answer::Ended => (5, None, vec![], None),
+        other => unreachable!("the table has no {other:?}"),
     });
     same("answer", numbered(answer), wanted)
         .or_else(|| same("receiver", as_reference(&typed), receiver))
