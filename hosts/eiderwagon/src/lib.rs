@@ -5,7 +5,8 @@
 //! answers; what is left to the host is
 //!
 //! - the sockets: it receives, sends what was written, and sends the requests that are answered;
-//! - the clocks: heartbeats are due after a second without sending, and silence ends a connection;
+//! - the clocks: heartbeats are due after a second without sending, silence ends a connection, and
+//!   requests are paced, for which there is [`receiver::Requests`];
 //! - one [`session::Server`] or [`session::Client`] for each connection, and one
 //!   [`receiver::Receiver`] for each feed. The host keeps them, and hands each datagram or stream
 //!   to its own, in the order in which it came.
@@ -24,7 +25,8 @@
 //!
 //! ```
 //! use eiderwagon::mold;
-//! use eiderwagon::receiver::{Answer, Receiver};
+//! use eiderwagon::receiver::{Answer, Receiver, Requests};
+//! use std::time::{Duration, Instant};
 //!
 //! // What the venue sends: messages 1 and 2, 3, and 4.
 //! let name = b"READROOM01";
@@ -34,18 +36,19 @@
 //! let four = mold::write_data(name, 4, &[b"offer 4"], &mut c)?;
 //!
 //! let mut receiver = Receiver::start(name, 1, 100)?;
-//! let mut shown = Vec::new();
+//! let mut requests = Requests::new(Duration::from_millis(20));
+//! let (start, mut shown) = (Instant::now(), Vec::new());
 //! for datagram in [one_and_two, four, three, four] {
 //!     match receiver.take(datagram)? {
 //!         Answer::Deliver { messages, .. } => shown.extend(messages),
-//!         Answer::Ask(request) => {
+//!         Answer::Ask(request) if requests.due(&request, start.elapsed()) => {
 //!             // The host sends it; the venue then sends from message 3 on again.
 //!             assert_eq!((request.first, request.count), (3, 1));
 //!             let mut packet = [0; 20];
 //!             request.write(&mut packet)?;
 //!         }
 //!         Answer::Ended => break,
-//!         _ => {} // old or quiet: nothing to do
+//!         _ => {} // old, quiet, or asked for already: nothing to do
 //!     }
 //! }
 //! let all: [&[u8]; 4] = [b"offer 1", b"offer 2", b"offer 1 withdrawn", b"offer 4"];

@@ -26,6 +26,19 @@
 //! assert_eq!(receiver.next(), 5);
 //! # Ok::<(), eiderwagon::Refusal>(())
 //! ```
+//!
+//! # Requests are paced by the host
+//!
+//! A datagram ahead isn't kept, and the receiver keeps no time: so by its table each datagram ahead
+//! asks anew, for the same messages, until they have come. A host that sends every request that is
+//! answered sends one for almost each datagram that comes while an answer is on its way, and each is
+//! answered with the same messages once more, on a line that is losing some already. [`Requests`]
+//! says which ones to send. Nothing is lost by the others: while something is missing, every
+//! datagram ahead asks again, and where nothing else is sent the venue's heartbeats do.
+
+mod requests;
+
+pub use requests::Requests;
 
 use crate::call::{check, count, field, received, unknown};
 use crate::mold::{Messages, Request};
@@ -53,7 +66,8 @@ pub enum Answer<'a> {
     Old,
     /// A heartbeat, and nothing is missing.
     Quiet,
-    /// Messages are missing: write this request and send it. The datagram itself isn't kept.
+    /// Messages are missing: write this request and send it, if it is due by [`Requests`]. The
+    /// datagram itself isn't kept.
     Ask(Request),
     /// The session is over, and nothing is missing.
     Ended,
