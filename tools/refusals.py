@@ -48,7 +48,7 @@ def wide(row):
     return line if len(line) <= 100 else line.replace(', "', ',\n        "', 1)
 
 
-# each place: its file, how a row is found there (its number or its name in a group), and how it is to read
+# each place: its file, how a row is found there (its number in a group), and how it is to read
 PLACES = {
     "crates/wire/specs/Refusals.antt": (
         r"^-- .*\nabbrev pub \w+ : ℕ\n\w+ = (?P<number>\d+)$",
@@ -72,14 +72,13 @@ def main():
     rows, faults = table(), []
     # C takes no comma behind the last one
     rows = [(*row, "," if row is not rows[-1] else "") for row in rows]
-    by_number, by_name = {str(row[0]): row for row in rows}, {row[1]: row for row in rows}
+    by_number = {str(row[0]): row for row in rows}
     for file, (pattern, written) in PLACES.items():
         path = ROOT / file
         text, seen = path.read_text(), []
 
         def renewed(m):
-            words = m.groupdict()
-            row = by_number.get(words.get("number", "")) or by_name.get(words.get("name", ""))
+            row = by_number.get(m.group("number"))
             seen.append(row[0] if row else m.group(0))
             return written(row) if row else m.group(0)
 
