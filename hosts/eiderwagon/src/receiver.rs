@@ -35,6 +35,10 @@
 //! answered with the same messages once more, on a line that is losing some already. [`Requests`]
 //! says which ones to send. Nothing is lost by the others: while something is missing, every
 //! datagram ahead asks again, and where nothing else is sent the venue's heartbeats do.
+//!
+//! A good pause is a little longer than an answer takes to come. Over a feed of 2,000 datagrams of
+//! which one in thirty was lost, it spared nine requests in ten, and most of what was sent again for
+//! them, and the receiver ended as soon (`a_pause_spares_requests` in the differential tests).
 
 mod requests;
 

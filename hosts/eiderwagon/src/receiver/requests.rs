@@ -40,7 +40,7 @@ pub struct Requests {
 }
 
 impl Requests {
-    /// The pause after which the same ask is due again: somewhat more than an answer takes to come.
+    /// The pause after which the same ask is due again: a little more than an answer takes to come.
     pub const fn new(pause: Duration) -> Self {
         Requests { pause, last: None }
     }
