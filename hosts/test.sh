@@ -1,7 +1,7 @@
 #!/usr/bin/env bash
 # The hosts' tests, over target/staticlib/libeiderwagon.a, which tools/host_library.sh builds: the Rust wrapper with its
-# examples, the differential tests, the header as C and as C++, and the examples and the test in C, with warnings as
-# errors.
+# examples, the differential tests, the header as C and as C++, the examples and the test in C, with warnings as
+# errors, and the program that README.md prints.
 set -euo pipefail
 cd "$(dirname "$0")"
 
@@ -43,3 +43,14 @@ for example in feed login; do
     "$programs/$example" | diff "c/$example.txt" -
 done
 "$programs/test"
+
+# README.md's program, with the commands as they are printed there, in a folder outside the repository
+outside=$(mktemp -d)
+trap 'rm -rf "$outside"' EXIT
+ln -s "$(realpath ..)" "$outside/eiderwagon"
+block() { sed -n "/^\`\`\`$1\$/,/^\`\`\`\$/p" README.md | sed '/^```/d'; }
+block sh >"$outside/commands"
+block text >"$outside/wanted"
+(cd "$outside" && bash -euo pipefail commands) >"$outside/printed"
+diff "$outside/wanted" "$outside/printed"
+echo "README.md's program prints what it says"

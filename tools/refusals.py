@@ -5,7 +5,7 @@
     tools/refusals.py --check    compares, and exits 1 on a difference
 
 Where OUTPUT_SHORT stands in the table, the definitions say outputShort, the header EIDERWAGON_REFUSED_OUTPUT_SHORT, the
-wrapper REFUSED_OUTPUT_SHORT and OutputShort. A missing row is said, and written by hand.
+wrapper REFUSED_OUTPUT_SHORT and Ground::OutputShort. A missing row is said, and written by hand.
 """
 import re
 import sys
@@ -44,8 +44,8 @@ def wrapped(ground):
 
 def wide(row):
     """A row of the wrapper's enum; a long one takes two lines."""
-    line = f'    {pascal(row[1])} = REFUSED_{row[1]}, "{small(row[2])}";'
-    return line if len(line) <= 100 else line.replace(f'{row[1]}, "', f'{row[1]},\n        "')
+    line = f'    {pascal(row[1])} = {row[0]}, "{small(row[2])}";'
+    return line if len(line) <= 100 else line.replace(', "', ',\n        "', 1)
 
 
 # each place: its file, how a row is found there (its number or its name in a group), and how it is to read
@@ -71,11 +71,7 @@ PLACES = (
         r"^    /// .*\n    REFUSED_\w+: u32 = (?P<number>\d+);$",
         lambda row: f"    /// {row[2]}.\n    REFUSED_{row[1]}: u32 = {row[0]};",
     ),
-    (
-        "hosts/eiderwagon/src/refusal.rs",
-        r"^(?:    ///.*\n)*    \w+ = REFUSED_(?P<name>\w+),\s*\"[^\"]*\";$",
-        wide,
-    ),
+    ("hosts/eiderwagon/src/refusal.rs", r"^    \w+ = (?P<number>\d+),\s*\"[^\"]*\";$", wide),
 )
 
 
@@ -91,8 +87,8 @@ def main():
         text, seen = path.read_text(), []
 
         def renewed(m):
-            words = m.groupdict()
-            row = by_number.get(words.get("number", "")) or by_name.get(words.get("name", ""))
+            found = m.groupdict()
+            row = by_number.get(found["number"]) if "number" in found else by_name.get(found["name"])
             seen.append(row[0] if row else m.group(0))
             return written(row) if row else m.group(0)
 

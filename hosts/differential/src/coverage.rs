@@ -21,9 +21,11 @@ receiver_take: deliver all | deliver the rest | old data | old heartbeat | quiet
     ask to the limit, end | ended | 41 first | 11 | 12 | 13 | 14 | 15 | 16 | 17 | 18 | 20
 receiver_walk: delivered messages | not of this datagram | 41 first
 soup_read: + of the server | A | J with A | J with S | S | H | Z | + of the client | L | L for 0 | U | R | O |
-    need more | 41 first | 21 | 22 | 23 | 24 | 25 in A | 25 in J | 25 in L
+    need more | 41 first | 21 | 22 | 23 | 24 | 25 in A, session | 25 in A, number | 25 in A, number 0 |
+    25 in A, session and number | 25 in J, reason | 25 in L, session | 25 in L, number | 25 in L, session and number
 soup_scan: stopped at the end | stopped at a short packet | stopped by 21 | stopped by 22 | stopped by 23 |
-    stopped by 24 | stopped by 25 | 41 first
+    stopped by 24 | stopped by 25, session | stopped by 25, number | stopped by 25, session and number |
+    stopped by 25, reason | 41 first
 soup_write_debug: written | 41 first | 22 | 41 last
 soup_write_accepted: written | 41 first | 46 | 41 last
 soup_write_rejected: written | 41 first | 46 | 41 last
@@ -37,12 +39,14 @@ soup_write_logout: written | 41 first | 41 last
 server_start: started | 41 first | 19
 server_step: waiting, need more | A, the latest | A, as asked | J with A, unsound entry | J with A, no record |
     J with A, another password | J with S, another session | J with S, number too high | waiting, + |
-    in, need more | in, U | in, R | in, + | in, O | closed, need more | 41 first | 19 | 21 | 22 | 23 | 24 | 25 |
+    in, need more | in, U | in, R | in, + | in, O | closed, need more | 41 first | 19 | 21 | 22 | 23 | 24 |
+    25 in L, session | 25 in L, number | 25 in L, session and number |
     32 closed, L | 32 closed, U | 32 closed, R | 32 closed, + | 32 closed, O | 31 waiting, U | 31 waiting, R |
     31 waiting, O | 31 in, L
 client_start: started | 41 first | 19
 client_step: asked, need more | asked, A | asked, J | asked, + | in, need more | in, S | in, H | in, + | in, Z |
-    ended, need more | closed, need more | 41 first | 21 | 22 | 23 | 24 | 25 | 32 ended, A | 32 ended, J |
+    ended, need more | closed, need more | 41 first | 21 | 22 | 23 | 24 | 25 in A, session | 25 in A, number |
+    25 in A, number 0 | 25 in A, session and number | 25 in J, reason | 32 ended, A | 32 ended, J |
     32 ended, S | 32 ended, H | 32 ended, + | 32 ended, Z | 32 closed, A | 32 closed, J | 32 closed, S |
     32 closed, H | 32 closed, + | 32 closed, Z | 31 asked, S | 31 asked, H | 31 asked, Z | 31 in, A | 31 in, J |
     33 | 34
@@ -53,6 +57,12 @@ capture_finish: settings, refused | settings, cut short | settings, whole | reco
     records, some ignored | records, whole | done before | refused before | 41 first
 capture_write: report | settings=refused | 41 first | 41 last
 capture_report: report | settings=refused | 41 first | 41 last
+";
+
+/// What was read and written back, by what it was.
+const WRITTEN_BACK: &str = "
+write_back: data | heartbeat | end of session | request | + of the server | + of the client | A | A, leading zeros |
+    J | S | H | Z | L | L, leading zeros | L, unsound | U | R | O
 ";
 
 /// How often each outcome of each function was drawn.
@@ -88,8 +98,17 @@ impl Coverage {
 
 /// The list's functions, each with its outcomes.
 pub fn functions() -> impl Iterator<Item = (&'static str, Vec<&'static str>)> {
+    entries(LIST)
+}
+
+/// The functions, and what is made of several.
+fn all() -> impl Iterator<Item = (&'static str, Vec<&'static str>)> {
+    functions().chain(entries(WRITTEN_BACK))
+}
+
+fn entries(list: &'static str) -> impl Iterator<Item = (&'static str, Vec<&'static str>)> {
     let mut entries: Vec<(&str, Vec<&str>)> = vec![];
-    for line in LIST.lines().filter(|line| !line.is_empty()) {
+    for line in list.lines().filter(|line| !line.is_empty()) {
         let outcomes = match line.split_once(": ") {
             Some((function, outcomes)) => {
                 entries.push((function, vec![]));
@@ -105,14 +124,14 @@ pub fn functions() -> impl Iterator<Item = (&'static str, Vec<&'static str>)> {
 }
 
 fn listed() -> impl Iterator<Item = (&'static str, &'static str)> {
-    functions().flat_map(|(function, outcomes)| {
+    all().flat_map(|(function, outcomes)| {
         outcomes.into_iter().map(move |outcome| (function, outcome))
     })
 }
 
 impl Display for Coverage {
     fn fmt(&self, formatter: &mut Formatter) -> fmt::Result {
-        for (function, outcomes) in functions() {
+        for (function, outcomes) in all() {
             let cells: Vec<String> = outcomes
                 .iter()
                 .map(|outcome| format!("{outcome}: {}", self.times(function, outcome)))

@@ -9,7 +9,7 @@ pub mod coverage;
 mod generate;
 mod layout;
 pub mod library;
-mod random;
+pub mod random;
 pub mod reference;
 mod run;
 pub mod stand_in;

@@ -78,6 +78,11 @@ impl<'l> Run<'l> {
         code
     }
 
+    /// Notes an outcome of several calls together.
+    pub fn note(&mut self, what: &'static str, outcome: &'static str) {
+        self.coverage.note(what, outcome);
+    }
+
     /// Ends the run with what is needed to see the case again.
     pub fn fail(&self, what: &str) -> ! {
         panic!("seed {}, case {}: {what}", self.seed, self.case);

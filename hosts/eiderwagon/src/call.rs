@@ -2,20 +2,35 @@
 
 use crate::Refusal;
 
-/// Takes the number that a call returned.
+/// Takes the number that a call returned which is the caller's alone.
 pub(crate) fn check(number: u32) -> Result<(), Refusal> {
+    answered(number, Refusal::given)
+}
+
+/// 0, or the number of a refusal.
+fn answered(number: u32, refusal: fn(u32) -> Refusal) -> Result<(), Refusal> {
     match number {
         0 => Ok(()),
-        refused => Err(Refusal::from_number(refused).unwrap_or_else(|| unknown(refused.into()))),
+        refused => Err(refusal(refused)),
     }
 }
 
-/// Lends a call `N` words, and takes what it answers in them.
+/// Lends a call `N` words that is the caller's alone, and takes what it answers in them.
 pub(crate) fn words<const N: usize>(
     call: impl FnOnce(&mut [u64]) -> u32,
 ) -> Result<[u64; N], Refusal> {
     let mut words = [0; N];
     check(call(&mut words))?;
+    Ok(words)
+}
+
+/// Lends `N` words to a call that judges what came from the peer, and takes what it answers in
+/// them.
+pub(crate) fn received<const N: usize>(
+    call: impl FnOnce(&mut [u64]) -> u32,
+) -> Result<[u64; N], Refusal> {
+    let mut words = [0; N];
+    answered(call(&mut words), Refusal::received)?;
     Ok(words)
 }
 
@@ -52,21 +67,3 @@ pub(crate) fn field<const N: usize>(bytes: &[u8], at: usize) -> [u8; N] {
 pub(crate) fn unknown(word: u64) -> ! {
     panic!("libeiderwagon.a answers {word}, which this crate doesn't know: build both anew")
 }
-
-/// Gives a type with the field `state` what every state has: it is bytes, and any bytes are one.
-macro_rules! kept_as_bytes {
-    ($state:ident, $size:ident) => {
-        impl $state {
-            /// The state as bytes, to be stored; `include/eiderwagon.h` has their layout.
-            pub fn as_bytes(&self) -> &[u8; $crate::raw::$size] {
-                &self.state
-            }
-
-            /// The state that was stored as these bytes. Any bytes are one.
-            pub fn from_bytes(state: [u8; $crate::raw::$size]) -> Self {
-                Self { state }
-            }
-        }
-    };
-}
-pub(crate) use kept_as_bytes;

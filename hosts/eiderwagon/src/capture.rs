@@ -37,7 +37,7 @@
 //! # Ok::<(), eiderwagon::Refusal>(())
 //! ```
 
-use crate::call::{check, kept_as_bytes, sure, words, written};
+use crate::call::{check, sure, words, written};
 use crate::{raw, Refusal};
 
 /// The report of a whole capture: eight lines, or `settings=refused` alone.
@@ -64,7 +64,7 @@ pub fn report(capture: &[u8]) -> String {
 /// reading.finish(&kept);
 /// assert_eq!(reading.report(), capture::report(file));
 /// ```
-#[derive(Clone, Debug, PartialEq, Eq)]
+#[derive(Debug, PartialEq, Eq)]
 pub struct Reading {
     state: [u8; raw::CAPTURE_SIZE],
 }
@@ -109,11 +109,14 @@ impl Reading {
     pub fn write<'o>(&self, out: &'o mut [u8]) -> Result<&'o [u8], Refusal> {
         written(out, |out, words| raw::capture_write(&self.state, out, words))
     }
+
+    /// The state's bytes, as `include/eiderwagon.h` lays them out.
+    pub fn as_bytes(&self) -> &[u8; raw::CAPTURE_SIZE] {
+        &self.state
+    }
 }
 
-kept_as_bytes!(Reading, CAPTURE_SIZE);
-
-/// A report as text. It is ASCII, unless a state was made by hand with another name in it.
+/// A report as text, which it is: the settings take no other name.
 fn text(write: impl FnOnce(&mut [u8], &mut [u64]) -> u32) -> String {
     let mut out = [0; raw::LARGEST_REPORT];
     String::from_utf8_lossy(sure(written(&mut out, write))).into_owned()

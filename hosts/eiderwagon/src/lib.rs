@@ -5,19 +5,28 @@
 //! answers; what is left to the host is
 //!
 //! - the sockets: it receives, sends what was written, and sends the requests that are answered;
-//! - the clocks: heartbeats are due after a second without sending, and silence ends a connection;
+//! - the clocks: heartbeats are due after a second without sending, silence ends a connection, and
+//!   requests are paced, for which there is [`receiver::Requests`];
 //! - one [`session::Server`] or [`session::Client`] for each connection, and one
-//!   [`receiver::Receiver`] for each feed. They are plain bytes: the host keeps them, hands each
-//!   datagram or stream to its own, in the order in which it came, and may store and copy them.
+//!   [`receiver::Receiver`] for each feed. The host keeps them, and hands each datagram or stream
+//!   to its own, in the order in which it came.
 //!
 //! Nothing needs to be checked beforehand. What doesn't follow the rules is answered with a
 //! [`Refusal`], which has changed nothing.
+//!
+//! A receiver, a server, a client or a reading is had from a start that succeeded, and in no other
+//! way; it can't be copied or made of bytes. So the state that a call is given is always the one
+//! that the call before left, as the proofs want it. To go on after a restart, keep a receiver's
+//! [`next`](receiver::Receiver::next) number, and start a new one there.
+//!
+//! An enum to which later rules may add is `#[non_exhaustive]`: a `match` needs an arm for the rest.
 //!
 //! A receiver over three datagrams, of which the second is lost at first:
 //!
 //! ```
 //! use eiderwagon::mold;
-//! use eiderwagon::receiver::{Answer, Receiver};
+//! use eiderwagon::receiver::{Answer, Receiver, Requests};
+//! use std::time::{Duration, Instant};
 //!
 //! // What the venue sends: messages 1 and 2, 3, and 4.
 //! let name = b"READROOM01";
@@ -27,18 +36,19 @@
 //! let four = mold::write_data(name, 4, &[b"offer 4"], &mut c)?;
 //!
 //! let mut receiver = Receiver::start(name, 1, 100)?;
-//! let mut shown = Vec::new();
+//! let mut requests = Requests::new(Duration::from_millis(20));
+//! let (start, mut shown) = (Instant::now(), Vec::new());
 //! for datagram in [one_and_two, four, three, four] {
 //!     match receiver.take(datagram)? {
 //!         Answer::Deliver { messages, .. } => shown.extend(messages),
-//!         Answer::Ask(request) => {
+//!         Answer::Ask(request) if requests.due(&request, start.elapsed()) => {
 //!             // The host sends it; the venue then sends from message 3 on again.
 //!             assert_eq!((request.first, request.count), (3, 1));
 //!             let mut packet = [0; 20];
 //!             request.write(&mut packet)?;
 //!         }
-//!         Answer::Old | Answer::Quiet => {}
 //!         Answer::Ended => break,
+//!         _ => {} // old, quiet, or asked for already: nothing to do
 //!     }
 //! }
 //! let all: [&[u8]; 4] = [b"offer 1", b"offer 2", b"offer 1 withdrawn", b"offer 4"];
@@ -62,4 +72,31 @@ pub mod soup;
 #[cfg(test)]
 mod header_test;
 
-pub use refusal::Refusal;
+pub use refusal::{Fault, Ground, Refusal};
+
+/// The name of a session. In MoldUDP64 it is any ten bytes; in SoupBinTCP it is spaces, then
+/// letters or digits.
+pub type Session = [u8; raw::SESSION_SIZE];
+
+/// A state is had from a start alone: it isn't made of bytes, and it isn't copied.
+///
+/// ```compile_fail
+/// eiderwagon::receiver::Receiver { state: [0; 21] };
+/// ```
+///
+/// ```compile_fail
+/// eiderwagon::session::Server::from_bytes([0; 19]);
+/// ```
+///
+/// ```compile_fail
+/// eiderwagon::capture::Reading::start().clone();
+/// ```
+///
+/// What has a password in it isn't compared.
+///
+/// ```compile_fail
+/// let login = eiderwagon::soup::Login::new("a", "b", "", 1).unwrap();
+/// let _ = login == login;
+/// ```
+#[cfg(doctest)]
+struct NotToBeHad;

@@ -18,14 +18,10 @@
 //! # Ok::<(), eiderwagon::Refusal>(())
 //! ```
 
-use crate::call::{check, count, field, pointed, sure, unknown, words, written};
-use crate::{raw, Refusal};
+use crate::call::{check, count, field, pointed, received, sure, unknown, words, written};
+use crate::{raw, Refusal, Session};
 use std::fmt;
 use std::iter::FusedIterator;
-
-/// The name of a session. In MoldUDP64 it is any ten bytes; in SoupBinTCP it is spaces, then
-/// letters or digits.
-pub type Session = [u8; raw::SESSION_SIZE];
 
 /// A datagram that was read: the lent bytes, and what their header says.
 #[derive(Clone, Copy, Debug, PartialEq, Eq)]
@@ -52,7 +48,7 @@ pub enum Kind {
 impl<'a> Datagram<'a> {
     /// Reads a datagram, which is to be exactly its header and blocks.
     pub fn read(bytes: &'a [u8]) -> Result<Self, Refusal> {
-        let [kind, number, messages] = words(|words| raw::mold_read(bytes, words))?;
+        let [kind, number, messages] = received(|words| raw::mold_read(bytes, words))?;
         let kind = match kind {
             raw::MOLD_DATA => Kind::Data { count: count(messages) },
             raw::MOLD_HEARTBEAT => Kind::Heartbeat,
@@ -163,7 +159,7 @@ pub struct Request {
 impl Request {
     /// Reads a request.
     pub fn read(bytes: &[u8]) -> Result<Self, Refusal> {
-        let [first, wanted] = words(|words| raw::mold_read_request(bytes, words))?;
+        let [first, wanted] = received(|words| raw::mold_read_request(bytes, words))?;
         Ok(Request { session: field(bytes, 0), first, count: count(wanted) })
     }
 

@@ -26,20 +26,38 @@
 //! assert_eq!(receiver.next(), 5);
 //! # Ok::<(), eiderwagon::Refusal>(())
 //! ```
+//!
+//! # Requests are paced by the host
+//!
+//! A datagram ahead isn't kept, and the receiver keeps no time: so by its table each datagram ahead
+//! asks anew, for the same messages, until they have come. A host that sends every request that is
+//! answered sends one for almost each datagram that comes while an answer is on its way, and each is
+//! answered with the same messages once more, on a line that is losing some already. [`Requests`]
+//! says which ones to send. Nothing is lost by the others: while something is missing, every
+//! datagram ahead asks again, and where nothing else is sent the venue's heartbeats do.
+//!
+//! A good pause is a little longer than an answer takes to come. Over a feed of 2,000 datagrams of
+//! which one in thirty was lost, it spared nine requests in ten, and most of what was sent again for
+//! them, and the receiver ended as soon (`a_pause_spares_requests` in the differential tests).
 
-use crate::call::{check, count, field, kept_as_bytes, unknown, words};
-use crate::mold::{Messages, Request, Session};
-use crate::{raw, Refusal};
+mod requests;
+
+pub use requests::Requests;
+
+use crate::call::{check, count, field, received, unknown};
+use crate::mold::{Messages, Request};
+use crate::{raw, Refusal, Session};
 use std::fmt;
 
-/// A receiver of one session. It is plain bytes: a copy goes its own way.
-#[derive(Clone, PartialEq, Eq)]
+/// A receiver of one session.
+#[derive(PartialEq, Eq)]
 pub struct Receiver {
     state: [u8; raw::RECEIVER_SIZE],
 }
 
 /// What a receiver makes of a datagram.
 #[derive(Clone, Debug, PartialEq, Eq)]
+#[non_exhaustive]
 pub enum Answer<'a> {
     /// These messages are new, and none before them is missing.
     Deliver {
@@ -52,7 +70,8 @@ pub enum Answer<'a> {
     Old,
     /// A heartbeat, and nothing is missing.
     Quiet,
-    /// Messages are missing: write this request and send it. The datagram itself isn't kept.
+    /// Messages are missing: write this request and send it, if it is due by [`Requests`]. The
+    /// datagram itself isn't kept.
     Ask(Request),
     /// The session is over, and nothing is missing.
     Ended,
@@ -71,7 +90,7 @@ impl Receiver {
     pub fn take<'a>(&mut self, datagram: &'a [u8]) -> Result<Answer<'a>, Refusal> {
         let state = &mut self.state;
         let [what, first, many, skipped] =
-            words(|words| raw::receiver_take(state, datagram, words))?;
+            received(|words| raw::receiver_take(state, datagram, words))?;
         Ok(match what {
             raw::RECEIVER_DELIVER => {
                 let messages = Messages::delivered(datagram, count(many), count(skipped));
@@ -106,9 +125,12 @@ impl Receiver {
     pub fn is_ended(&self) -> bool {
         self.state[20] != 0
     }
-}
 
-kept_as_bytes!(Receiver, RECEIVER_SIZE);
+    /// The state's bytes, as `include/eiderwagon.h` lays them out.
+    pub fn as_bytes(&self) -> &[u8; raw::RECEIVER_SIZE] {
+        &self.state
+    }
+}
 
 impl fmt::Debug for Receiver {
     fn fmt(&self, f: &mut fmt::Formatter<'_>) -> fmt::Result {

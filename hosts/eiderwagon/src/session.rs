@@ -7,7 +7,7 @@
 //! ```
 //! use eiderwagon::session::{Accounts, Client, ClientAnswer, Server, ServerAnswer};
 //! use eiderwagon::soup::{Login, Packet};
-//! # fn main() -> Result<(), eiderwagon::Refusal> {
+//! # fn main() -> Result<(), Box<dyn std::error::Error>> {
 //!
 //! let accounts = Accounts::new([("reader", "opensesame"), ("clerk", "desk5")])?;
 //! let mut server = Server::start(b"READROOM01", 2)?; // messages 1 and 2 are there
@@ -56,7 +56,7 @@ mod accounts;
 mod client;
 mod server;
 
-pub use accounts::Accounts;
+pub use accounts::{Accounts, BadAccount};
 pub use client::{Client, ClientAnswer, ClientState};
 pub use server::{Server, ServerAnswer, ServerState};
 

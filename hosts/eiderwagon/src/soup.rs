@@ -7,9 +7,13 @@
 //! let size = Packet::SequencedData(b"a message").write(&mut stream)?.len();
 //!
 //! // All but the last byte came: read on.
-//! assert_eq!(soup::read(&stream[..size - 1], Sender::Server)?, Front::NeedMore);
-//! let packet = Packet::SequencedData(b"a message");
-//! assert_eq!(soup::read(&stream[..size], Sender::Server)?, Front::Packet { packet, size });
+//! assert!(matches!(soup::read(&stream[..size - 1], Sender::Server)?, Front::NeedMore));
+//! match soup::read(&stream[..size], Sender::Server)? {
+//!     Front::Packet { packet: Packet::SequencedData(message), size: taken } => {
+//!         assert_eq!((message, taken), (&b"a message"[..], size));
+//!     }
+//!     other => panic!("{other:?}"),
+//! }
 //!
 //! // Only a server sends sequenced data.
 //! let refusal = soup::read(&stream[..size], Sender::Client).unwrap_err();
@@ -18,13 +22,12 @@
 //! // Behind the packet two zero bytes stand, which are a length of 0.
 //! let scan = soup::scan(&stream, Sender::Server);
 //! assert_eq!((scan.packets, scan.bytes), (1, size));
-//! assert_eq!(scan.stop, Stop::Refused(eiderwagon::Refusal::LengthZero));
+//! assert!(matches!(scan.stop, Stop::Refused(refusal) if refusal.number() == 21));
 //! # Ok::<(), eiderwagon::Refusal>(())
 //! ```
 
-use crate::call::{check, field, sure, unknown, words, written};
-use crate::mold::Session;
-use crate::{raw, Refusal};
+use crate::call::{field, received, sure, unknown, words, written};
+use crate::{raw, Ground, Refusal, Session};
 use std::fmt;
 
 /// Who sends a stream.
@@ -38,7 +41,9 @@ pub enum Sender {
 }
 
 /// A logical packet; messages and texts are parts of the stream that it was read from.
-#[derive(Clone, Copy, Debug, PartialEq, Eq)]
+///
+/// Packets don't compare, since a login request has a password in it.
+#[derive(Clone, Debug)]
 pub enum Packet<'a> {
     /// `+`, of either end: text for people, which programs ignore.
     Debug(&'a [u8]),
@@ -88,7 +93,11 @@ impl Reason {
 }
 
 /// What a login request asks for.
-#[derive(Clone, Copy, PartialEq, Eq)]
+///
+/// It has a password, so it isn't copied unnoticed, isn't shown whole, and compares with nothing:
+/// `==` would end at the first byte that differs, and take zero bytes or spaces for a password.
+/// Whether a login is right is for [`Server::step`](crate::session::Server::step) to say.
+#[derive(Clone)]
 pub struct Login {
     /// The username, with spaces on the right.
     pub username: [u8; raw::USERNAME_SIZE],
@@ -132,7 +141,8 @@ impl fmt::Debug for Login {
 /// Text as a field with spaces on its right, as usernames and passwords are.
 pub fn left_justified<const N: usize>(text: &str) -> Result<[u8; N], Refusal> {
     let mut field = [b' '; N];
-    let place = field.get_mut(..text.len()).ok_or(Refusal::FieldNotWritten)?;
+    let long = Refusal::of_caller(Ground::FieldNotWritten);
+    let place = field.get_mut(..text.len()).ok_or(long)?;
     place.copy_from_slice(text.as_bytes());
     Ok(field)
 }
@@ -145,7 +155,7 @@ pub fn right_justified<const N: usize>(text: &str) -> Result<[u8; N], Refusal> {
 }
 
 /// What stands at the front of a stream.
-#[derive(Clone, Copy, Debug, PartialEq, Eq)]
+#[derive(Clone, Debug)]
 pub enum Front<'a> {
     /// A packet.
     Packet {
@@ -161,7 +171,7 @@ pub enum Front<'a> {
 /// Reads the packet at the front of a stream. Bytes that come later never change a packet or a
 /// refusal that was given.
 pub fn read(stream: &[u8], sender: Sender) -> Result<Front<'_>, Refusal> {
-    let [letter, size, value] = words(|words| raw::soup_read(stream, sender as u8, words))?;
+    let [letter, size, value] = received(|words| raw::soup_read(stream, sender as u8, words))?;
     if letter == 0 {
         return Ok(Front::NeedMore);
     }
@@ -236,9 +246,9 @@ pub enum Stop {
 /// Passes all good packets at the front of a stream.
 pub fn scan(stream: &[u8], sender: Sender) -> Scan {
     let [packets, bytes, number] = sure(words(|words| raw::soup_scan(stream, sender as u8, words)));
-    let stop = match u32::try_from(number).map(check) {
-        Ok(Ok(())) => Stop::NeedMore,
-        Ok(Err(refusal)) => Stop::Refused(refusal),
+    let stop = match u32::try_from(number) {
+        Ok(0) => Stop::NeedMore,
+        Ok(refused) => Stop::Refused(Refusal::received(refused)),
         Err(_) => unknown(number),
     };
     Scan { packets, bytes: bytes as usize, stop }

@@ -1,7 +1,7 @@
 //! Captures, whole and in pieces.
 
 use eiderwagon::capture::{self, Fed, Reading};
-use eiderwagon::{mold, Refusal};
+use eiderwagon::{mold, Ground};
 
 const SETTINGS: &[u8] = b"session=READROOM01\nnext=1\nlimit=100\n";
 const REFUSED: &str = "settings=refused\n";
@@ -104,16 +104,6 @@ fn an_output_too_short_for_the_report_stays_as_it_was() {
     let size = reading.write(&mut out).unwrap().len();
     assert_eq!(&out[..size], reading.report().as_bytes());
     let mut short = vec![9; size - 1];
-    assert_eq!(reading.write(&mut short), Err(Refusal::OutputShort));
+    assert_eq!(reading.write(&mut short).unwrap_err().ground(), Ground::OutputShort);
     assert!(short.iter().all(|&byte| byte == 9));
-}
-
-#[test]
-fn a_stored_reading_goes_on_where_it_was() {
-    let file = sample();
-    let mut reading = Reading::start();
-    let used = reading.feed(&file[..file.len() - 5]).used;
-    let mut again = Reading::from_bytes(*reading.as_bytes());
-    again.finish(&file[used..]);
-    assert_eq!(again.report(), capture::report(&file));
 }

@@ -1,7 +1,7 @@
 //! Datagrams and requests.
 
 use eiderwagon::mold::{self, Datagram, Kind, Request};
-use eiderwagon::Refusal;
+use eiderwagon::{Ground, Refusal};
 
 const NAME: &[u8; 10] = b"READROOM01";
 
@@ -70,7 +70,7 @@ fn each_fault_of_a_datagram_has_its_number() {
     assert_eq!(refused(&datagram(u64::MAX, 1, b"\0\0")).number(), 14);
     assert_eq!(refused(&datagram(1, 1, b"\0\x02a")).number(), 15);
     assert_eq!(refused(&datagram(1, 1, b"\0\0a")).number(), 16);
-    assert_eq!(refused(&datagram(1, 0, b"a")), Refusal::BytesAfterBlocks);
+    assert_eq!(refused(&datagram(1, 0, b"a")).ground(), Ground::BytesAfterBlocks);
 }
 
 #[test]
@@ -104,8 +104,9 @@ fn a_refused_writer_leaves_the_output_as_it_was() {
     short(mold::write_heartbeat(NAME, 1, &mut out[..19]));
     short(mold::write_end_of_session(NAME, 1, &mut out[..19]));
     short(Request { session: *NAME, first: 1, count: 1 }.write(&mut out[..19]));
-    assert_eq!(mold::write_heartbeat(NAME, 0, &mut out).unwrap_err(), Refusal::NumberZero);
-    assert_eq!(mold::write_end_of_session(NAME, 0, &mut out).unwrap_err(), Refusal::NumberZero);
+    let zero = |result: Result<&[u8], Refusal>| assert_eq!(result.unwrap_err().number(), 13);
+    zero(mold::write_heartbeat(NAME, 0, &mut out));
+    zero(mold::write_end_of_session(NAME, 0, &mut out));
     assert_eq!(out, [9; 24]);
 }
 

@@ -1,7 +1,7 @@
 //! SoupBinTCP packets.
 
 use eiderwagon::soup::{self, Front, Login, Packet, Reason, Sender, Stop};
-use eiderwagon::Refusal;
+use eiderwagon::{Ground, Refusal};
 use Sender::{Client, Server};
 
 fn login() -> Login {
@@ -33,6 +33,28 @@ fn refused(stream: &[u8], sender: Sender) -> u32 {
     soup::read(stream, sender).unwrap_err().number()
 }
 
+/// Packets don't compare; this is what two of them have in common that are the same.
+fn shown(packet: &Packet) -> String {
+    format!("{packet:?}")
+}
+
+/// What is read is this packet, and takes so many bytes.
+fn assert_read(stream: &[u8], sender: Sender, wanted: &Packet, wanted_size: usize) {
+    match soup::read(stream, sender) {
+        Ok(Front::Packet { packet, size }) => {
+            assert_eq!((shown(&packet), size), (shown(wanted), wanted_size));
+            // What isn't shown is written.
+            let again = packet.write(&mut [0; 4099]).map(<[u8]>::to_vec);
+            assert_eq!(again.as_deref(), Ok(&stream[..size]));
+        }
+        other => panic!("{other:?}"),
+    }
+}
+
+fn ground<T>(result: Result<T, Refusal>) -> Ground {
+    result.err().expect("it is refused").ground()
+}
+
 #[test]
 fn each_packet_is_written() {
     for (packet, _, bytes) in packets() {
@@ -46,19 +68,19 @@ fn each_packet_is_written() {
 fn each_packet_is_read() {
     for (packet, sender, bytes) in packets() {
         let size = bytes.len();
-        assert_eq!(soup::read(bytes, sender), Ok(Front::Packet { packet, size }));
-        let followed = [bytes, b"more"].concat();
-        assert_eq!(soup::read(&followed, sender), Ok(Front::Packet { packet, size }));
+        assert_read(bytes, sender, &packet, size);
+        assert_read(&[bytes, b"more"].concat(), sender, &packet, size);
         for cut in 0..size {
-            assert_eq!(soup::read(&bytes[..cut], sender), Ok(Front::NeedMore), "{packet:?}");
+            let front = soup::read(&bytes[..cut], sender);
+            assert!(matches!(front, Ok(Front::NeedMore)), "{packet:?}");
         }
     }
 }
 
 #[test]
 fn a_debug_packet_is_of_either_end_and_every_other_one_of_one() {
-    let debug = Front::Packet { packet: Packet::Debug(b""), size: 3 };
-    assert_eq!(soup::read(b"\0\x01+", Server), Ok(debug));
+    assert_read(b"\0\x01+", Server, &Packet::Debug(b""), 3);
+    assert_read(b"\0\x01+", Client, &Packet::Debug(b""), 3);
     for (packet, sender, bytes) in &packets()[1..] {
         let other = if *sender == Server { Client } else { Server };
         assert_eq!(refused(bytes, other), 23, "{packet:?}");
@@ -82,9 +104,9 @@ fn the_largest_payload_is_written_and_read_and_one_byte_more_is_refused() {
     let packet = Packet::SequencedData(&payload[..4096]);
     let sent = packet.write(&mut out).unwrap();
     assert_eq!(sent.len(), 4099);
-    assert_eq!(soup::read(sent, Server), Ok(Front::Packet { packet, size: 4099 }));
+    assert_read(sent, Server, &packet, 4099);
     for packet in [Packet::SequencedData, Packet::UnsequencedData, Packet::Debug] {
-        assert_eq!(packet(&payload).write(&mut out), Err(Refusal::PayloadLong));
+        assert_eq!(ground(packet(&payload).write(&mut out)), Ground::PayloadLong);
     }
 }
 
@@ -104,7 +126,7 @@ fn fields_that_cannot_be_written_are_refused() {
 fn an_output_too_short_is_refused_and_stays_as_it_was() {
     for (packet, _, bytes) in packets() {
         let mut out = [9; 64];
-        assert_eq!(packet.write(&mut out[..bytes.len() - 1]), Err(Refusal::OutputShort));
+        assert_eq!(ground(packet.write(&mut out[..bytes.len() - 1])), Ground::OutputShort);
         assert_eq!(out, [9; 64], "{packet:?}");
     }
 }
@@ -113,20 +135,21 @@ fn an_output_too_short_is_refused_and_stays_as_it_was() {
 fn a_scan_passes_the_good_packets() {
     let good = b"\0\x01H\0\x02Sa\0\x01Z";
     let scan = |rest: &[u8]| soup::scan(&[good, rest].concat(), Server);
-    for (rest, stop) in [
-        (&b""[..], Stop::NeedMore),
-        (b"\0\x05Sab", Stop::NeedMore),
-        (b"\0\x01L", Stop::Refused(Refusal::LetterNotSent)),
-    ] {
-        assert_eq!(scan(rest), soup::Scan { packets: 3, bytes: 10, stop });
+    for (rest, refused) in [(&b""[..], None), (b"\0\x05Sab", None), (b"\0\x01L", Some(23))] {
+        let scan = scan(rest);
+        assert_eq!((scan.packets, scan.bytes), (3, 10));
+        match scan.stop {
+            Stop::NeedMore => assert_eq!(refused, None),
+            Stop::Refused(refusal) => assert_eq!(refused, Some(refusal.number())),
+        }
     }
 }
 
 #[test]
 fn text_that_is_too_long_for_its_field_is_refused() {
-    assert_eq!(Login::new("toolong", "a", "", 0), Err(Refusal::FieldNotWritten));
-    assert_eq!(Login::new("a", "elevenchars", "", 0), Err(Refusal::FieldNotWritten));
-    assert_eq!(Login::new("a", "a", "elevenchars", 0), Err(Refusal::FieldNotWritten));
+    assert_eq!(ground(Login::new("toolong", "a", "", 0)), Ground::FieldNotWritten);
+    assert_eq!(ground(Login::new("a", "elevenchars", "", 0)), Ground::FieldNotWritten);
+    assert_eq!(ground(Login::new("a", "a", "elevenchars", 0)), Ground::FieldNotWritten);
     assert_eq!(soup::left_justified(""), Ok([b' '; 6]));
     assert_eq!(soup::right_justified("abc"), Ok(*b"   abc"));
 }

@@ -1,5 +1,6 @@
 //! The functions of both ends of a SoupBinTCP session.
 
+use super::soup::bad_field;
 use super::{name, refusal_name, Expected};
 use crate::call::Call;
 use crate::layout;
@@ -73,6 +74,7 @@ fn server_outcome(state: ServerState, step: &Result<Step, u32>, stream: &[u8]) -
     use ServerState::{Closed, In, Waiting};
     match step {
         Err(31 | 32) => {}
+        Err(25) => return bad_field(stream),
         Err(refusal) => return refusal_name(*refusal),
         Ok(step) if step.answer == Answer::NeedMore => {
             return match state {
@@ -122,6 +124,7 @@ fn client_outcome(state: ClientState, step: &Result<Step, u32>, stream: &[u8]) -
     use ClientState::{Asked, Closed, Ended, In};
     match step {
         Err(31 | 32) => {}
+        Err(25) => return bad_field(stream),
         Err(refusal) => return refusal_name(*refusal),
         Ok(step) if step.answer == Answer::NeedMore => {
             return match state {

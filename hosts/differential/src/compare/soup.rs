@@ -3,6 +3,7 @@
 use super::{name, Expected};
 use crate::call::Call;
 use crate::reference::soup::{self, Front, Login, Packet, Sender};
+use crate::reference::text;
 
 pub fn answer(call: &Call) -> Option<Expected> {
     Some(match *call {
@@ -51,11 +52,7 @@ fn read(stream: &[u8], sender: Sender) -> Expected {
     match soup::read(stream, sender) {
         Err(25) => {
             let mut refusal = Expected::refusal(25);
-            refusal.outcome = match stream[2] {
-                b'A' => "25 in A",
-                b'J' => "25 in J",
-                _ => "25 in L",
-            };
+            refusal.outcome = bad_field(stream);
             refusal
         }
         Err(refusal) => Expected::refusal(refusal),
@@ -70,6 +67,44 @@ fn read(stream: &[u8], sender: Sender) -> Expected {
             let letter = u64::from(packet.letter());
             Expected::answer(packet_name(&packet, sender)).words(&[letter, size as u64, value])
         }
+    }
+}
+
+/// Which fields of the packet in front are bad, where it is refused with 25: each is to be drawn as the only bad one.
+pub fn bad_field(stream: &[u8]) -> &'static str {
+    let (session, number) = match stream[2] {
+        b'J' => return "25 in J, reason",
+        b'A' => (
+            text::is_session(&stream[3..13]),
+            text::number(&stream[13..33]),
+        ),
+        _ => (
+            text::is_session_or_blank(&stream[19..29]),
+            text::number(&stream[29..49]),
+        ),
+    };
+    match (stream[2], session, number) {
+        (b'A', true, None) => "25 in A, number",
+        (b'A', true, Some(_)) => "25 in A, number 0",
+        (b'A', false, Some(1..)) => "25 in A, session",
+        (b'A', false, _) => "25 in A, session and number",
+        (_, true, _) => "25 in L, number",
+        (_, false, Some(_)) => "25 in L, session",
+        (_, false, None) => "25 in L, session and number",
+    }
+}
+
+/// The same for a scan, whatever the letter.
+fn stopped_by_field(stream: &[u8]) -> &'static str {
+    let field = bad_field(stream);
+    if field.ends_with("reason") {
+        "stopped by 25, reason"
+    } else if field.ends_with(", session") {
+        "stopped by 25, session"
+    } else if field.ends_with("and number") {
+        "stopped by 25, session and number"
+    } else {
+        "stopped by 25, number"
     }
 }
 
@@ -100,7 +135,7 @@ fn scan(stream: &[u8], sender: Sender) -> Expected {
         Some(22) => "stopped by 22",
         Some(23) => "stopped by 23",
         Some(24) => "stopped by 24",
-        Some(_) => "stopped by 25",
+        Some(_) => stopped_by_field(&stream[scan.bytes..]),
     };
     let stopped_by = u64::from(scan.stopped_by.unwrap_or(0));
     Expected::answer(outcome).words(&[scan.packets, scan.bytes as u64, stopped_by])

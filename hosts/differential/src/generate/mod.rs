@@ -12,6 +12,7 @@ mod session_cases;
 mod soup;
 mod soup_cases;
 mod talk;
+mod write_back;
 
 use crate::random::Random;
 use crate::run::Run;

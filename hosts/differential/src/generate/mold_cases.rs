@@ -1,6 +1,6 @@
 //! Single calls of the MoldUDP64 functions.
 
-use super::{bytes, lend, mold};
+use super::{bytes, lend, mold, write_back};
 use crate::call::Call;
 use crate::layout::{self, Cursor};
 use crate::random::Random;
@@ -23,9 +23,11 @@ pub fn read(run: &mut Run, random: &mut Random) {
     walk(run, random, datagram);
     next_anywhere(run, random, datagram);
     receiver_walk(run, random, datagram);
+    write_back::datagram(run, random, datagram);
     let request = mold::request(random);
     let request = request.as_slice();
     lend::single(run, random, &Call::MoldReadRequest { request }, None);
+    write_back::request(run, random, request);
 }
 
 /// A place at, before or behind the datagram's count.

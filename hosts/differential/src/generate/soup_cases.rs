@@ -1,6 +1,6 @@
 //! Single calls of the SoupBinTCP packets' functions.
 
-use super::{accounts, bytes, lend, soup};
+use super::{accounts, bytes, lend, soup, write_back};
 use crate::call::Call;
 use crate::random::Random;
 use crate::run::Run;
@@ -18,11 +18,13 @@ pub fn read(run: &mut Run, random: &mut Random) {
     let client = random.one_in(2);
     for _ in 0..4 {
         let stream = soup::any_stream(random, client);
+        let sender = sender(random, client);
         let call = Call::SoupRead {
             stream: &stream,
-            sender: sender(random, client),
+            sender,
         };
         lend::single(run, random, &call, None);
+        write_back::packet(run, random, &stream, sender);
     }
     grow(run, random, client);
     for _ in 0..2 {

@@ -217,6 +217,28 @@ pub fn write_rejected(reason: u8) -> Result<Vec<u8>, Refusal> {
     Ok(packet(b'J', &[reason]))
 }
 
+/// How a whole packet that was read is written back: as it came, with document 01's two exceptions.
+pub fn written_back(packet: &[u8]) -> Result<Vec<u8>, Refusal> {
+    let mut back = packet.to_vec();
+    match packet[2] {
+        b'A' => without_leading_zeros(&mut back[13..33]),
+        b'L' if !text::is_sound(&packet[3..9]) || !text::is_sound(&packet[9..19]) => {
+            return Err(46)
+        }
+        b'L' => without_leading_zeros(&mut back[29..49]),
+        _ => {}
+    }
+    Ok(back)
+}
+
+/// A number field has spaces where leading zeros were; its last digit is none of them.
+fn without_leading_zeros(field: &mut [u8]) {
+    let before = field[..19].iter_mut().skip_while(|byte| **byte == b' ');
+    for zero in before.take_while(|byte| **byte == b'0') {
+        *zero = b' ';
+    }
+}
+
 pub fn write_login(login: &Login) -> Result<Vec<u8>, Refusal> {
     let sound = text::is_sound(&login.username) && text::is_sound(&login.password);
     if !sound || !text::is_session_or_blank(&login.session) {

@@ -1,12 +1,11 @@
 use super::Step;
-use crate::call::{check, field, kept_as_bytes, pointed, unknown, words};
-use crate::mold::Session;
+use crate::call::{check, field, pointed, received, unknown};
 use crate::soup::Reason;
-use crate::{raw, Refusal};
+use crate::{raw, Refusal, Session};
 use std::fmt;
 
 /// The client's end of one connection.
-#[derive(Clone, PartialEq, Eq)]
+#[derive(PartialEq, Eq)]
 pub struct Client {
     state: [u8; raw::CLIENT_SIZE],
 }
@@ -26,6 +25,7 @@ pub enum ClientState {
 
 /// What a client's end answers to a server's packet.
 #[derive(Clone, Copy, Debug, PartialEq, Eq)]
+#[non_exhaustive]
 pub enum ClientAnswer<'a> {
     /// No whole packet yet: read on.
     NeedMore,
@@ -63,7 +63,7 @@ impl Client {
     /// Takes the packet at the front of the server's stream.
     pub fn step<'a>(&mut self, stream: &'a [u8]) -> Result<Step<ClientAnswer<'a>>, Refusal> {
         let [what, size, value, offset, length] =
-            words(|words| raw::client_step(&mut self.state, stream, words))?;
+            received(|words| raw::client_step(&mut self.state, stream, words))?;
         let answer = match what {
             raw::SESSION_NEED_MORE => ClientAnswer::NeedMore,
             raw::SESSION_ACCEPTED => ClientAnswer::Accepted { number: value },
@@ -98,9 +98,12 @@ impl Client {
     pub fn number(&self) -> u64 {
         u64::from_be_bytes(field(&self.state, 10))
     }
-}
 
-kept_as_bytes!(Client, CLIENT_SIZE);
+    /// The state's bytes, as `include/eiderwagon.h` lays them out.
+    pub fn as_bytes(&self) -> &[u8; raw::CLIENT_SIZE] {
+        &self.state
+    }
+}
 
 impl fmt::Debug for Client {
     fn fmt(&self, f: &mut fmt::Formatter<'_>) -> fmt::Result {

@@ -1,12 +1,11 @@
 use super::{Accounts, Step};
-use crate::call::{check, field, kept_as_bytes, pointed, unknown, words};
-use crate::mold::Session;
+use crate::call::{check, field, pointed, received, unknown};
 use crate::soup::{Packet, Reason};
-use crate::{raw, Refusal};
+use crate::{raw, Refusal, Session};
 use std::fmt;
 
 /// The server's end of one connection.
-#[derive(Clone, PartialEq, Eq)]
+#[derive(PartialEq, Eq)]
 pub struct Server {
     state: [u8; raw::SERVER_SIZE],
 }
@@ -24,6 +23,7 @@ pub enum ServerState {
 
 /// What a server's end answers to a client's packet.
 #[derive(Clone, Copy, Debug, PartialEq, Eq)]
+#[non_exhaustive]
 pub enum ServerAnswer<'a> {
     /// No whole packet yet: read on.
     NeedMore,
@@ -60,7 +60,7 @@ impl Server {
         stream: &'a [u8],
     ) -> Result<Step<ServerAnswer<'a>>, Refusal> {
         let [what, size, value, length, _] =
-            words(|w| raw::server_step(&mut self.state, accounts.as_bytes(), stream, w))?;
+            received(|w| raw::server_step(&mut self.state, accounts.as_bytes(), stream, w))?;
         let answer = match what {
             raw::SESSION_NEED_MORE => ServerAnswer::NeedMore,
             raw::SESSION_ACCEPTED => ServerAnswer::Accepted { number: value },
@@ -104,9 +104,12 @@ impl Server {
     pub fn last(&self) -> u64 {
         u64::from_be_bytes(field(&self.state, 10))
     }
-}
 
-kept_as_bytes!(Server, SERVER_SIZE);
+    /// The state's bytes, as `include/eiderwagon.h` lays them out.
+    pub fn as_bytes(&self) -> &[u8; raw::SERVER_SIZE] {
+        &self.state
+    }
+}
 
 impl fmt::Debug for Server {
     fn fmt(&self, f: &mut fmt::Formatter<'_>) -> fmt::Result {

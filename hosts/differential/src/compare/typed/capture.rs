@@ -1,54 +1,61 @@
 //! `eiderwagon::capture`.
 
-use super::{front, same, same_bytes, same_state};
+use super::{same, same_bytes, same_state};
 use crate::call::Call;
 use crate::compare::Expected;
 use crate::layout;
-use crate::reference::capture as reference;
+use crate::reference::capture::{self as reference, Capture};
 use eiderwagon::capture::{self, Fed, Reading};
 
-pub fn difference(
-    call: &Call,
-    state: &[u8],
-    expected: &Expected,
-    out: &mut [u8],
-) -> Option<String> {
+pub fn difference(call: &Call, expected: &Expected, out: &mut [u8]) -> Option<String> {
     match *call {
         Call::CaptureStart => {
             let started = Reading::start();
             same_state(expected, started.as_bytes(), started.as_bytes())
         }
-        Call::CaptureFeed { bytes } => {
-            let state = front(state);
-            let mut reading = Reading::from_bytes(state);
-            let fed = reading.feed(bytes);
-            let mut wanted = layout::capture(&state);
-            let used = wanted.feed(bytes);
-            let over = wanted.is_over();
-            same("feed", fed, Fed { used, over })
-                .or_else(|| same_state(expected, &state, reading.as_bytes()))
-        }
-        Call::CaptureFinish { bytes } => {
-            let state = front(state);
-            let mut reading = Reading::from_bytes(state);
-            reading.finish(bytes);
-            same_state(expected, &state, reading.as_bytes())
-        }
-        Call::CaptureWrite => {
-            let reading = Reading::from_bytes(front(state));
-            let wanted = layout::capture(state).report();
-            same_bytes(expected, reading.write(out))
-                .or_else(|| same("report", reading.report(), text(&wanted)))
-        }
         Call::CaptureReport { capture } => {
             let wanted = reference::report(capture);
             same("report", capture::report(capture), text(&wanted))
+                .or_else(|| in_pieces(capture, expected, out))
         }
         _ => None,
     }
 }
 
-/// A report as text, which it is unless a state was made by hand with another name in it.
+/// A reading is had from its start alone, so the other functions are compared along a whole capture: in three pieces, what isn't used
+/// being fed again.
+fn in_pieces(capture: &[u8], expected: &Expected, out: &mut [u8]) -> Option<String> {
+    let mut reading = Reading::start();
+    let mut wanted = Capture::start();
+    let mut used = 0;
+    for end in [capture.len() / 3, capture.len() / 3 * 2] {
+        let piece = &capture[used..end];
+        let fed = reading.feed(piece);
+        let difference = same("feed", fed, reference_feed(&mut wanted, piece))
+            .or_else(|| same_reading(&reading, &wanted));
+        if difference.is_some() {
+            return difference;
+        }
+        used += fed.used;
+    }
+    reading.finish(&capture[used..]);
+    wanted.finish(&capture[used..]);
+    same_reading(&reading, &wanted).or_else(|| same_bytes(expected, reading.write(out)))
+}
+
+fn reference_feed(capture: &mut Capture, piece: &[u8]) -> Fed {
+    let used = capture.feed(piece);
+    let over = capture.is_over();
+    Fed { used, over }
+}
+
+fn same_reading(reading: &Reading, wanted: &Capture) -> Option<String> {
+    same("report", reading.report(), text(&wanted.report())).or_else(|| {
+        let bytes = layout::capture_bytes(wanted);
+        same("reading", reading.as_bytes().as_slice(), bytes.as_slice())
+    })
+}
+
 fn text(report: &[u8]) -> String {
-    String::from_utf8_lossy(report).into_owned()
+    String::from_utf8(report.to_vec()).expect("a report is text")
 }

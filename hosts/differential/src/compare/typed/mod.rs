@@ -1,7 +1,10 @@
 //! The wrapper's types above the exported functions: for each drawn input that they can be given, their answer is the reference's.
+//!
+//! A drawn state may be of any bytes; the types have only those that a start and some steps lead to, and `reach` goes there.
 
 mod capture;
 mod mold;
+mod reach;
 mod session;
 mod soup;
 
@@ -21,7 +24,7 @@ pub fn difference(call: &Call, lent: &Lent) -> Option<String> {
     mold::difference(call, &lent.state, &expected, &mut out)
         .or_else(|| soup::difference(call, &expected, &mut out))
         .or_else(|| session::difference(call, &lent.state, &expected))
-        .or_else(|| capture::difference(call, &lent.state, &expected, &mut out))
+        .or_else(|| capture::difference(call, &expected, &mut out))
 }
 
 fn same<T: Debug + PartialEq>(what: &str, typed: T, wanted: T) -> Option<String> {
@@ -30,7 +33,7 @@ fn same<T: Debug + PartialEq>(what: &str, typed: T, wanted: T) -> Option<String>
 
 /// A typed result with the refusal's number, as the reference has it.
 fn numbered<T>(result: Result<T, Refusal>) -> Result<T, u32> {
-    result.map_err(Refusal::number)
+    result.map_err(|refusal| refusal.number())
 }
 
 /// A typed writer wrote what was expected.

@@ -1,6 +1,6 @@
 //! `eiderwagon::mold` and `eiderwagon::receiver`.
 
-use super::{front, numbered, same, same_bytes, same_state};
+use super::{front, numbered, reach, same, same_bytes, same_state};
 use crate::call::Call;
 use crate::compare::Expected;
 use crate::layout;
@@ -137,6 +137,7 @@ fn start(session: &[u8; 10], next: u64, limit: u16) -> Option<String> {
 }
 
 fn take(state: &[u8; layout::RECEIVER], datagram: &[u8], expected: &Expected) -> Option<String> {
+    let mut typed = reach::receiver(state)?;
     let mut receiver = layout::receiver(state);
     let session = receiver.session;
     let wanted = receiver.take(datagram).map(|answer| match answer {
@@ -158,13 +159,13 @@ fn take(state: &[u8; layout::RECEIVER], datagram: &[u8], expected: &Expected) ->
         }
         receiver::Answer::Ended => (5, None, vec![], None),
     });
-    let mut typed = typed::Receiver::from_bytes(*state);
     let answer = typed.take(datagram).map(|answer| match answer {
         typed::Answer::Deliver { first, messages } => (1, Some(first), messages.collect(), None),
         typed::Answer::Old => (2, None, vec![], None),
         typed::Answer::Quiet => (3, None, vec![], None),
         typed::Answer::Ask(request) => (4, None, vec![], Some(request)),
         typed::Answer::Ended => (5, None, vec![], None),
+        other => unreachable!("the table has no {other:?}"),
     });
     same("answer", numbered(answer), wanted)
         .or_else(|| same("receiver", as_reference(&typed), receiver))

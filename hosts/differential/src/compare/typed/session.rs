@@ -1,12 +1,13 @@
 //! `eiderwagon::session`.
 
 use super::soup::reason;
-use super::{front, numbered, same, same_state};
+use super::{front, numbered, reach, same, same_state};
 use crate::call::Call;
 use crate::compare::Expected;
 use crate::layout;
 use crate::reference::session as reference;
 use crate::reference::session::Answer;
+use crate::reference::soup::{write_accepted, write_rejected};
 use eiderwagon::session::{
     Accounts, Client, ClientAnswer, ClientState, Server, ServerAnswer, ServerState, Step,
 };
@@ -65,20 +66,18 @@ fn server_step(
     stream: &[u8],
     expected: &Expected,
 ) -> Option<String> {
+    let mut server = reach::server(state)?;
     let mut wanted = layout::server(state);
     let step = wanted.step(&layout::accounts(accounts), stream);
-    let mut server = Server::from_bytes(*state);
     let typed = numbered(server.step(&Accounts::from_bytes(accounts), stream));
     let reply = typed
         .as_ref()
         .ok()
-        .and_then(|step| server.reply(&step.answer));
+        .and_then(|step| server.reply(&step.answer))
+        .map(written);
     let wanted_reply = step.as_ref().ok().and_then(|step| match step.answer {
-        Answer::Accepted { number } => Some(Packet::LoginAccepted {
-            session: wanted.session,
-            number,
-        }),
-        Answer::Rejected { reason: letter } => reason(letter).map(Packet::LoginRejected),
+        Answer::Accepted { number } => write_accepted(&wanted.session, number).ok(),
+        Answer::Rejected { reason } => write_rejected(reason).ok(),
         _ => None,
     });
     let step = step.map(|step| Step {
@@ -89,6 +88,13 @@ fn server_step(
         .or_else(|| same("reply", reply, wanted_reply))
         .or_else(|| same("server", of_server(&server), wanted))
         .or_else(|| same_state(expected, state, server.as_bytes()))
+}
+
+/// Packets don't compare, but what is written of them does.
+fn written(packet: Packet) -> Vec<u8> {
+    let mut out = [0; 64];
+    let written = packet.write(&mut out).expect("a reply can be written");
+    written.to_vec()
 }
 
 fn server_answer<'a>(answer: &Answer, stream: &'a [u8]) -> ServerAnswer<'a> {
@@ -109,12 +115,12 @@ fn server_answer<'a>(answer: &Answer, stream: &'a [u8]) -> ServerAnswer<'a> {
 }
 
 fn client_step(state: &[u8; layout::CLIENT], stream: &[u8], expected: &Expected) -> Option<String> {
+    let mut client = reach::client(state)?;
     let mut wanted = layout::client(state);
     let step = wanted.step(stream).map(|step| Step {
         answer: client_answer(&step.answer, stream),
         size: step.taken,
     });
-    let mut client = Client::from_bytes(*state);
     same("step", numbered(client.step(stream)), step)
         .or_else(|| same("client", of_client(&client), wanted))
         .or_else(|| same_state(expected, state, client.as_bytes()))

@@ -5,8 +5,7 @@ use crate::call::Call;
 use crate::compare::soup::who;
 use crate::compare::Expected;
 use crate::reference::soup as reference;
-use eiderwagon::soup::{self, Front, Login, Packet, Reason, Scan, Sender, Stop};
-use eiderwagon::Refusal;
+use eiderwagon::soup::{self, Front, Login, Packet, Reason, Sender, Stop};
 
 pub fn difference(call: &Call, expected: &Expected, out: &mut [u8]) -> Option<String> {
     let packet = match *call {
@@ -57,51 +56,74 @@ fn sender(sender: reference::Sender) -> Sender {
 }
 
 fn read(stream: &[u8], from: reference::Sender) -> Option<String> {
-    let wanted = reference::read(stream, from).map(|answer| match answer {
-        reference::Front::NeedMore => Front::NeedMore,
-        reference::Front::Packet { packet, size } => Front::Packet {
-            packet: as_typed(&packet, &stream[reference::PAYLOAD..size]),
-            size,
-        },
-    });
-    same("front", numbered(soup::read(stream, sender(from))), wanted)
+    let typed = soup::read(stream, sender(from));
+    let wanted = reference::read(stream, from);
+    let back = match &typed {
+        Ok(Front::Packet { packet, size }) => write_back(packet, &stream[..*size]),
+        _ => None,
+    };
+    same("front", numbered(typed.map(as_reference)), wanted).or(back)
 }
 
-fn as_typed<'a>(packet: &reference::Packet, payload: &'a [u8]) -> Packet<'a> {
-    match packet {
-        reference::Packet::Debug { .. } => Packet::Debug(payload),
-        reference::Packet::Accepted { session, number } => Packet::LoginAccepted {
-            session: *session,
-            number: *number,
+/// The reference's packets compare, and the wrapper's don't; of a payload its length is kept.
+fn as_reference(front: Front) -> reference::Front {
+    match front {
+        Front::NeedMore => reference::Front::NeedMore,
+        Front::Packet { packet, size } => reference::Front::Packet {
+            packet: packet_as_reference(packet),
+            size,
         },
-        reference::Packet::Rejected { reason } => {
-            Packet::LoginRejected(self::reason(*reason).expect("A or S"))
+    }
+}
+
+fn packet_as_reference(packet: Packet) -> reference::Packet {
+    let length = |payload: &[u8]| payload.len();
+    match packet {
+        Packet::Debug(text) => reference::Packet::Debug {
+            length: length(text),
+        },
+        Packet::LoginAccepted { session, number } => {
+            reference::Packet::Accepted { session, number }
         }
-        reference::Packet::Sequenced { .. } => Packet::SequencedData(payload),
-        reference::Packet::ServerHeartbeat => Packet::ServerHeartbeat,
-        reference::Packet::End => Packet::EndOfSession,
-        reference::Packet::Login(login) => Packet::LoginRequest(Login {
+        Packet::LoginRejected(reason) => reference::Packet::Rejected {
+            reason: reason as u8,
+        },
+        Packet::SequencedData(message) => reference::Packet::Sequenced {
+            length: length(message),
+        },
+        Packet::ServerHeartbeat => reference::Packet::ServerHeartbeat,
+        Packet::EndOfSession => reference::Packet::End,
+        Packet::LoginRequest(login) => reference::Packet::Login(reference::Login {
             username: login.username,
             password: login.password,
             session: login.session,
             number: login.number,
         }),
-        reference::Packet::Unsequenced { .. } => Packet::UnsequencedData(payload),
-        reference::Packet::ClientHeartbeat => Packet::ClientHeartbeat,
-        reference::Packet::Logout => Packet::LogoutRequest,
+        Packet::UnsequencedData(message) => reference::Packet::Unsequenced {
+            length: length(message),
+        },
+        Packet::ClientHeartbeat => reference::Packet::ClientHeartbeat,
+        Packet::LogoutRequest => reference::Packet::Logout,
     }
 }
 
+/// A packet that was read is written as it came, with document 01's two exceptions. Its payload is compared so, too.
+fn write_back(packet: &Packet, came: &[u8]) -> Option<String> {
+    let mut out = [0; 4_099];
+    let written = numbered(packet.write(&mut out).map(<[u8]>::to_vec));
+    same("write-back", written, reference::written_back(came))
+}
+
 fn scan(stream: &[u8], from: reference::Sender) -> Option<String> {
-    let scan = reference::scan(stream, from);
-    let stop = match scan.stopped_by {
-        None => Stop::NeedMore,
-        Some(number) => Stop::Refused(Refusal::from_number(number).expect("a known refusal")),
+    let scan = soup::scan(stream, sender(from));
+    let stopped_by = match scan.stop {
+        Stop::NeedMore => None,
+        Stop::Refused(refusal) => Some(refusal.number()),
     };
-    let wanted = Scan {
+    let typed = reference::Scan {
         packets: scan.packets,
         bytes: scan.bytes,
-        stop,
+        stopped_by,
     };
-    same("scan", soup::scan(stream, sender(from)), wanted)
+    same("scan", typed, reference::scan(stream, from))
 }
