@@ -1,7 +1,7 @@
 //! Holds `raw` to the header: the same constants, and the same functions with the same parameters;
 //! and the refusals' grounds in words to those of its `eiderwagon_ground`.
 
-use crate::{raw, Refusal};
+use crate::{raw, Ground};
 use std::fmt::Debug;
 use std::fs;
 
@@ -86,7 +86,7 @@ fn the_functions_are_the_headers() {
 
 #[test]
 fn the_refusals_are_the_headers() {
-    let ours: Vec<_> = Refusal::ALL.iter().map(|refusal| u64::from(refusal.number())).collect();
+    let ours: Vec<_> = Ground::ALL.iter().map(|ground| u64::from(ground.number())).collect();
     let theirs = constants(&header());
     let theirs = theirs.iter().filter(|(name, _)| name.starts_with("REFUSED_"));
     assert_same(&ours, &theirs.map(|&(_, number)| number).collect::<Vec<_>>());
@@ -102,13 +102,13 @@ fn the_grounds_are_the_headers() {
     };
     let theirs: Vec<_> =
         header.split("case EIDERWAGON_REFUSED_").skip(1).filter_map(case).collect();
-    let name = |refusal: &Refusal| {
+    let name = |ground: &Ground| {
         let named = raw::CONSTANTS.iter().find(|(name, number)| {
-            name.starts_with("REFUSED_") && *number == u64::from(refusal.number())
+            name.starts_with("REFUSED_") && *number == u64::from(ground.number())
         });
-        named.expect("a refusal has a name").0.trim_start_matches("REFUSED_").to_string()
+        named.expect("a ground has a name").0.trim_start_matches("REFUSED_").to_string()
     };
-    let ours: Vec<_> = Refusal::ALL.iter().map(|r| (name(r), r.ground().to_string())).collect();
+    let ours: Vec<_> = Ground::ALL.iter().map(|g| (name(g), g.words().to_string())).collect();
     assert_same(&ours, &theirs);
 }
 

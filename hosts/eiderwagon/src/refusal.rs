@@ -153,12 +153,6 @@ impl Refusal {
     }
 }
 
-/// `header_test.rs` compares these with the header.
-#[cfg(test)]
-impl Refusal {
-    pub(crate) const ALL: &'static [Ground] = Ground::ALL;
-}
-
 impl fmt::Display for Refusal {
     fn fmt(&self, f: &mut fmt::Formatter<'_>) -> fmt::Result {
         write!(f, "refusal {}: {}", self.number(), self.ground)
