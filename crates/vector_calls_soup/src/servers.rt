@@ -1,14 +1,7 @@
 // The SoupBinTCP session at the server.
-use crate::NO_FUNCTION;
+use vector_lines::NO_FUNCTION;
 
-pub(crate) fn call(
-    function: u64,
-    a: &[u8],
-    b: &[u8],
-    n: u64,
-    lent: &mut [u8],
-    words: &mut [u64],
-) -> u32 {
+pub fn call(function: u64, a: &[u8], b: &[u8], n: u64, lent: &mut [u8], words: &mut [u64]) -> u32 {
     match function {
         60 => exports_server::eiderwagon_server_start(a, n, lent),
         61 => exports_server::eiderwagon_server_step(lent, a, b, words),

@@ -1,15 +1,8 @@
 // The MoldUDP64 receiver.
-use crate::NO_FUNCTION;
-use crate::narrow::low16;
+use vector_lines::NO_FUNCTION;
+use vector_lines::narrow::low16;
 
-pub(crate) fn call(
-    function: u64,
-    a: &[u8],
-    n: u64,
-    m: u64,
-    lent: &mut [u8],
-    words: &mut [u64],
-) -> u32 {
+pub fn call(function: u64, a: &[u8], n: u64, m: u64, lent: &mut [u8], words: &mut [u64]) -> u32 {
     match function {
         20 => exports_receiver::eiderwagon_receiver_start(a, n, low16(m), lent),
         21 => exports_receiver::eiderwagon_receiver_take(lent, a, words),

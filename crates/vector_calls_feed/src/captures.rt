@@ -1,7 +1,7 @@
 // Captures.
-use crate::NO_FUNCTION;
+use vector_lines::NO_FUNCTION;
 
-pub(crate) fn call(function: u64, a: &[u8], lent: &mut [u8], words: &mut [u64]) -> u32 {
+pub fn call(function: u64, a: &[u8], lent: &mut [u8], words: &mut [u64]) -> u32 {
     match function {
         100 => exports_capture::eiderwagon_capture_start(lent),
         101 => exports_capture::eiderwagon_capture_feed(lent, a, words),
