@@ -7,14 +7,14 @@ use mathlib.Core.Path.{_≡_, refl, ap, sym, _∙_}
 use native.Mathlib.Omega.{arith}
 use lib.ListN.{length}
 use lib.Dec.{ltb, leb, eqb}
-use borrow.Author.Tests.{eq-eqb, eqb-true, leb-false, lt-ltb, le-ltb}
+use borrow.Author.Tests.{eq-eqb, leb-false, lt-ltb, le-ltb}
 use Rattle.wire.specs.Choice.{if_then_else_}
 use Rattle.wire.specs.Refusals.{outputShort}
 use Rattle.wire.specs.Output.{writtenWords, put, writeRefusal, writeAnswer, writeOutput, Writes}
 use Rattle.wire.specs.declared.output.Written.{Written}
 use Rattle.wire.proofs.Cases.{zero-or-not}
 use Rattle.wire.proofs.Words.{refusal-of, values-of}
-use Rattle.wire.proofs.Outputs.{put-none}
+use Rattle.wire.proofs.Outputs.{put-none, answer-refusal}
 use Rattle.host_answers.specs.Answers.{codeOf, onSuccess, padded, AnswersWith, AnswersWriting}
 use Rattle.host_answers.proofs.AnswerLaws.{no-success, length-padded}
 
@@ -34,15 +34,6 @@ module _ (l bs : List ℕ) where
       go true d true e = refl
       go true d false e = put-none l 0 bs (leb-false _ _ e)
       go false d c e = rw d
-
-  -- the answer's refusal is the code
-  answer-code : (g : ℕ) → writeAnswer g l 0 bs .refusal ≡ writeRefusal g l 0 bs
-  unfolding writeAnswer
-  answer-code g = go (eqb (writeRefusal g l 0 bs) 0) refl
-    where
-      go : (b : Bool) → eqb (writeRefusal g l 0 bs) 0 ≡ b → writeAnswer g l 0 bs .refusal ≡ writeRefusal g l 0 bs
-      go true e = rw e (sym (eqb-true _ _ e))
-      go false e = rw e
 
   -- and its value, where there is no refusal, how many bytes
   answer-size : (g : ℕ) → writeRefusal g l 0 bs ≡ 0 → padded 1 (writeAnswer g l 0 bs .values) ≡ length bs ∷ []
@@ -64,7 +55,7 @@ module _ (lacks : Bool) (ws l : List ℕ) (g : ℕ) (bs : List ℕ) where
       → AnswersWith r ws ws′ false (writtenWords w .refusal) (padded 1 (writtenWords w .values)) → AnswersWriting r ws ws′ l l′ lacks g bs
   unfolding codeOf
   writing-reported w r ws′ l′ e writes reports =
-      let code : writtenWords w .refusal ≡ writeRefusal g l 0 bs = refusal-of (writes .answers) ∙ answer-code l bs g in
+      let code : writtenWords w .refusal ≡ writeRefusal g l 0 bs = refusal-of (writes .answers) ∙ answer-refusal g l 0 bs in
       let size : writeRefusal g l 0 bs ≡ 0 → padded 1 (writtenWords w .values) ≡ length bs ∷ [] =
       λ z. ap (padded 1) (values-of (writes .answers)) ∙ answer-size l bs g z in
       let same : r ≡ writeRefusal g l 0 bs = given code in

@@ -1,9 +1,11 @@
 -- The laws that the functions' proofs need, for `search`: one set for each task.
 use borrow.Author.Needs.{needs}
 use Rattle.soupbintcp.proofs.FrontLaws.{packet-size}
-use Rattle.soupbintcp_server.proofs.ServerLaws.{server-start-19, server-refused, server-name-bad, last-small, last-large, server-start-0, server-fresh, entry-read, login-accepted, login-rejected, login-refused, waiting-L, waiting-plus, waiting-other, in-U, in-R, server-in-plus, in-O, server-in-other, row-waiting, server-row-in, server-row-closed, table-refused, server-step-more, server-step-refused, server-step-packet, server-step}
+use Rattle.soupbintcp_server.proofs.ServerLaws.{server-start-19, server-refused, server-name-bad, last-small, last-large, server-start-0, server-fresh, last-falls, last-passes, last-good, last-19, last-stays, last-moved, entry-read, login-accepted, login-rejected, login-refused, waiting-L, waiting-plus, waiting-other, in-U, in-R, server-in-plus, in-O, server-in-other, row-waiting, server-row-in, server-row-closed, table-refused, server-step-more, server-step-refused, server-step-packet, server-step}
 
 pub ruleset server-starts = (server-start-19, server-refused, server-name-bad, last-small, last-large, server-start-0, server-fresh, needs)
+
+pub ruleset last-numbers = (last-falls, last-passes, last-good, last-19, last-stays, last-moved, needs)
 
 pub ruleset entries = (entry-read)
 

@@ -36,13 +36,29 @@ pub data ServerDoes (s : Server) (l : List ℕ) (x : Words VerdictKind) (o : Ste
   logs-in : (k : ℕ) (vs ws : List ℕ) → InFront Client l k vs → letterOf l ≡ 76 → s .state ≡ Waiting
       → decisionOf x (sessionOf Client l) (getD vs 0 0) (s .session) (s .last .0) .which ≡ answer accepted
       → o ≡ takes k (says reply.accepted ws) (becomes s In) → ServerDoes s l x o
+  rejects : (k : ℕ) (vs ws : List ℕ) → InFront Client l k vs → letterOf l ≡ 76 → s .state ≡ Waiting
+      → decisionOf x (sessionOf Client l) (getD vs 0 0) (s .session) (s .last .0) .which ≡ answer rejected
+      → ws ≡ decisionOf x (sessionOf Client l) (getD vs 0 0) (s .session) (s .last .0) .values
+      → o ≡ takes k (says reply.rejected ws) (becomes s Closed) → ServerDoes s l x o
   hands-up : (k : ℕ) (vs : List ℕ) → InFront Client l k vs → s .state ≡ In → o ≡ takes k (says unsequenced (3 ∷ (k - 3) ∷ [])) (becomes s In)
       → ServerDoes s l x o
-  goes-by : (k : ℕ) (vs : List ℕ) (w : Words SessionAnswerKind) (t : ServerState) → InFront Client l k vs → Plain (w .which) → (t ≡ In → s .state ≡ In)
+  goes-by : (k : ℕ) (vs : List ℕ) (w : Words SessionAnswerKind) (t : ServerState) → InFront Client l k vs → Plain (w .which)
+      → (w .which ≡ answer reply.rejected → ⊥) → (t ≡ In → s .state ≡ In)
       → o ≡ takes k w (becomes s t) → ServerDoes s l x o
 
-never-in : Closed ≡ In → ⊥
+pub never-in : Closed ≡ In → ⊥
 never-in e = let z : _≡_ {A = ℕ} 0 1 = cc in omega arith
+
+-- ---- what is no rejection
+
+debug-apart : answer debug ≡ answer reply.rejected → ⊥
+debug-apart e = let z : _≡_ {A = ℕ} 0 1 = cc in omega arith
+
+heartbeat-apart : answer heartbeat ≡ answer reply.rejected → ⊥
+heartbeat-apart e = let z : _≡_ {A = ℕ} 0 1 = cc in omega arith
+
+logout-apart : answer logged-out ≡ answer reply.rejected → ⊥
+logout-apart e = let z : _≡_ {A = ℕ} 0 1 = cc in omega arith
 
 -- ---- the rows
 
@@ -54,25 +70,26 @@ module _ (s : Server) (l : List ℕ) (x : Words VerdictKind) (k : ℕ) (vs : Lis
   refuses-it r = rests (refuses r) (refusing r) refl
 
   login-does : letterOf l ≡ 76 → s .state ≡ Waiting → (d : Case DecisionKind) (r : ℕ) (ws : List ℕ)
-      → decisionOf x (sessionOf Client l) (getD vs 0 0) (s .session) (s .last .0) .which ≡ d → D (loginAt s k d r ws)
+      → decisionOf x (sessionOf Client l) (getD vs 0 0) (s .session) (s .last .0) .which ≡ d
+      → ws ≡ decisionOf x (sessionOf Client l) (getD vs 0 0) (s .session) (s .last .0) .values → D (loginAt s k d r ws)
   unfolding loginAt
-  login-does a q (answer accepted) r ws e = logs-in k vs ws i a q e refl
-  login-does a q (answer rejected) r ws e = goes-by k vs (says reply.rejected ws) Closed i a-rejection (λ z. absurd (never-in z)) refl
-  login-does a q refused r ws e = refuses-it r
+  login-does a q (answer accepted) r ws e f = logs-in k vs ws i a q e refl
+  login-does a q (answer rejected) r ws e f = rejects k vs ws i a q e f refl
+  login-does a q refused r ws e f = refuses-it r
 
   waiting-does : s .state ≡ Waiting → D (waitingRow s x (incoming k (letterOf l) vs (sessionOf Client l)))
   unfolding waitingRow
   waiting-does q =
-      choice D (eqb (letterOf l) 76) (λ e. login-does (eqb-true _ _ e) q _ _ _ refl) (λ e.
-      choice D (eqb (letterOf l) 43) (λ f. goes-by k vs (says debug []) Waiting i a-debug (λ z. q ∙ z) refl) (λ f. refuses-it _))
+      choice D (eqb (letterOf l) 76) (λ e. login-does (eqb-true _ _ e) q _ _ _ refl refl) (λ e.
+      choice D (eqb (letterOf l) 43) (λ f. goes-by k vs (says debug []) Waiting i a-debug debug-apart (λ z. q ∙ z) refl) (λ f. refuses-it _))
 
   in-does : s .state ≡ In → D (inRow s k (letterOf l))
   unfolding inRow
   in-does q =
       choice D (eqb (letterOf l) 85) (λ e. hands-up k vs i q refl) (λ e.
-      choice D (eqb (letterOf l) 82) (λ f. goes-by k vs (says heartbeat []) In i a-heartbeat (λ z. q) refl) (λ f.
-      choice D (eqb (letterOf l) 43) (λ g. goes-by k vs (says debug []) In i a-debug (λ z. q) refl) (λ g.
-      choice D (eqb (letterOf l) 79) (λ h. goes-by k vs (says logged-out []) Closed i a-logout (λ z. q) refl) (λ h. refuses-it _))))
+      choice D (eqb (letterOf l) 82) (λ f. goes-by k vs (says heartbeat []) In i a-heartbeat heartbeat-apart (λ z. q) refl) (λ f.
+      choice D (eqb (letterOf l) 43) (λ g. goes-by k vs (says debug []) In i a-debug debug-apart (λ z. q) refl) (λ g.
+      choice D (eqb (letterOf l) 79) (λ h. goes-by k vs (says logged-out []) Closed i a-logout logout-apart (λ z. q) refl) (λ h. refuses-it _))))
 
   row-does : (t : ServerState) → s .state ≡ t → D (rowAt t s x (incoming k (letterOf l) vs (sessionOf Client l)))
   unfolding rowAt
@@ -123,8 +140,9 @@ module _ (s : Server) (x : Words VerdictKind) (l : List ℕ) where
 does-keep : (s : Server) (l : List ℕ) (x : Words VerdictKind) (o : StepOutcome Server) → ServerDoes s l x o → KeepsItsSettings s (o .after)
 does-keep s l x o (rests w n e) = rw e (record { session = refl; last = refl })
 does-keep s l x o (logs-in k vs ws i a q d e) = rw e (record { session = refl; last = refl })
+does-keep s l x o (rejects k vs ws i a q d f e) = rw e (record { session = refl; last = refl })
 does-keep s l x o (hands-up k vs i q e) = rw e (record { session = refl; last = refl })
-does-keep s l x o (goes-by k vs w t i p f e) = rw e (record { session = refl; last = refl })
+does-keep s l x o (goes-by k vs w t i p g f e) = rw e (record { session = refl; last = refl })
 
 pub keeps : (t : List Account) (s : Server) (l : List ℕ) → KeepsItsSettings s (serverStep t s l .after)
 unfolding serverStep
@@ -140,9 +158,12 @@ server-moves s l x o (logs-in k vs ws i a q d e) =
   where
     not-so : answer reply.accepted ≡ answer unsequenced → ⊥
     not-so z = let y : _≡_ {A = ℕ} 0 1 = cc in omega arith
+server-moves s l x o (rejects k vs ws i a q d f e) =
+    does.moves k vs (says reply.rejected ws) (becomes s Closed) i (plain-takes (answer reply.rejected) a-rejection)
+    (λ z. absurd (plain-not-unsequenced (answer reply.rejected) a-rejection z)) e
 server-moves s l x o (hands-up k vs i q e) =
     does.moves k vs (says unsequenced (3 ∷ (k - 3) ∷ [])) (becomes s In) i unsequenced-takes (λ z. refl) e
-server-moves s l x o (goes-by k vs w t i p f e) =
+server-moves s l x o (goes-by k vs w t i p g f e) =
     does.moves k vs w (becomes s t) i (plain-takes (w .which) p) (λ z. absurd (plain-not-unsequenced (w .which) p z)) e
 
 -- with any verdict on the entry in front

@@ -35,7 +35,7 @@ use Rattle.soupbintcp_server.specs.declared.server.ServerState.{ServerSt
 use Rattle.soupbintcp_server.specs.declared.server.ServerState.the-variants.{Waiting, In, Closed}
 use Rattle.soupbintcp_server.specs.declared.server.Server.{Server}
 use Rattle.soupbintcp_server.specs.declared.server.Stepped.{Stepped}
-use Rattle.soupbintcp_server.specs.Server.{server, becomes, serverStartRefusal, refusedServer, startServer, loginAt, loginRow, waitingRow, inRow, rowAt, frontRow, frontRowAt, stepAt, stepWith, entryOf, serverStep, ServerSteps}
+use Rattle.soupbintcp_server.specs.Server.{server, becomes, serverStartRefusal, refusedServer, startServer, lastRefusal, withLast, loginAt, loginRow, waitingRow, inRow, rowAt, frontRow, frontRowAt, stepAt, stepWith, entryOf, serverStep, ServerSteps}
 
 -- what the code answers: a refusal, or a packet that is taken
 abbrev refuses-with : Server → ℕ → Stepped
@@ -78,6 +78,32 @@ module _ (name : List ℕ) (last : ℕ) where
     pub server-fresh : not t ≡ false → 0 ≤ last → last ≤ 18446744073709551614 → server name last Waiting ≡ startServer name last
     unfolding startServer
     server-fresh f g h = rw (← server-start-0 f g h)
+
+-- ---- the last number moves
+
+module _ (s : Server) (last : ℕ) where
+  pub last-falls : last < s .last .0 → lastRefusal s last ≡ 19
+  unfolding lastRefusal
+  last-falls h = rw (lt-ltb _ _ h)
+
+  pub last-passes : s .last .0 ≤ last → 18446744073709551614 < last → lastRefusal s last ≡ 19
+  unfolding lastRefusal
+  last-passes h g = rw (le-ltb _ _ h, lt-ltb _ _ g)
+
+  pub last-good : s .last .0 ≤ last → last ≤ 18446744073709551614 → 0 ≡ lastRefusal s last
+  unfolding lastRefusal
+  last-good h g = rw (le-ltb _ _ h, le-ltb _ _ g)
+
+  pub last-19 : (n : ℕ) → n ≡ 19 → lastRefusal s last ≡ 19 → n ≡ lastRefusal s last
+  last-19 n e f = e ∙ sym f
+
+  pub last-stays : (x : Server) → x ≡ s → lastRefusal s last ≡ 19 → x ≡ withLast s last
+  unfolding withLast
+  last-stays x e f = e ∙ rw f
+
+  pub last-moved : s .last .0 ≤ last → last ≤ 18446744073709551614 → server (s .session) last (s .state) ≡ withLast s last
+  unfolding withLast
+  last-moved h g = rw (← last-good h g)
 
 -- ---- the entry
 

@@ -7,10 +7,11 @@ use native.Mathlib.Omega.{arith}
 use lib.ListN.{length, getD}
 use borrow.Author.Tests.{le-ltb, lt-ltb}
 use Rattle.wire.specs.Refusals.{badSetting}
-use Rattle.wire.specs.Words.{Words, answer, says, refuses}
+use Rattle.wire.specs.Choice.{if_then_else_}
+use Rattle.wire.specs.Words.{Words, Case, answer, refused, says, refuses}
 use Rattle.soupbintcp.specs.declared.packet.Sender.the-variants.{Client}
 use Rattle.soupbintcp.specs.Letters.{login, letterFor}
-use Rattle.soupbintcp.specs.Fields.{hasFields}
+use Rattle.soupbintcp.specs.Fields.{hasFields, notAuthorized, sessionNotAvailable, goodReason}
 use Rattle.soupbintcp.specs.Front.{sessionOf}
 use Rattle.login.specs.declared.account.Account.{Account}
 use Rattle.login.specs.Account.{VerdictKind, known, unknown, mostAccounts, verdictOf, isKnown, lookupOf}
@@ -20,13 +21,13 @@ use Rattle.login.specs.Statements.{NotRefused}
 use Rattle.login.proofs.StatementLaws.{accepted-exactly-when, never-accepted}
 use Rattle.soupbintcp_session.specs.Answer.{StepOutcome, stays, takes}
 use Rattle.soupbintcp_session.specs.Answer as reply
-use Rattle.soupbintcp_session.proofs.FrontCases.{numbered-in-front, accepted-takes, unsequenced-takes, plain-not-accepted, plain-not-unsequenced}
+use Rattle.soupbintcp_session.proofs.FrontCases.{a-rejection, numbered-in-front, accepted-takes, unsequenced-takes, plain-takes, plain-not-accepted, plain-not-unsequenced}
 use Rattle.soupbintcp_session.proofs.StepLaws.{never-rests, changes-nothing, takes-packets, hands-up}
 use Rattle.soupbintcp_session.proofs.RunLaws.{any-cutting, runs-on}
 use Rattle.soupbintcp_server.specs.declared.server.ServerState.the-variants.{Waiting, In, Closed}
 use Rattle.soupbintcp_server.specs.declared.server.Server.{Server}
 use Rattle.soupbintcp_server.specs.Server.{becomes, loginAt, loginRow, waitingRow, rowAt, stepAt, stepWith, entryOf, serverStep}
-use Rattle.soupbintcp_server.specs.Statements.{LoginInFront, EntryIsItsFields, attemptOf, Accepts, LoginExactlyWhen, WasIn, before, by-login, ServerPromises}
+use Rattle.soupbintcp_server.specs.Statements.{LoginInFront, EntryIsItsFields, attemptOf, Accepts, Rejects, LoginExactlyWhen, WasIn, before, by-login, ServerPromises}
 use Rattle.soupbintcp_server.proofs.LoginLaws.{username-first, password-first}
 use Rattle.soupbintcp_server.proofs.ServerCases.{ServerDoes, server-does, keeps, server-rests-or-moves, server-steady, with-rests-or-moves}
 use Rattle.soupbintcp_server.proofs.ServerCases as cases
@@ -44,7 +45,7 @@ told-row s x l size n true q e f = rw f (cases.packet-row s (says known []) l lo
 told-row s x l size n false q e f = rw f (cases.packet-row s (says unknown []) l login size (n ∷ []) e ∙ rw q refl)
 
 module _ (t : List Account) (s : Server) (l : List ℕ) (size n : ℕ) (q : s .state ≡ Waiting) (e : LoginInFront l size n) (z : NotRefused (attemptOf t s l n)) where
-  decided-row : serverStep t s l ≡ loginRow s size (loginOf (attemptOf t s l n))
+  pub decided-row : serverStep t s l ≡ loginRow s size (loginOf (attemptOf t s l n))
   unfolding serverStep lookupOf EntryIsItsFields
   decided-row =
       told-row s (lookupOf t (entryOf l)) l size n (isKnown t (entryOf l)) q e (rw (le-ltb _ _ z) refl)
@@ -79,21 +80,26 @@ accepts t s l o (cases.logs-in k vs ws i a q d e) z =
       front = g;
       rules = accepted-exactly-when .only-when (attemptOf t s l (getD vs 0 0)) (rw (entry-is-its-fields l k (getD vs 0 0) g) at d);
     }
+accepts t s l o (cases.rejects k vs ws i a q d f e) z =
+    absurd (plain-not-accepted (answer reply.rejected) a-rejection (rw e at z))
 accepts t s l o (cases.hands-up k vs i q e) z = absurd (unsequenced-apart (rw e at z))
-accepts t s l o (cases.goes-by k vs w u i p f e) z = absurd (plain-not-accepted (w .which) p (rw e at z))
+accepts t s l o (cases.goes-by k vs w u i p g f e) z = absurd (plain-not-accepted (w .which) p (rw e at z))
 
 -- who is in was so before the step, or logs in by it
 is-in : (t : List Account) (s : Server) (l : List ℕ) (o : StepOutcome Server) → ServerDoes s l (lookupOf t (entryOf l)) o → o .after .state ≡ In → WasIn t s l
 is-in t s l o (cases.rests w n e) z = before (rw e at z)
 is-in t s l o (cases.logs-in k vs ws i a q d e) z = by-login (accepts t s l o (cases.logs-in k vs ws i a q d e) (rw e refl))
+is-in t s l o (cases.rejects k vs ws i a q d f e) z = absurd (cases.never-in (rw e at z))
 is-in t s l o (cases.hands-up k vs i q e) z = before q
-is-in t s l o (cases.goes-by k vs w u i p f e) z = before (f (rw e at z))
+is-in t s l o (cases.goes-by k vs w u i p g f e) z = before (f (rw e at z))
 
 hands-up-in : (s : Server) (l : List ℕ) (x : Words VerdictKind) (o : StepOutcome Server) → ServerDoes s l x o → o .reply .which ≡ answer reply.unsequenced → s .state ≡ In
 hands-up-in s l x o (cases.rests w n e) z = absurd (never-rests w n reply.unsequenced unsequenced-takes (rw e at z))
 hands-up-in s l x o (cases.logs-in k vs ws i a q d e) z = absurd (unsequenced-apart (sym (rw e at z)))
+hands-up-in s l x o (cases.rejects k vs ws i a q d f e) z =
+    absurd (plain-not-unsequenced (answer reply.rejected) a-rejection (rw e at z))
 hands-up-in s l x o (cases.hands-up k vs i q e) z = q
-hands-up-in s l x o (cases.goes-by k vs w u i p f e) z = absurd (plain-not-unsequenced (w .which) p (rw e at z))
+hands-up-in s l x o (cases.goes-by k vs w u i p g f e) z = absurd (plain-not-unsequenced (w .which) p (rw e at z))
 
 module _ (t : List Account) (s : Server) (l : List ℕ) where
   only-in : serverStep t s l .after .state ≡ In → WasIn t s l
@@ -103,6 +109,61 @@ module _ (t : List Account) (s : Server) (l : List ℕ) where
   hands-up-only-in : serverStep t s l .reply .which ≡ answer reply.unsequenced → s .state ≡ In
   unfolding serverStep
   hands-up-only-in z = hands-up-in s l (lookupOf t (entryOf l)) (serverStep t s l) (server-does s (lookupOf t (entryOf l)) l) z
+
+-- ---- a rejection
+
+accepted-not-rejected : answer decided.accepted ≡ answer decided.rejected → ⊥
+accepted-not-rejected e = let z : _≡_ {A = ℕ} 0 1 = cc in omega arith
+
+refused-not-rejected : _≡_ {A = Case decided.DecisionKind} refused (answer decided.rejected) → ⊥
+refused-not-rejected e = let z : _≡_ {A = ℕ} 0 1 = cc in omega arith
+
+-- its reason
+pub record HasReason (w : Words decided.DecisionKind) : Type 0 where
+  pub reason : ℕ
+  pub good : goodReason reason ≡ true
+  pub values : w .values ≡ reason ∷ []
+
+module _ (asked : List ℕ) (wanted : ℕ) (session : List ℕ) (last r : ℕ) where
+  because : (c : Case VerdictKind) → decided.decisionAt c r asked wanted session last .which ≡ answer decided.rejected
+      → HasReason (decided.decisionAt c r asked wanted session last)
+  unfolding decided.decisionAt goodReason
+  because (answer known) e = go (decided.sessionHolds asked session) (decided.numberHolds wanted last) e
+    where
+      go : (a b : Bool)
+          → (if a then (if b then says decided.accepted (decided.granted wanted last ∷ []) else decided.rejects sessionNotAvailable)
+          else decided.rejects sessionNotAvailable) .which ≡ answer decided.rejected
+          → HasReason (if a then (if b then says decided.accepted (decided.granted wanted last ∷ []) else decided.rejects sessionNotAvailable)
+          else decided.rejects sessionNotAvailable)
+      go true true e = absurd (accepted-not-rejected e)
+      go true false e = record { reason = sessionNotAvailable; good = refl; values = refl }
+      go false b e = record { reason = sessionNotAvailable; good = refl; values = refl }
+  because (answer unknown) e = record { reason = notAuthorized; good = refl; values = refl }
+  because refused e = absurd (refused-not-rejected e)
+
+rejects-so : (t : List Account) (s : Server) (l : List ℕ) → ServerDoes s l (lookupOf t (entryOf l)) (serverStep t s l)
+    → serverStep t s l .reply .which ≡ answer reply.rejected → Rejects t s l
+unfolding letterFor hasFields
+rejects-so t s l (cases.rests w n e) z = absurd (never-rests w n reply.rejected (plain-takes (answer reply.rejected) a-rejection) (rw e at z))
+rejects-so t s l (cases.logs-in k vs ws i a q d e) z = absurd (plain-not-accepted (answer reply.rejected) a-rejection (sym (rw e at z)))
+rejects-so t s l (cases.rejects k vs ws i a q d f e) z =
+    let x = lookupOf t (entryOf l) in
+    let b = because (sessionOf Client l) (getD vs 0 0) (s .session) (s .last .0) (x .refusal) (x .which) d in
+    record {
+      waiting = q;
+      size = k;
+      number = getD vs 0 0;
+      front = numbered-in-front Client l k vs login i a refl;
+      reason = b .reason;
+      good = b .good;
+      answers = e ∙ ap (λ (us : List ℕ). takes k (says reply.rejected us) (becomes s Closed)) (f ∙ b .values);
+    }
+rejects-so t s l (cases.hands-up k vs i q e) z = absurd (plain-not-unsequenced (answer reply.rejected) a-rejection (sym (rw e at z)))
+rejects-so t s l (cases.goes-by k vs w u i p g f e) z = absurd (g (rw e at z))
+
+only-rejects : (t : List Account) (s : Server) (l : List ℕ) → serverStep t s l .reply .which ≡ answer reply.rejected → Rejects t s l
+unfolding serverStep
+only-rejects t s l z = rejects-so t s l (server-does s (lookupOf t (entryOf l)) l) z
 
 login-exactly-when : LoginExactlyWhen
 unfolding serverStep
@@ -123,6 +184,7 @@ server-promises =
       login-exactly-when = login-exactly-when;
       only-in = only-in;
       hands-up-only-in = hands-up-only-in;
+      only-rejects = only-rejects;
       example = server-example;
       changes-nothing = λ t. changes-nothing (serverStep t) Client reply.unsequenced (server-rests-or-moves t);
       changes-nothing-with = λ v. changes-nothing (λ s l. stepWith s (v l) l) Client reply.unsequenced (with-rests-or-moves v);

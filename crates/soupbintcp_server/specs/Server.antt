@@ -59,6 +59,19 @@ refusedServer = server blank 1 Closed
 unfoldable pub startServer : List ℕ → ℕ → Server
 startServer name last = if eqb (serverStartRefusal name last) 0 then server name last Waiting else refusedServer
 
+-- ---- the last number moves, as messages are added
+
+-- 19 where it falls, or passes the largest
+unfoldable pub lastRefusal : Server → ℕ → ℕ
+lastRefusal s last =
+    if ltb last (s .last .0) then badSetting
+    else if ltb largestLast last then badSetting
+    else 0
+
+-- a refusal leaves the server as it was
+unfoldable pub withLast : Server → ℕ → Server
+withLast s last = if eqb (lastRefusal s last) 0 then server (s .session) last (s .state) else s
+
 -- ---- the table
 
 -- a login, by what is decided: to in, or to closed on J

@@ -1,13 +1,14 @@
 -- What is promised of the session at the server.
 use Prim.Native.Nat.{ℕ, _<_}
 use mathlib.Core.List.{List, [], _∷_}
+use mathlib.Core.Bool.{true}
 use mathlib.Core.Path.{_≡_}
 use lib.ListN.{length}
 use Rattle.wire.specs.Refusals.{badSetting}
 use Rattle.wire.specs.Words.{Words, answer, says, refuses}
 use Rattle.soupbintcp.specs.declared.packet.Sender.the-variants.{Client}
 use Rattle.soupbintcp.specs.Letters.{login}
-use Rattle.soupbintcp.specs.Fields.{notAuthorized, sessionNotAvailable}
+use Rattle.soupbintcp.specs.Fields.{notAuthorized, sessionNotAvailable, goodReason}
 use Rattle.soupbintcp.specs.Front.{packet, frontOf, sessionOf, usernameOf, passwordOf}
 use Rattle.login.specs.declared.account.Account.{Account}
 use Rattle.login.specs.Account.{VerdictKind, mostAccounts}
@@ -78,6 +79,16 @@ pub record LoginExactlyWhen : Type 0 where
   pub too-many : (t : List Account) (s : Server) (l : List ℕ) → mostAccounts < length t
       → serverStep t s l ≡ stays s (refuses badSetting)
 
+-- a login request that a waiting server rejects, with reason A or S
+pub record Rejects (t : List Account) (s : Server) (l : List ℕ) : Type 0 where
+  pub waiting : s .state ≡ Waiting
+  pub size : ℕ
+  pub number : ℕ
+  pub front : LoginInFront l size number
+  pub reason : ℕ
+  pub good : goodReason reason ≡ true
+  pub answers : serverStep t s l ≡ takes size (says rejected (reason ∷ [])) (becomes s Closed)
+
 -- why a server is in after a step: it was in, or it accepts the login request in front
 pub data WasIn (t : List Account) (s : Server) (l : List ℕ) : Type 0 where
   before : s .state ≡ In → WasIn t s l
@@ -96,6 +107,9 @@ pub record ServerPromises : Type 0 where
   pub only-in : (t : List Account) (s : Server) (l : List ℕ) → serverStep t s l .after .state ≡ In → WasIn t s l
   pub hands-up-only-in : (t : List Account) (s : Server) (l : List ℕ)
       → serverStep t s l .reply .which ≡ answer unsequenced → s .state ≡ In
+  -- nothing but a login request is rejected
+  pub only-rejects : (t : List Account) (s : Server) (l : List ℕ)
+      → serverStep t s l .reply .which ≡ answer rejected → Rejects t s l
   pub example : ServerExample
   pub changes-nothing : (t : List Account) → ChangesNothing Server (serverStep t)
   -- so does a step with any verdict on the entry in front

@@ -30,6 +30,7 @@ ghost use Rattle.soupbintcp.specs.Head.{headSize};
 ghost use Rattle.soupbintcp.specs.Front.{sessionOf};
 ghost use Rattle.soupbintcp_session.specs.Answer.{incoming};
 ghost use Rattle.soupbintcp_server.specs.Server.{server, refusedServer, serverStartRefusal, startServer};
+ghost use Rattle.soupbintcp_server.specs.Server.{lastRefusal, withLast};
 ghost use Rattle.soupbintcp_server.specs.Server.{entryOf, ServerSteps, loginRow, waitingRow, inRow, serverRow};
 ghost use Rattle.soupbintcp_server.specs.Server.{stepWith, serverStep};
 ghost use Rattle.soupbintcp_server.specs.Statements.{EntryIsItsFields, ServerPromises};
@@ -114,6 +115,40 @@ impl Server {
                 last,
                 state: ServerState::Waiting,
             },
+        }
+    }
+
+    // The server with another last number, as messages are added; or 19 where it falls or passes the largest, and then
+    // the server as it was.
+    pub fn with_last(self, last: SequenceNumber) -> Started
+        ensures { λ r. ⌜ (r .refusal .number ≡ lastRefusal self (last .0))
+            × (r .server ≡ withLast self (last .0)) ⌝ }
+    {
+        if last.0 < self.last.0 {
+            return self.unmoved();
+        }
+        if Server::LARGEST_LAST.0 < last.0 {
+            return self.unmoved();
+        }
+        let session = self.session;
+        let state = self.state;
+        Started {
+            refusal: refusal::NONE,
+            server: Server {
+                session,
+                last,
+                state,
+            },
+        }
+    }
+
+    // A last number that is refused.
+    fn unmoved(self) -> Started
+        ensures { λ r. ⌜ (r .refusal .number ≡ badSetting) × (r .server ≡ self) ⌝ }
+    {
+        Started {
+            refusal: refusal::BAD_SETTING,
+            server: self,
         }
     }
 

@@ -8,7 +8,7 @@ use native.Mathlib.Nat.{add-zero}
 use lib.ListN.{length, getD, take, drop, length-append, length-take, length-drop, take-append-drop}
 use lib.Seq.{take-at, drop-at, take-take, take-append-le, drop-append-add, drop-drop, length-take-le}
 use lib.Dec.{leb, eqb}
-use borrow.Author.Tests.{le-leb, lt-leb, leb-true, leb-false, ne-eqb, eqb-true}
+use borrow.Author.Tests.{le-leb, lt-leb, leb-true, leb-false, eq-eqb, ne-eqb, eqb-true}
 use Rattle.wire.specs.Choice.{if_then_else_}
 use Rattle.wire.specs.Refusals.{outputShort}
 use Rattle.wire.specs.Words.{Case, answer, refused, says, refuses}
@@ -170,6 +170,20 @@ unfolding RefusalWritesNothing
 refusal-nothing r l m g at bs w e = refusal-writes-nothing l at bs r m g w e
 
 -- ---- what a writer that wrote says of its ground and its bytes
+
+-- the refusal in a writer's answer
+pub answer-refusal : (g : ℕ) (l : List ℕ) (at : ℕ) (bs : List ℕ) → writeAnswer g l at bs .refusal ≡ writeRefusal g l at bs
+unfolding writeAnswer
+answer-refusal g l at bs = go (eqb (writeRefusal g l at bs) 0) refl
+  where
+    go : (b : Bool) → eqb (writeRefusal g l at bs) 0 ≡ b → writeAnswer g l at bs .refusal ≡ writeRefusal g l at bs
+    go true e = rw e (sym (eqb-true _ _ e))
+    go false e = rw e
+
+-- none where there is no ground, and room
+pub no-write-refusal : (g : ℕ) (l : List ℕ) (at : ℕ) (bs : List ℕ) → g ≡ 0 → at + length bs ≤ length l → writeRefusal g l at bs ≡ 0
+unfolding writeRefusal
+no-write-refusal g l at bs e h = rw (eq-eqb _ _ e, le-leb _ _ h)
 
 pub record WroteSo (g : ℕ) (l : List ℕ) (at : ℕ) (bs : List ℕ) (k : ℕ) : Type 0 where
   pub no-ground : g ≡ 0
