@@ -6,7 +6,13 @@ use Rattle.receiver.proofs.ConditionLaws as receiver
 use Rattle.receiver.proofs.WitnessLaws.{not-vacuous, not-weak}
 use Rattle.soupbintcp_writer.proofs.RoundTripLaws.{every-packet, payload-round-trip, letter-round-trip, accepted-round-trip, rejected-round-trip, login-round-trip}
 use Rattle.login.proofs.ExampleLaws.{login-promises}
+use Prim.Native.Nat.{ℕ}
+use mathlib.Core.Path.{_≡_, refl}
+use borrow.Author.Tests.{ne-eqb}
+use Rattle.soupbintcp_server.specs.declared.server.Server.{Server}
+use Rattle.soupbintcp_server.specs.Server.{lastRefusal, withLast}
 use Rattle.soupbintcp_server.proofs.StatementLaws.{server-promises}
+use Rattle.soupbintcp_reply.proofs.StatementLaws.{reply-promises}
 use Rattle.soupbintcp_client.proofs.StatementLaws.{client-promises}
 use Rattle.host_answers.proofs.PromiseLaws.{host-promises}
 use Rattle.host_cursor.proofs.CursorLaws.{cursor-promises}
@@ -15,6 +21,10 @@ use Rattle.host_server.proofs.ServerLaws as kept-server
 use Rattle.host_client.proofs.ClientLaws as kept-client
 use Rattle.host_capture.proofs.ReadingLaws.{reading-promises}
 use Rattle.acceptance.specs.Conditions.{HostStates, Condition1, Condition2, Condition3, Condition3IsMeant}
+
+last-kept : (s : Server) (n : ℕ) → (lastRefusal s n ≡ 0 → ⊥) → withLast s n ≡ s
+unfolding withLast
+last-kept s n z = rw (ne-eqb _ _ z) refl
 
 host-states : HostStates
 host-states =
@@ -34,6 +44,8 @@ condition-1 =
       server = server-promises .changes-nothing;
       server-with = server-promises .changes-nothing-with;
       client = client-promises .changes-nothing;
+      reply = reply-promises .refusal-undoes;
+      last = last-kept;
       host-answers = host-promises .refusal-changes-nothing;
       host-states = host-states;
     }

@@ -18,7 +18,8 @@ use Rattle.login.specs.Statements.{AcceptedExactlyWhen, NeverAccepted}
 use Rattle.soupbintcp_server.specs.declared.server.Server.{Server}
 use Rattle.soupbintcp_client.specs.declared.client.Client.{Client}
 use Rattle.soupbintcp_server.specs.declared.server.ServerState.the-variants.{In}
-use Rattle.soupbintcp_server.specs.Server.{stepWith, serverStep}
+use Rattle.soupbintcp_server.specs.Server.{lastRefusal, withLast, stepWith, serverStep}
+use Rattle.soupbintcp_reply.specs.Statements.{RefusalUndoes}
 use Rattle.soupbintcp_client.specs.Client.{clientStep}
 use Rattle.soupbintcp_session.specs.Answer.{unsequenced}
 use Rattle.soupbintcp_session.specs.Statements.{ChangesNothing}
@@ -52,6 +53,9 @@ pub record Condition1 : Type 0 where
   pub server : (table : List Account) → ChangesNothing Server (serverStep table)
   pub server-with : (verdict : List ℕ → Words VerdictKind) → ChangesNothing Server (λ s l. stepWith s (verdict l) l)
   pub client : ChangesNothing Client clientStep
+  -- so it is where a reply is written too, and the output is as it was; and where the last number is refused
+  pub reply : RefusalUndoes
+  pub last : (s : Server) (n : ℕ) → (lastRefusal s n ≡ 0 → ⊥) → withLast s n ≡ s
   -- a function for hosts in other languages: no word, no byte of an output and no byte of a state has changed
   pub host-answers : RefusalChangesNothing
   pub host-states : HostStates

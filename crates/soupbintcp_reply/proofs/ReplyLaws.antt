@@ -28,7 +28,7 @@ use Rattle.soupbintcp_server.specs.declared.server.Server.{Server}
 use Rattle.soupbintcp_server.specs.declared.server.Stepped.{Stepped}
 use Rattle.soupbintcp_server.specs.Server.{ServerSteps}
 use Rattle.soupbintcp_reply.specs.declared.Replied.{Replied}
-use Rattle.soupbintcp_reply.specs.Reply.{replyAt, replyGroundAt, replyOf, replyGround, replyRefusal, replyOutcome, replySize, Replies, withReply}
+use Rattle.soupbintcp_reply.specs.Reply.{replyAt, replyGroundAt, replyOf, replyGround, replyRefusal, replyOutcome, replyWritten, Replies, withReply}
 
 -- ---- by whether the reply is refused
 
@@ -41,12 +41,12 @@ module _ (s : Server) (o : StepOutcome Server) (l : List ℕ) where
   unfolding replyOutcome
   outcome-refused z = rw (ne-eqb _ _ z)
 
-  pub size-written : replyRefusal s o l ≡ 0 → replySize s o l ≡ length (replyOf (s .session) (o .reply))
-  unfolding replySize
+  pub size-written : replyRefusal s o l ≡ 0 → replyWritten s o l ≡ length (replyOf (s .session) (o .reply))
+  unfolding replyWritten
   size-written z = rw (eq-eqb _ _ z)
 
-  pub size-refused : (replyRefusal s o l ≡ 0 → ⊥) → replySize s o l ≡ 0
-  unfolding replySize
+  pub size-refused : (replyRefusal s o l ≡ 0 → ⊥) → replyWritten s o l ≡ 0
+  unfolding replyWritten
   size-refused z = rw (ne-eqb _ _ z)
 
 -- a refused write leaves the output as it was
@@ -89,7 +89,7 @@ module _ (s : Server) (k : Stepped) (o : StepOutcome Server) (h : ServerSteps k 
         size = h .size ∙ ap (λ (x : StepOutcome Server). x .size) same;
         after = h .leaves ∙ ap (λ (x : StepOutcome Server). x .after) same;
         written = so .size ∙ sym (size-written s o l z);
-        leaves = p .leaves;
+        output = p .leaves;
       }
   written-so (Refused x) p =
       let z : replyRefusal s o l ≡ 0 → ⊥ = refused-so _ l _ (which-of (p .answers)) in
@@ -100,7 +100,7 @@ module _ (s : Server) (k : Stepped) (o : StepOutcome Server) (h : ServerSteps k 
         size = ap (λ (y : StepOutcome Server). y .size) same;
         after = ap (λ (y : StepOutcome Server). y .after) same;
         written = sym (size-refused s o l z);
-        leaves = p .leaves;
+        output = p .leaves;
       }
 
   pub reply-A : (n : SequenceNumber) (w : Written) (r : Replied) → k .answer ≡ case.Accepted n
@@ -161,5 +161,5 @@ module _ (s : Server) (k : Stepped) (o : StepOutcome Server) (h : ServerSteps k 
         size = h .size ∙ ap (λ (x : StepOutcome Server). x .size) same;
         after = h .leaves ∙ ap (λ (x : StepOutcome Server). x .after) same;
         written = sym (size-written s o l z ∙ ap length bs);
-        leaves = rw (eq-eqb _ _ g, bs) (sym (put-empty l 0));
+        output = rw (eq-eqb _ _ g, bs) (sym (put-empty l 0));
       })

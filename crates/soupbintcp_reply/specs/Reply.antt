@@ -65,8 +65,8 @@ unfoldable pub replyOutcome : Server → StepOutcome Server → List ℕ → Ste
 replyOutcome s o l = if eqb (replyRefusal s o l) 0 then o else stays s (refuses (replyRefusal s o l))
 
 -- how many bytes are written
-unfoldable pub replySize : Server → StepOutcome Server → List ℕ → ℕ
-replySize s o l = if eqb (replyRefusal s o l) 0 then length (replyOf (s .session) (o .reply)) else 0
+unfoldable pub replyWritten : Server → StepOutcome Server → List ℕ → ℕ
+replyWritten s o l = if eqb (replyRefusal s o l) 0 then length (replyOf (s .session) (o .reply)) else 0
 
 -- the output at exit
 abbrev pub replyOutput : Server → StepOutcome Server → List ℕ → List ℕ
@@ -77,8 +77,8 @@ pub record Replies (r : Replied) (s : Server) (o : StepOutcome Server) (l m : Li
   pub answers : sessionAnswerWords (r .answer) ≡ replyOutcome s o l .reply
   pub size : r .size ≡ replyOutcome s o l .size
   pub after : r .server ≡ replyOutcome s o l .after
-  pub written : r .written ≡ replySize s o l
-  pub leaves : m ≡ replyOutput s o l
+  pub written : r .written ≡ replyWritten s o l
+  pub output : m ≡ replyOutput s o l
 
 -- ---- for private helpers alone; no public promise uses it
 

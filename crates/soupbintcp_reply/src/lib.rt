@@ -63,7 +63,8 @@ fn stepped_with(stepped: Stepped, written: usize) -> Replied
     }
 }
 
-// Takes the front of a client's stream, the accounts being lent as bytes, and writes the reply.
+// Takes the front of a client's stream, the accounts being lent as bytes, and writes the reply at the front of the
+// output. A refusal, the step's or then the reply's (46, 41), changes nothing.
 pub fn step(server: Server, table: &[u8], stream: &[u8], out: &mut [u8]) -> Replied
     ensures { λ r. ⌜ Replies r server
         (serverStep (accountsOf (now (table .entry))) server (now (stream .entry)))

@@ -49,7 +49,7 @@ pub struct Server {
     pub state: ServerState,
 }
 
-// The refusal of a start, its number 0 where there is none, and the server.
+// A refusal, its number 0 where there is none, and the server.
 pub struct Started {
     pub refusal: Refusal,
     pub server: Server,
@@ -142,7 +142,7 @@ impl Server {
         }
     }
 
-    // A last number that is refused.
+    // 19, and the server as it was.
     fn unmoved(self) -> Started
         ensures { λ r. ⌜ (r .refusal .number ≡ badSetting) × (r .server ≡ self) ⌝ }
     {
