@@ -19,8 +19,9 @@ ghost use Rattle.capture_records.specs.Records.{mostRecords};
 ghost use Rattle.capture_tally.specs.Tally.{tally};
 ghost use Rattle.host_answers.specs.Answers.{codeOf};
 ghost use Rattle.host_answers.specs.States.{StatePromises};
-ghost use Rattle.host_capture.specs.Reading.{tallySize, readingSize, deliveredAt, stageOf, stageByte, tallyBytes, tallyIn};
-ghost use Rattle.host_capture.specs.Reading.{readingBytes, readingIn, KeepsReading, RestLaid, RestKept};
+ghost use Rattle.host_capture.specs.Reading.{tallySize, readingSize, deliveredAt, stageOf, stageByte};
+ghost use Rattle.host_capture.specs.Reading.{tallyBytes, tallyIn, readingBytes, readingIn, KeepsReading};
+ghost use Rattle.host_capture.specs.Reading.{RestLaid, RestKept};
 
 // Bytes of a count, and of all that stands before the counts.
 const TALLY_SIZE: usize = 8;

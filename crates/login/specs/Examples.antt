@@ -39,7 +39,8 @@ small = ascii "readroom01"
 
 -- an entry that asks for a session and a number, where the last number is 5
 abbrev pub attempts : List Account → Account → List ℕ → ℕ → Attempt
-attempts t e asked wanted = record { table = t; entry = e; asked = asked; wanted = wanted; session = readroom; last = 5 }
+attempts t e asked wanted =
+    record { table = t; entry = e; asked = asked; wanted = wanted; session = readroom; last = 5 }
 
 -- any number, where there is no message yet
 abbrev pub noMessageYet : Attempt

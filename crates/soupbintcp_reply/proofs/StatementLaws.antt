@@ -43,7 +43,7 @@ use Rattle.soupbintcp_client.proofs.ClientCases as client-cases
 use Rattle.soupbintcp_client.proofs.StatementLaws.{client-promises}
 use Rattle.soupbintcp_reply.specs.Reply.{replyAt, replyGroundAt, replyOf, replyGround, replyRefusal, replyOutcome, replyWritten, replyOutput}
 use Rattle.soupbintcp_reply.proofs.ReplyLaws.{outcome-written, outcome-refused, size-written, size-refused, output-kept}
-use Rattle.soupbintcp_reply.specs.Statements.{Undone, RefusalUndoes, Stands, ReplyStands, longestReply, WasStarted, ReplyIsWritten, writtenBy, AskedBy, Ends, both-in, both-closed, Handshake, ReplyPromises}
+use Rattle.soupbintcp_reply.specs.Statements.{Undone, RefusalUndoes, WrittenInFront, ReplyStands, longestReply, WasStarted, ReplyIsWritten, writtenBy, AskedBy, Ends, both-in, both-closed, Handshake, ReplyPromises}
 
 -- ---- a refusal undoes all
 
@@ -95,7 +95,7 @@ module _ (s : Server) (o : StepOutcome Server) (out : List ℕ) (z : replyRefusa
   unfolding writeAnswer
   wrote-it = rw (eq-eqb _ _ z)
 
-  stands : Stands s o out
+  stands : WrittenInFront s o out
   unfolding writtenWords OnlyWhatItReports
   stands =
       let k : replyWritten s o out ≡ length bs = size-written s o out z in

@@ -35,12 +35,12 @@ RefusalUndoes = (t : List Account) (s : Server) (l out : List ℕ)
     → replyOutcome s (server.serverStep t s l) out .reply .which ≡ refused → Undone s (server.serverStep t s l) out
 
 -- what is written stands in front of the output, and nothing behind it changes
-pub record Stands (s : Server) (o : StepOutcome Server) (out : List ℕ) : Type 0 where
+pub record WrittenInFront (s : Server) (o : StepOutcome Server) (out : List ℕ) : Type 0 where
   pub front : take (replyWritten s o out) (replyOutput s o out) ≡ replyOf (s .session) (o .reply)
   pub behind : Outside out (replyOutput s o out) 0 (replyWritten s o out)
 
 unfoldable pub ReplyStands : Type 0
-ReplyStands = (s : Server) (o : StepOutcome Server) (out : List ℕ) → replyRefusal s o out ≡ 0 → Stands s o out
+ReplyStands = (s : Server) (o : StepOutcome Server) (out : List ℕ) → replyRefusal s o out ≡ 0 → WrittenInFront s o out
 
 -- ---- a server that was started
 
@@ -53,7 +53,8 @@ pub record WasStarted (s : Server) : Type 0 where
 pub record StaysStarted : Type 0 where
   pub by-start : (name : List ℕ) (last : ℕ) → length name ≡ sessionSize → server.serverStartRefusal name last ≡ 0
       → WasStarted (server.startServer name last)
-  pub by-step : (t : List Account) (s : Server) (l : List ℕ) → WasStarted s → WasStarted (server.serverStep t s l .after)
+  pub by-step : (t : List Account) (s : Server) (l : List ℕ) → WasStarted s
+      → WasStarted (server.serverStep t s l .after)
   pub by-last : (s : Server) (last : ℕ) → WasStarted s → WasStarted (server.withLast s last)
 
 -- the longest reply, an A
@@ -77,8 +78,8 @@ pub record ReplyIsWritten : Type 0 where
 abbrev pub writtenBy : Server → StepOutcome Server → List ℕ → List ℕ
 writtenBy s o out = take (replyWritten s o out) (replyOutput s o out)
 
--- how a login ends: the server s takes it from the stream l and writes into out; the client c gets what was written, and
--- perhaps more behind it
+-- how a login ends: the server s takes it from the stream l and writes into out; the client c gets what was written,
+-- and perhaps more behind it
 pub data Ends (t : List Account) (s : Server) (c : Client) (l out rest : List ℕ) : Type 0 where
   -- both are in, at the server's session and one number
   both-in : (size n : ℕ)

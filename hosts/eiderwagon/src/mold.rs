@@ -122,7 +122,7 @@ impl<'a> Iterator for Messages<'a> {
     }
 
     fn size_hint(&self) -> (usize, Option<usize>) {
-        let left = u16::from_be_bytes(field(&self.cursor, 8)).into();
+        let left = u16::from_be_bytes(field(&self.cursor, raw::CURSOR_LEFT_AT)).into();
         (left, Some(left))
     }
 }

@@ -108,22 +108,22 @@ impl Receiver {
 
     /// The session.
     pub fn session(&self) -> Session {
-        field(&self.state, 0)
+        field(&self.state, raw::RECEIVER_SESSION_AT)
     }
 
     /// The number of the next message.
     pub fn next(&self) -> u64 {
-        u64::from_be_bytes(field(&self.state, 10))
+        u64::from_be_bytes(field(&self.state, raw::RECEIVER_NEXT_AT))
     }
 
     /// The most messages that it asks for at once.
     pub fn limit(&self) -> u16 {
-        u16::from_be_bytes(field(&self.state, 18))
+        u16::from_be_bytes(field(&self.state, raw::RECEIVER_LIMIT_AT))
     }
 
     /// Whether the session is over.
     pub fn is_ended(&self) -> bool {
-        self.state[20] != 0
+        self.state[raw::RECEIVER_ENDED_AT] != 0
     }
 
     /// The state's bytes, as `include/eiderwagon.h` lays them out.

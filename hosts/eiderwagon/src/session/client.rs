@@ -81,22 +81,22 @@ impl Client {
 
     /// How far it is.
     pub fn state(&self) -> ClientState {
-        match self.state[18] {
-            1 => ClientState::Asked,
-            2 => ClientState::In,
-            3 => ClientState::Ended,
+        match self.state[raw::CLIENT_STATE_AT] {
+            raw::CLIENT_ASKED => ClientState::Asked,
+            raw::CLIENT_IN => ClientState::In,
+            raw::CLIENT_ENDED => ClientState::Ended,
             _ => ClientState::Closed,
         }
     }
 
     /// The session: the one asked for, and from an accepted login on the server's.
     pub fn session(&self) -> Session {
-        field(&self.state, 0)
+        field(&self.state, raw::CLIENT_SESSION_AT)
     }
 
     /// The number: the one asked for, and from an accepted login on that of the next message.
     pub fn number(&self) -> u64 {
-        u64::from_be_bytes(field(&self.state, 10))
+        u64::from_be_bytes(field(&self.state, raw::CLIENT_NUMBER_AT))
     }
 
     /// The state's bytes, as `include/eiderwagon.h` lays them out.

@@ -87,22 +87,22 @@ impl Server {
 
     /// How far it is.
     pub fn state(&self) -> ServerState {
-        match self.state[18] {
-            1 => ServerState::Waiting,
-            2 => ServerState::In,
+        match self.state[raw::SERVER_STATE_AT] {
+            raw::SERVER_WAITING => ServerState::Waiting,
+            raw::SERVER_IN => ServerState::In,
             _ => ServerState::Closed,
         }
     }
 
     /// The session.
     pub fn session(&self) -> Session {
-        field(&self.state, 0)
+        field(&self.state, raw::SERVER_SESSION_AT)
     }
 
     /// The highest message number. No step moves it, and only a login looks at it: while none has
     /// come, start the server anew with a newer one as messages are added.
     pub fn last(&self) -> u64 {
-        u64::from_be_bytes(field(&self.state, 10))
+        u64::from_be_bytes(field(&self.state, raw::SERVER_LAST_AT))
     }
 
     /// The state's bytes, as `include/eiderwagon.h` lays them out.
