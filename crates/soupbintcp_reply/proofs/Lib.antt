@@ -1,3 +1,4 @@
 pub mod ReplyLaws
+pub mod ExampleLaws
 pub mod StatementLaws
 pub mod Rules

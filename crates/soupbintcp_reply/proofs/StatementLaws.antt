@@ -43,6 +43,7 @@ use Rattle.soupbintcp_client.proofs.ClientCases as client-cases
 use Rattle.soupbintcp_client.proofs.StatementLaws.{client-promises}
 use Rattle.soupbintcp_reply.specs.Reply.{replyAt, replyGroundAt, replyOf, replyGround, replyRefusal, replyOutcome, replyWritten, replyOutput}
 use Rattle.soupbintcp_reply.proofs.ReplyLaws.{outcome-written, outcome-refused, size-written, size-refused, output-kept}
+use Rattle.soupbintcp_reply.proofs.ExampleLaws.{reply-bytes}
 use Rattle.soupbintcp_reply.specs.Statements.{Undone, RefusalUndoes, WrittenInFront, ReplyStands, longestReply, WasStarted, ReplyIsWritten, writtenBy, AskedBy, Ends, both-in, both-closed, Handshake, ReplyPromises}
 
 -- ---- a refusal undoes all
@@ -367,6 +368,7 @@ reply-promises =
     record {
       refusal-undoes = refusal-undoes;
       reply-stands = reply-stands;
+      reply-bytes = reply-bytes;
       stays-started = record { by-start = started-fresh; by-step = started-step; by-last = started-last };
       reply-is-written = reply-is-written;
       handshake = handshake;

@@ -2,8 +2,10 @@
 use Prim.Native.Nat.{ℕ, _+_, _≤_, _<_}
 use mathlib.Core.List.{List, [], _∷_, _++_}
 use mathlib.Core.Path.{_≡_}
-use lib.ListN.{length, take}
+use lib.ListN.{length, take, replicate}
 use Rattle.wire.specs.Bounds.{sessionSize}
+use Rattle.wire.specs.Text.{ascii, readroom}
+use Rattle.text_fields.specs.Letters.{space}
 use Rattle.wire.specs.Refusals.{outputShort}
 use Rattle.wire.specs.Words.{refused, says, refuses}
 use Rattle.wire.specs.Output.{Outside}
@@ -13,7 +15,7 @@ use Rattle.soupbintcp.specs.Head.{headSize}
 use Rattle.soupbintcp.specs.Front.{sessionOf}
 use Rattle.login.specs.declared.account.Account.{Account}
 use Rattle.login.specs.Account.{mostAccounts}
-use Rattle.soupbintcp_session.specs.Answer.{accepted, rejected, StepOutcome, stays, takes}
+use Rattle.soupbintcp_session.specs.Answer.{accepted, rejected, heartbeat, StepOutcome, stays, takes}
 use Rattle.soupbintcp_server.specs.declared.server.ServerState.the-variants as state
 use Rattle.soupbintcp_server.specs.declared.server.Server.{Server}
 use Rattle.soupbintcp_server.specs.Server as server
@@ -41,6 +43,14 @@ pub record WrittenInFront (s : Server) (o : StepOutcome Server) (out : List ℕ)
 
 unfoldable pub ReplyStands : Type 0
 ReplyStands = (s : Server) (o : StepOutcome Server) (out : List ℕ) → replyRefusal s o out ≡ 0 → WrittenInFront s o out
+
+-- byte by byte: A has length 31, the session and the number behind spaces, J length 2 and its reason
+pub record ReplyBytes : Type 0 where
+  pub granted : replyOf readroom (says accepted (5 ∷ []))
+      ≡ 0 ∷ 31 ∷ ascii "A" ++ readroom ++ replicate 19 space ++ ascii "5"
+  pub not-authorised : replyOf readroom (says rejected (65 ∷ [])) ≡ 0 ∷ 2 ∷ ascii "JA"
+  pub no-session : replyOf readroom (says rejected (83 ∷ [])) ≡ 0 ∷ 2 ∷ ascii "JS"
+  pub no-other : replyOf readroom (says heartbeat []) ≡ []
 
 -- ---- a server that was started
 
@@ -112,6 +122,7 @@ Handshake = (t : List Account) (s : Server) (c : Client) (l out rest : List ℕ)
 pub record ReplyPromises : Type 0 where
   pub refusal-undoes : RefusalUndoes
   pub reply-stands : ReplyStands
+  pub reply-bytes : ReplyBytes
   pub stays-started : StaysStarted
   pub reply-is-written : ReplyIsWritten
   pub handshake : Handshake
