@@ -10,26 +10,32 @@
  *   needs to be checked beforehand.
  *
  * What comes back
- *   Each function returns a code: 0, or a refusal. Compare EIDERWAGON_NUMBER(code) with EIDERWAGON_REFUSED_...: the
- *   number is in the low 8 bits, and a later library may put a place above them. On 0, the answer stands in `words`,
- *   at the positions that the function's enum names. Each of its words is set, those that an answer has no value for
- *   to 0, and no further one is touched. Lend as many as its _WORDS says: a later library may have more. A refusal
- *   changes no word, no byte of a lent output and no byte of a state.
+ *   Each function but eiderwagon_version returns a code: 0, or a refusal. Compare EIDERWAGON_NUMBER(code) with
+ *   EIDERWAGON_REFUSED_...: the number is in the low 8 bits, and a later library may put a place above them. On 0, the
+ *   answer stands in `words`, at the positions that the function's enum names. Each of its words is set, those that an
+ *   answer has no value for to 0, and no further one is touched. Lend as many as its _WORDS says: a later library may
+ *   have more. A refusal changes no word, and no byte of a lent output, a state or a cursor.
  *
- * 41
- *   A buffer of a fixed size (a session, a username, a password, a state, a cursor, `words`) with fewer elements than
- *   that is refused with 41, before every other ground; of one with more, only the first are used. An output that is
- *   too short for what is to be written is refused with 41 after every other ground. So each list of refusals below
- *   begins with 41, and a writer's ends with it too.
+ * Refusals have an order
+ *   Where several grounds apply, the first in the function's list is given. First come those that need no state; then
+ *   41 for a state or a cursor with fewer bytes than its size; then the state's own; and last 41 for too few words or
+ *   an output that is too short. So 41 stands in a list once, or twice: before the state's own grounds, and at the end.
+ *   An input of a fixed size (a session, a username, a password) that is shorter or longer is refused, and never cut:
+ *   with 19 at a start, with 46 at a SoupBinTCP writer, and with 41, behind its other grounds, at a MoldUDP64 writer.
+ *   Of a state, a cursor or `words` with more elements than are needed only the first are used.
  *
  * States and cursors
  *   Their layout is given below (_AT and _SIZE), and any bytes are one: a state can be stored, copied, compared and
- *   made by hand. Numbers are big-endian. What is written has one form: ended is 1, closed is 0, settings refused is
- *   0; a success brings a state that was made by hand into that form, also where its meaning doesn't change.
- *   Start every state before its first use, and use none whose start was refused. A refused start changes no byte: so
- *   clear a state, all bytes 0, before you start it anew. Otherwise the old one is still there where the start is
- *   refused. Bytes of zero are a closed session, a capture whose settings are refused, a cursor with no messages left;
- *   and a receiver that isn't ended, of a name of ten zero bytes, that asks for no messages.
+ *   made by hand. Numbers are little-endian. A state is open exactly when its first byte is its kind's code (_OPEN). No
+ *   two kinds have the same code, and none is 0: a state that is lent to a function of another kind isn't open there.
+ *   (It may be laid over, though: a start, a walk, eiderwagon_server_set_last and a capture's feed lay their own.)
+ *   With every other first byte, 0 too, a receiver is ended, a session is closed or ended, a reading is done or its
+ *   settings are refused, and a cursor has no messages left. So bytes of zero are never open.
+ *   Where more is needed no byte of a state changes, none by a feed that uses no byte and isn't over, and none of a
+ *   cursor where no message is there. Every other success lays the state in one form, its first byte 0 if it isn't
+ *   open, also where its meaning doesn't change; a cursor is always laid with its code.
+ *   Start every state before its first use. A refused start changes no byte: so clear a state, all bytes 0, before you
+ *   start it anew. Otherwise the old one is still there, and perhaps open, where the start is refused.
  */
 #ifndef EIDERWAGON_H
 #define EIDERWAGON_H
@@ -40,6 +46,15 @@
 #ifdef __cplusplus
 extern "C" {
 #endif
+
+/* ---- The version ------------------------------------------------------------------------------------------------- */
+
+/* The version that this header describes, 0.1.0: a byte each for the three numbers. */
+#define EIDERWAGON_VERSION 0x000100u
+
+/* The version of the library. Compare it with EIDERWAGON_VERSION before the first other call: a library of another one
+ * may have other functions, words and layouts. It takes nothing, and refuses nothing. */
+uint32_t eiderwagon_version(void);
 
 /* ---- Refusals ---------------------------------------------------------------------------------------------------- */
 
@@ -146,6 +161,7 @@ enum {
     EIDERWAGON_MOLD_HEADER_SIZE = 20,    /* the header of a datagram, and a whole request */
     EIDERWAGON_LARGEST_DATAGRAM = 65507, /* the largest datagram */
     EIDERWAGON_LARGEST_PACKET = 4099,    /* the largest packet: 2 bytes of length, a letter, 4,096 of payload */
+    EIDERWAGON_LARGEST_REPLY = 33,       /* the largest reply to a login, 'A'; 'J' has 4 bytes */
     EIDERWAGON_LARGEST_REPORT = 256      /* a buffer that every capture's report fits */
 };
 
@@ -153,26 +169,31 @@ enum {
 
 /* A cursor over the messages of a datagram. */
 enum {
-    EIDERWAGON_CURSOR_PLACE_AT = 0, /* place in the datagram (8) */
-    EIDERWAGON_CURSOR_LEFT_AT = 8,  /* messages left (2) */
-    EIDERWAGON_CURSOR_SIZE = 10     /* a cursor */
+    EIDERWAGON_CURSOR_CODE_AT = 0,  /* its code, or no messages are left (1) */
+    EIDERWAGON_CURSOR_PLACE_AT = 1, /* place in the datagram (8) */
+    EIDERWAGON_CURSOR_LEFT_AT = 9,  /* messages left (2) */
+    EIDERWAGON_CURSOR_SIZE = 11,    /* a cursor */
+    EIDERWAGON_CURSOR_OPEN = 0xE1   /* the code of a cursor */
 };
 
-/* A receiver. */
+/* A receiver. Its session still matters once it is ended: another one is 17, its own is 18. */
 enum {
-    EIDERWAGON_RECEIVER_SESSION_AT = 0, /* session (10) */
-    EIDERWAGON_RECEIVER_NEXT_AT = 10,   /* number of the next message (8) */
-    EIDERWAGON_RECEIVER_LIMIT_AT = 18,  /* asking limit (2) */
-    EIDERWAGON_RECEIVER_ENDED_AT = 20,  /* ended, if not 0 (1) */
-    EIDERWAGON_RECEIVER_SIZE = 21       /* a receiver */
+    EIDERWAGON_RECEIVER_CODE_AT = 0,    /* its code, or it is ended (1) */
+    EIDERWAGON_RECEIVER_SESSION_AT = 1, /* session (10) */
+    EIDERWAGON_RECEIVER_NEXT_AT = 11,   /* number of the next message (8) */
+    EIDERWAGON_RECEIVER_LIMIT_AT = 19,  /* asking limit (2) */
+    EIDERWAGON_RECEIVER_SIZE = 21,      /* a receiver */
+    EIDERWAGON_RECEIVER_OPEN = 0xE2     /* the code of a receiver that isn't ended */
 };
 
 /* The server's end of a session. */
 enum {
-    EIDERWAGON_SERVER_SESSION_AT = 0, /* session (10) */
-    EIDERWAGON_SERVER_LAST_AT = 10,   /* number of the last message, 0 if there is none (8) */
-    EIDERWAGON_SERVER_STATE_AT = 18,  /* its state (1); every byte that isn't below is closed too */
-    EIDERWAGON_SERVER_SIZE = 19,      /* a server */
+    EIDERWAGON_SERVER_CODE_AT = 0,    /* its code, or it is closed (1) */
+    EIDERWAGON_SERVER_SESSION_AT = 1, /* session (10) */
+    EIDERWAGON_SERVER_LAST_AT = 11,   /* number of the last message, 0 if there is none (8) */
+    EIDERWAGON_SERVER_PHASE_AT = 19,  /* its phase (1); with the code only 2 is in, and every other is waiting */
+    EIDERWAGON_SERVER_SIZE = 20,      /* a server */
+    EIDERWAGON_SERVER_OPEN = 0xE3,    /* the code of a server that isn't closed */
     EIDERWAGON_SERVER_CLOSED = 0,     /* takes no packet any more */
     EIDERWAGON_SERVER_WAITING = 1,    /* waits for a login */
     EIDERWAGON_SERVER_IN = 2          /* the client is in */
@@ -180,27 +201,33 @@ enum {
 
 /* The client's end of a session. */
 enum {
-    EIDERWAGON_CLIENT_SESSION_AT = 0, /* session (10) */
-    EIDERWAGON_CLIENT_NUMBER_AT = 10, /* number asked for, and then that of the next message (8) */
-    EIDERWAGON_CLIENT_STATE_AT = 18,  /* its state (1); every byte that isn't below is closed too */
-    EIDERWAGON_CLIENT_SIZE = 19,      /* a client */
+    EIDERWAGON_CLIENT_CODE_AT = 0,    /* its code, or it is ended or closed (1) */
+    EIDERWAGON_CLIENT_SESSION_AT = 1, /* session (10) */
+    EIDERWAGON_CLIENT_NUMBER_AT = 11, /* number asked for, and then that of the next message (8) */
+    EIDERWAGON_CLIENT_PHASE_AT = 19,  /* its phase (1); with the code only 2 is in and every other byte asked, without
+                                         it only 3 is ended and every other closed */
+    EIDERWAGON_CLIENT_SIZE = 20,      /* a client */
+    EIDERWAGON_CLIENT_OPEN = 0xE4,    /* the code of a client that is neither ended nor closed */
     EIDERWAGON_CLIENT_CLOSED = 0,     /* takes no packet any more */
     EIDERWAGON_CLIENT_ASKED = 1,      /* has asked, and waits for the answer */
     EIDERWAGON_CLIENT_IN = 2,         /* is in */
     EIDERWAGON_CLIENT_ENDED = 3       /* the server has ended the session */
 };
 
-/* The reading of a capture. A count stops at 2^64 - 1. */
+/* The reading of a capture. A count stops at 2^64 - 1. Its receiver can be lent to the receiver's functions. */
 enum {
-    EIDERWAGON_CAPTURE_RECEIVER_AT = 0,   /* a receiver (EIDERWAGON_RECEIVER_SIZE) */
-    EIDERWAGON_CAPTURE_STAGE_AT = 21,     /* its stage (1); every byte that isn't below is settings refused too */
-    EIDERWAGON_CAPTURE_RECORDS_AT = 22,   /* records read (8; above 2^32 - 1 counts as that) */
-    EIDERWAGON_CAPTURE_DELIVERED_AT = 30, /* messages delivered (8) */
-    EIDERWAGON_CAPTURE_OLD_AT = 38,       /* answers old (8) */
-    EIDERWAGON_CAPTURE_QUIET_AT = 46,     /* answers quiet (8) */
-    EIDERWAGON_CAPTURE_ASKED_AT = 54,     /* answers asked (8) */
-    EIDERWAGON_CAPTURE_REFUSED_AT = 62,   /* refusals (8) */
-    EIDERWAGON_CAPTURE_SIZE = 70,         /* a reading */
+    EIDERWAGON_CAPTURE_CODE_AT = 0,       /* its code, or it is over (1) */
+    EIDERWAGON_CAPTURE_STAGE_AT = 1,      /* its stage (1); with the code only 2 is records and every other byte
+                                             settings, without it only 3 is done and every other settings refused */
+    EIDERWAGON_CAPTURE_RECEIVER_AT = 2,   /* a receiver (EIDERWAGON_RECEIVER_SIZE) */
+    EIDERWAGON_CAPTURE_RECORDS_AT = 23,   /* records read (8; above 2^32 - 1 counts as that) */
+    EIDERWAGON_CAPTURE_DELIVERED_AT = 31, /* messages delivered (8) */
+    EIDERWAGON_CAPTURE_OLD_AT = 39,       /* answers old (8) */
+    EIDERWAGON_CAPTURE_QUIET_AT = 47,     /* answers quiet (8) */
+    EIDERWAGON_CAPTURE_ASKED_AT = 55,     /* answers asked (8) */
+    EIDERWAGON_CAPTURE_REFUSED_AT = 63,   /* refusals (8) */
+    EIDERWAGON_CAPTURE_SIZE = 71,         /* a reading */
+    EIDERWAGON_CAPTURE_OPEN = 0xE5,       /* the code of a reading that isn't over */
     EIDERWAGON_CAPTURE_BAD = 0,           /* settings refused */
     EIDERWAGON_CAPTURE_SETTINGS = 1,      /* settings come next */
     EIDERWAGON_CAPTURE_RECORDS = 2,       /* records come next */
@@ -234,7 +261,7 @@ enum {
 
 /* Reads a datagram. Its session is its first ten bytes.
  *   words:     EIDERWAGON_MOLD_READ_WORDS
- *   refusals:  41, 11, 12, 13, 14, 15, 16 */
+ *   refusals:  11, 12, 13, 14, 15, 16, 41 */
 uint32_t eiderwagon_mold_read(const uint8_t *datagram, size_t datagram_size,
                               uint64_t *words, size_t words_size);
 
@@ -268,10 +295,11 @@ enum {
     EIDERWAGON_NEXT_WORDS = 3   /* how many words */
 };
 
-/* Answers the message at a cursor, and moves the cursor to the next one. Where no message is left, or the one at the
- * cursor doesn't end within the datagram, none is there and the cursor stays. Lend the datagram that the cursor was set
- * for; any other is safe too, and then the answer is about that one's bytes.
- *   cursor:    EIDERWAGON_CURSOR_SIZE bytes, read and written
+/* Answers the message at a cursor, and moves the cursor to the next one. Where none is left, the one at the cursor
+ * doesn't end within the datagram, or the bytes aren't an open cursor, no message is there and no byte of the cursor
+ * changes. Lend the datagram that the cursor was set for; any other is safe too, and then the answer is about that
+ * one's bytes.
+ *   cursor:    EIDERWAGON_CURSOR_SIZE bytes, read, and written where a message is there
  *   words:     EIDERWAGON_NEXT_WORDS
  *   refusals:  41 */
 uint32_t eiderwagon_mold_next(uint8_t *cursor, size_t cursor_size, const uint8_t *datagram, size_t datagram_size,
@@ -281,7 +309,7 @@ uint32_t eiderwagon_mold_next(uint8_t *cursor, size_t cursor_size, const uint8_t
  * heartbeat.
  *   session:   EIDERWAGON_SESSION_SIZE bytes
  *   words:     EIDERWAGON_WRITE_WORDS
- *   refusals:  41, 42, 44, 13, 14, 12, 41 */
+ *   refusals:  42, 44, 13, 14, 12, 41. 41 also for a session that isn't ten bytes */
 uint32_t eiderwagon_mold_write_data(const uint8_t *session, size_t session_size, uint64_t first,
                                     const uint16_t *lengths, size_t lengths_size,
                                     const uint8_t *joined, size_t joined_size,
@@ -290,14 +318,14 @@ uint32_t eiderwagon_mold_write_data(const uint8_t *session, size_t session_size,
 /* Writes a heartbeat: `next` is the number of the next message.
  *   session:   EIDERWAGON_SESSION_SIZE bytes
  *   words:     EIDERWAGON_WRITE_WORDS
- *   refusals:  41, 13, 41 */
+ *   refusals:  13, 41. 41 also for a session that isn't ten bytes */
 uint32_t eiderwagon_mold_write_heartbeat(const uint8_t *session, size_t session_size, uint64_t next,
                                          uint8_t *out, size_t out_size, uint64_t *words, size_t words_size);
 
 /* Writes an end of session: `next` is one past the number of the last message.
  *   session:   EIDERWAGON_SESSION_SIZE bytes
  *   words:     EIDERWAGON_WRITE_WORDS
- *   refusals:  41, 13, 41 */
+ *   refusals:  13, 41. 41 also for a session that isn't ten bytes */
 uint32_t eiderwagon_mold_write_end(const uint8_t *session, size_t session_size, uint64_t next,
                                    uint8_t *out, size_t out_size, uint64_t *words, size_t words_size);
 
@@ -310,14 +338,14 @@ enum {
 
 /* Reads a request. Its session is its first ten bytes.
  *   words:     EIDERWAGON_READ_REQUEST_WORDS
- *   refusals:  41, 47, 13, 48 */
+ *   refusals:  47, 13, 48, 41 */
 uint32_t eiderwagon_mold_read_request(const uint8_t *request, size_t request_size,
                                       uint64_t *words, size_t words_size);
 
 /* Writes a request for `count` messages from number `first` on.
  *   session:   EIDERWAGON_SESSION_SIZE bytes
  *   words:     EIDERWAGON_WRITE_WORDS
- *   refusals:  41, 13, 48, 41 */
+ *   refusals:  13, 48, 41. 41 also for a session that isn't ten bytes */
 uint32_t eiderwagon_mold_write_request(const uint8_t *session, size_t session_size, uint64_t first, uint16_t count,
                                        uint8_t *out, size_t out_size, uint64_t *words, size_t words_size);
 
@@ -327,7 +355,7 @@ uint32_t eiderwagon_mold_write_request(const uint8_t *session, size_t session_si
  * once, 1 to 65,534.
  *   session:   EIDERWAGON_SESSION_SIZE bytes
  *   state:     EIDERWAGON_RECEIVER_SIZE bytes, written
- *   refusals:  41, 19 */
+ *   refusals:  19, 41. 19 also for a session that isn't ten bytes */
 uint32_t eiderwagon_receiver_start(const uint8_t *session, size_t session_size, uint64_t next, uint16_t limit,
                                    uint8_t *state, size_t state_size);
 
@@ -354,7 +382,7 @@ enum {
  * differs or a while has passed.
  *   state:     EIDERWAGON_RECEIVER_SIZE bytes, read and written
  *   words:     EIDERWAGON_TAKE_WORDS
- *   refusals:  41, 11, 12, 13, 14, 15, 16, 17, 18, 20 */
+ *   refusals:  11, 12, 13, 14, 15, 16, 41, 17, 18, 20, 41 */
 uint32_t eiderwagon_receiver_take(uint8_t *state, size_t state_size, const uint8_t *datagram, size_t datagram_size,
                                   uint64_t *words, size_t words_size);
 
@@ -393,7 +421,7 @@ enum {
  * (10) and the number (20), of 'L' the username (6), the password (10), the session (10) and the number (20), of 'J'
  * the reason (1).
  *   words:     EIDERWAGON_SOUP_READ_WORDS
- *   refusals:  41, 21, 22, 23, 24, 25. More is needed before 21 with under 2 bytes, before 23 with under 3, and before
+ *   refusals:  21, 22, 23, 24, 25, 41. More is needed before 21 with under 2 bytes, before 23 with under 3, and before
  *              25 until the packet is whole */
 uint32_t eiderwagon_soup_read(const uint8_t *stream, size_t stream_size, uint8_t sender,
                               uint64_t *words, size_t words_size);
@@ -415,54 +443,54 @@ uint32_t eiderwagon_soup_scan(const uint8_t *stream, size_t stream_size, uint8_t
 /* The writers. Each has EIDERWAGON_WRITE_WORDS. */
 
 /* Debug, '+', of either end.
- *   refusals:  41, 22, 41 */
+ *   refusals:  22, 41 */
 uint32_t eiderwagon_soup_write_debug(const uint8_t *payload, size_t payload_size,
                                      uint8_t *out, size_t out_size, uint64_t *words, size_t words_size);
 
 /* Login accepted, 'A', of the server: the session (EIDERWAGON_SESSION_SIZE bytes) and the number of the next message, 1
  * or more.
- *   refusals:  41, 46, 41 */
+ *   refusals:  46, 41. 46 also for a session that isn't ten bytes */
 uint32_t eiderwagon_soup_write_accepted(const uint8_t *session, size_t session_size, uint64_t number,
                                         uint8_t *out, size_t out_size, uint64_t *words, size_t words_size);
 
 /* Login rejected, 'J', of the server: the reason is 'A' (not authorized) or 'S' (session not available).
- *   refusals:  41, 46, 41 */
+ *   refusals:  46, 41 */
 uint32_t eiderwagon_soup_write_rejected(uint8_t reason,
                                         uint8_t *out, size_t out_size, uint64_t *words, size_t words_size);
 
 /* Sequenced message, 'S', of the server.
- *   refusals:  41, 22, 41 */
+ *   refusals:  22, 41 */
 uint32_t eiderwagon_soup_write_sequenced(const uint8_t *payload, size_t payload_size,
                                          uint8_t *out, size_t out_size, uint64_t *words, size_t words_size);
 
 /* Heartbeat of the server, 'H'.
- *   refusals:  41, 41 */
+ *   refusals:  41 */
 uint32_t eiderwagon_soup_write_server_heartbeat(uint8_t *out, size_t out_size, uint64_t *words, size_t words_size);
 
 /* End of session, 'Z', of the server.
- *   refusals:  41, 41 */
+ *   refusals:  41 */
 uint32_t eiderwagon_soup_write_end(uint8_t *out, size_t out_size, uint64_t *words, size_t words_size);
 
 /* Login request, 'L', of the client: username (EIDERWAGON_USERNAME_SIZE bytes) and password (EIDERWAGON_PASSWORD_SIZE),
  * padded with spaces on the right; session (EIDERWAGON_SESSION_SIZE), padded with spaces on the left, all spaces for
  * any; the number of the next message wanted, 0 for the most recent one.
- *   refusals:  41, 46, 41 */
+ *   refusals:  46, 41. 46 also for a username, a password or a session of another size */
 uint32_t eiderwagon_soup_write_login(const uint8_t *username, size_t username_size,
                                      const uint8_t *password, size_t password_size,
                                      const uint8_t *session, size_t session_size, uint64_t number,
                                      uint8_t *out, size_t out_size, uint64_t *words, size_t words_size);
 
 /* Unsequenced message, 'U', of the client.
- *   refusals:  41, 22, 41 */
+ *   refusals:  22, 41 */
 uint32_t eiderwagon_soup_write_unsequenced(const uint8_t *payload, size_t payload_size,
                                            uint8_t *out, size_t out_size, uint64_t *words, size_t words_size);
 
 /* Heartbeat of the client, 'R'.
- *   refusals:  41, 41 */
+ *   refusals:  41 */
 uint32_t eiderwagon_soup_write_client_heartbeat(uint8_t *out, size_t out_size, uint64_t *words, size_t words_size);
 
 /* Logout, 'O', of the client.
- *   refusals:  41, 41 */
+ *   refusals:  41 */
 uint32_t eiderwagon_soup_write_logout(uint8_t *out, size_t out_size, uint64_t *words, size_t words_size);
 
 /* ---- SoupBinTCP sessions ----------------------------------------------------------------------------------------- */
@@ -470,8 +498,8 @@ uint32_t eiderwagon_soup_write_logout(uint8_t *out, size_t out_size, uint64_t *w
 /* What a session answers to the front of a stream. */
 enum {
     EIDERWAGON_SESSION_NEED_MORE = 0,   /* no whole packet yet: read on */
-    EIDERWAGON_SESSION_ACCEPTED = 1,    /* a login is accepted: the server writes 'A', its session and this number */
-    EIDERWAGON_SESSION_REJECTED = 2,    /* a login is rejected: the server writes 'J' and this reason; it is closed */
+    EIDERWAGON_SESSION_ACCEPTED = 1,    /* a login is accepted: the server sends 'A', its session and this number */
+    EIDERWAGON_SESSION_REJECTED = 2,    /* a login is rejected: the server sends 'J' and this reason; it is closed */
     EIDERWAGON_SESSION_SEQUENCED = 3,   /* a message for the client's program */
     EIDERWAGON_SESSION_UNSEQUENCED = 4, /* a message for the server's program */
     EIDERWAGON_SESSION_HEARTBEAT = 5,   /* the other end is alive */
@@ -484,9 +512,15 @@ enum {
  * most 2^64 - 2.
  *   session:   EIDERWAGON_SESSION_SIZE bytes
  *   state:     EIDERWAGON_SERVER_SIZE bytes, written
- *   refusals:  41, 19 */
+ *   refusals:  19, 41. 19 also for a session that isn't ten bytes */
 uint32_t eiderwagon_server_start(const uint8_t *session, size_t session_size, uint64_t last,
                                  uint8_t *state, size_t state_size);
+
+/* Moves the last number of a server, as messages are added. A login looks at it, and no step changes it. A closed
+ * server's moves too: bytes that aren't an open server are laid as a closed one.
+ *   state:     EIDERWAGON_SERVER_SIZE bytes, read and written
+ *   refusals:  19, 41, 19. First 19 for a number above 2^64 - 2, last 19 for one below the one that is there */
+uint32_t eiderwagon_server_set_last(uint8_t *state, size_t state_size, uint64_t last);
 
 /* The words of eiderwagon_server_step. */
 enum {
@@ -500,23 +534,47 @@ enum {
 };
 
 /* Takes the packet at the front of a client's stream. Go on with the stream from EIDERWAGON_SERVER_STEP_SIZE on. A
- * packet that is refused stays in front and is refused again: close the connection, unless it is 19, which is the
- * table's. The last number is looked at for a login alone, and no step changes it: while no login has come, lay the
- * newer one into the state (EIDERWAGON_SERVER_LAST_AT) as messages are added.
+ * packet that is refused stays in front and is refused again: close the connection, unless it is 19 or 41, which are
+ * about what you lent. It writes nothing: eiderwagon_server_reply is the same step with its reply.
  *   state:     EIDERWAGON_SERVER_SIZE bytes, read and written
  *   accounts:  EIDERWAGON_ACCOUNT_SIZE bytes a record, at most 1,024 records; bytes left over are no record. A record
  *              whose username or password isn't sound is skipped, one padded with zero bytes too. The first other
  *              record with the username decides; letters compare without case
  *   words:     EIDERWAGON_SERVER_STEP_WORDS
- *   refusals:  41, 19, 21, 22, 23, 24, 25, 32, 31. 19 comes even before more is needed, and that before 32 */
+ *   refusals:  19, 21, 22, 23, 24, 25, 41, 32, 31, 41. More is needed is answered behind the first 41, and before 32 */
 uint32_t eiderwagon_server_step(uint8_t *state, size_t state_size, const uint8_t *accounts, size_t accounts_size,
                                 const uint8_t *stream, size_t stream_size, uint64_t *words, size_t words_size);
+
+/* The words of eiderwagon_server_reply: those of eiderwagon_server_step, and one more. */
+enum {
+    EIDERWAGON_SERVER_REPLY_ANSWER = 0,  /* what it answers */
+    EIDERWAGON_SERVER_REPLY_SIZE = 1,    /* how many bytes it took, 0 where more are needed */
+    EIDERWAGON_SERVER_REPLY_NUMBER = 2,  /* of accepted: the number in 'A' */
+    EIDERWAGON_SERVER_REPLY_REASON = 2,  /* of rejected: the reason in 'J' */
+    EIDERWAGON_SERVER_REPLY_OFFSET = 2,  /* of unsequenced: the offset of the message in the stream */
+    EIDERWAGON_SERVER_REPLY_LENGTH = 3,  /* of unsequenced: its length */
+    EIDERWAGON_SERVER_REPLY_WRITTEN = 5, /* how many bytes of `out` were written: the reply to send, or 0 */
+    EIDERWAGON_SERVER_REPLY_WORDS = 6    /* how many words; the fifth one is 0 */
+};
+
+/* The same step, which also writes the reply: 'A' with the server's session and the granted number, or 'J' with its
+ * reason; and nothing for another answer. Where the reply can't be written, nothing has changed and the login is still
+ * in front: after 41 lend more, and call again.
+ *   state:     EIDERWAGON_SERVER_SIZE bytes, read and written
+ *   accounts:  as at eiderwagon_server_step
+ *   out:       EIDERWAGON_LARGEST_REPLY bytes are enough
+ *   words:     EIDERWAGON_SERVER_REPLY_WORDS
+ *   refusals:  19, 21, 22, 23, 24, 25, 41, 32, 31, 46, 41. 46 only at a state made by hand, whose session can't stand
+ *              in 'A' */
+uint32_t eiderwagon_server_reply(uint8_t *state, size_t state_size, const uint8_t *accounts, size_t accounts_size,
+                                 const uint8_t *stream, size_t stream_size, uint8_t *out, size_t out_size,
+                                 uint64_t *words, size_t words_size);
 
 /* Starts a client's end of one connection, with the session and the number that its login request asks for.
  *   session:   EIDERWAGON_SESSION_SIZE bytes, all spaces for any
  *   state:     EIDERWAGON_CLIENT_SIZE bytes, written; from an accepted login on, its session is the server's and its
  *              number the next message's
- *   refusals:  41, 19 */
+ *   refusals:  19, 41. 19 also for a session that isn't ten bytes */
 uint32_t eiderwagon_client_start(const uint8_t *session, size_t session_size, uint64_t number,
                                  uint8_t *state, size_t state_size);
 
@@ -532,10 +590,12 @@ enum {
 };
 
 /* Takes the packet at the front of a server's stream. Go on with the stream from EIDERWAGON_CLIENT_STEP_SIZE on. A
- * packet that is refused stays in front and is refused again: close the connection.
+ * packet that is refused stays in front and is refused again: close the connection, unless it is 41, which is about
+ * what you lent.
  *   state:     EIDERWAGON_CLIENT_SIZE bytes, read and written
  *   words:     EIDERWAGON_CLIENT_STEP_WORDS
- *   refusals:  41, 21, 22, 23, 24, 25, 32, 31, 33, 34. More is needed before 32 */
+ *   refusals:  21, 22, 23, 24, 25, 41, 32, 31, 33, 34, 41. More is needed is answered behind the
+ *              first 41, and before 32 */
 uint32_t eiderwagon_client_step(uint8_t *state, size_t state_size, const uint8_t *stream, size_t stream_size,
                                 uint64_t *words, size_t words_size);
 
@@ -582,14 +642,14 @@ uint32_t eiderwagon_capture_finish(uint8_t *state, size_t state_size, const uint
  *   state:     EIDERWAGON_CAPTURE_SIZE bytes, read
  *   out:       EIDERWAGON_LARGEST_REPORT bytes are enough
  *   words:     EIDERWAGON_WRITE_WORDS
- *   refusals:  41, 41 */
+ *   refusals:  41 */
 uint32_t eiderwagon_capture_write(const uint8_t *state, size_t state_size,
                                   uint8_t *out, size_t out_size, uint64_t *words, size_t words_size);
 
 /* Writes the report of a whole capture.
  *   out:       EIDERWAGON_LARGEST_REPORT bytes are enough
  *   words:     EIDERWAGON_WRITE_WORDS
- *   refusals:  41, 41 */
+ *   refusals:  41 */
 uint32_t eiderwagon_capture_report(const uint8_t *capture, size_t capture_size,
                                    uint8_t *out, size_t out_size, uint64_t *words, size_t words_size);
 

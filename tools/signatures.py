@@ -37,7 +37,7 @@ def in_header():
     text = re.sub(r"/\*.*?\*/", "", (ROOT / "include/eiderwagon.h").read_text(), flags=re.S)
     found = {}
     for answer, name, parameters in re.findall(rf"^(\w+) ({PREFIX}\w+)\(([^)]*)\);", text, re.M):
-        kinds, parts = [], [" ".join(part.split()) for part in parameters.split(",")]
+        kinds, parts = [], [" ".join(part.split()) for part in parameters.split(",") if part.strip() != "void"]
         while parts:
             kind, name_of = parts.pop(0).rsplit(" ", 1)
             kind = number(kind)

@@ -92,8 +92,13 @@ static void end_of_session(uint64_t next, size_t cut) {
 }
 
 int main(void) {
+    uint32_t code;
+    if (eiderwagon_version() != EIDERWAGON_VERSION) {
+        fprintf(stderr, "the library is of another version than its header\n");
+        return 1;
+    }
     /* The receiver is all zeros, as a state is to be before its start: a refused start changes no byte. */
-    uint32_t code = eiderwagon_receiver_start(session, sizeof session, 1, 100, receiver, sizeof receiver);
+    code = eiderwagon_receiver_start(session, sizeof session, 1, 100, receiver, sizeof receiver);
     if (EIDERWAGON_NUMBER(code) != EIDERWAGON_OK) {
         fprintf(stderr, "no receiver: %s\n", eiderwagon_ground(code));
         return 1;

@@ -48,41 +48,41 @@ static void taken(Stream *stream, uint64_t size) {
 
 /* ---- The server's end -------------------------------------------------------------------------------------------- */
 
-/* Takes what came: one packet a step, until more bytes are needed. */
+/* Sends the messages from a number on. */
+static void send_from(uint64_t number) {
+    uint64_t words[EIDERWAGON_WRITE_WORDS];
+    for (size_t at = (size_t)number - 1; at < LAST; at++) {
+        uint32_t code = eiderwagon_soup_write_sequenced((const uint8_t *)messages[at], strlen(messages[at]),
+                                                        ROOM(&to_client), words, EIDERWAGON_WRITE_WORDS);
+        wrote(&to_client, code, words);
+    }
+}
+
+/* Takes what came: one packet a step, until more bytes are needed. The step writes the reply to a login. */
 static void serve(void) {
-    uint64_t step[EIDERWAGON_SERVER_STEP_WORDS], words[EIDERWAGON_WRITE_WORDS];
+    uint64_t step[EIDERWAGON_SERVER_REPLY_WORDS];
     for (;;) {
-        uint32_t code = eiderwagon_server_step(server, sizeof server, TEXT(accounts), to_server.bytes, to_server.size,
-                                               step, EIDERWAGON_SERVER_STEP_WORDS);
+        uint32_t code = eiderwagon_server_reply(server, sizeof server, TEXT(accounts), to_server.bytes, to_server.size,
+                                                ROOM(&to_client), step, EIDERWAGON_SERVER_REPLY_WORDS);
         if (EIDERWAGON_NUMBER(code) != EIDERWAGON_OK) {
             printf("server: %s; it closes the connection\n", eiderwagon_ground(code));
             to_server.size = 0;
             return;
         }
-        switch (step[EIDERWAGON_SERVER_STEP_ANSWER]) {
+        to_client.size += (size_t)step[EIDERWAGON_SERVER_REPLY_WRITTEN];
+        switch (step[EIDERWAGON_SERVER_REPLY_ANSWER]) {
         case EIDERWAGON_SESSION_NEED_MORE:
             return;
         case EIDERWAGON_SESSION_ACCEPTED:
-            printf("server: accepted from message %" PRIu64 " on\n", step[EIDERWAGON_SERVER_STEP_NUMBER]);
-            code = eiderwagon_soup_write_accepted(server + EIDERWAGON_SERVER_SESSION_AT, EIDERWAGON_SESSION_SIZE,
-                                                  step[EIDERWAGON_SERVER_STEP_NUMBER], ROOM(&to_client), words,
-                                                  EIDERWAGON_WRITE_WORDS);
-            wrote(&to_client, code, words);
-            for (size_t at = step[EIDERWAGON_SERVER_STEP_NUMBER] - 1; at < LAST; at++) {
-                code = eiderwagon_soup_write_sequenced((const uint8_t *)messages[at], strlen(messages[at]),
-                                                       ROOM(&to_client), words, EIDERWAGON_WRITE_WORDS);
-                wrote(&to_client, code, words);
-            }
+            printf("server: accepted from message %" PRIu64 " on\n", step[EIDERWAGON_SERVER_REPLY_NUMBER]);
+            send_from(step[EIDERWAGON_SERVER_REPLY_NUMBER]);
             break;
         case EIDERWAGON_SESSION_REJECTED:
-            printf("server: rejected, %c\n", (int)step[EIDERWAGON_SERVER_STEP_REASON]);
-            code = eiderwagon_soup_write_rejected((uint8_t)step[EIDERWAGON_SERVER_STEP_REASON], ROOM(&to_client),
-                                                  words, EIDERWAGON_WRITE_WORDS);
-            wrote(&to_client, code, words);
+            printf("server: rejected, %c\n", (int)step[EIDERWAGON_SERVER_REPLY_REASON]);
             break;
         case EIDERWAGON_SESSION_UNSEQUENCED:
-            printf("server: the client says %.*s\n", (int)step[EIDERWAGON_SERVER_STEP_LENGTH],
-                   (const char *)to_server.bytes + step[EIDERWAGON_SERVER_STEP_OFFSET]);
+            printf("server: the client says %.*s\n", (int)step[EIDERWAGON_SERVER_REPLY_LENGTH],
+                   (const char *)to_server.bytes + step[EIDERWAGON_SERVER_REPLY_OFFSET]);
             break;
         case EIDERWAGON_SESSION_LOGGED_OUT:
             printf("server: the client logs out\n");
@@ -90,7 +90,7 @@ static void serve(void) {
         default: /* EIDERWAGON_SESSION_HEARTBEAT, EIDERWAGON_SESSION_DEBUG */
             break;
         }
-        taken(&to_server, step[EIDERWAGON_SERVER_STEP_SIZE]);
+        taken(&to_server, step[EIDERWAGON_SERVER_REPLY_SIZE]);
     }
 }
 
@@ -141,7 +141,11 @@ static void log_in(const char *username, const char *password) {
     /* A refused start changes no byte: what an earlier connection left is cleared first. */
     memset(server, 0, sizeof server);
     memset(client, 0, sizeof client);
-    code = eiderwagon_server_start(TEXT("READROOM01"), LAST, server, sizeof server);
+    code = eiderwagon_server_start(TEXT("READROOM01"), 0, server, sizeof server);
+    /* The messages are added while it waits for the login. */
+    for (uint64_t last = 1; EIDERWAGON_NUMBER(code) == EIDERWAGON_OK && last <= LAST; last++) {
+        code = eiderwagon_server_set_last(server, sizeof server, last);
+    }
     if (EIDERWAGON_NUMBER(code) == EIDERWAGON_OK) {
         code = eiderwagon_client_start(TEXT(any), 1, client, sizeof client);
     }
@@ -160,6 +164,10 @@ static void log_in(const char *username, const char *password) {
 int main(void) {
     uint64_t words[EIDERWAGON_WRITE_WORDS];
     uint32_t code;
+    if (eiderwagon_version() != EIDERWAGON_VERSION) {
+        fprintf(stderr, "the library is of another version than its header\n");
+        return 1;
+    }
     log_in("clerk ", "desk      "); /* the wrong password */
     log_in("Clerk ", "DESK5     "); /* letters compare without case */
     code = eiderwagon_soup_write_unsequenced(TEXT("hello"), ROOM(&to_server), words, EIDERWAGON_WRITE_WORDS);

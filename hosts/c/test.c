@@ -2,9 +2,10 @@
  *
  * ../test.sh builds and runs it. feed.c and login.c, beside it, are the examples. The parts, in order:
  *   1. a MoldUDP64 receiver, with a gap      5. what is done, and that it changes no more than it says
- *   2. a SoupBinTCP login and session        6. buffers with no elements, at NULL
- *   3. a capture, whole and in pieces        7. codes, and grounds in words
- *   4. what is refused, and that it changes nothing
+ *   2. a SoupBinTCP login and session        6. states: open by their own code alone, and made by hand
+ *   3. a capture, whole and in pieces        7. buffers with no elements, at NULL
+ *   4. what is refused, and that it          8. the version, codes, and grounds in words
+ *      changes nothing
  */
 #include "eiderwagon.h"
 
@@ -61,11 +62,11 @@ static int same(const uint8_t *bytes, size_t size, const char *text) {
     return size == strlen(text) && memcmp(bytes, text, size) == 0;
 }
 
-/* A number of so many bytes in a state. */
+/* A number of so many bytes in a state: the low ones come first. */
 static uint64_t number_in(const uint8_t *state, size_t at, size_t size) {
     uint64_t number = 0;
-    for (size_t i = 0; i < size; i++) {
-        number = number << 8 | state[at + i];
+    for (size_t i = size; i > 0; i--) {
+        number = number << 8 | state[at + i - 1];
     }
     return number;
 }
@@ -182,7 +183,7 @@ static void follow_a_feed(void) {
         CHECK(WORD(READ_REQUEST_FIRST) == 6 && WORD(READ_REQUEST_COUNT) == 100);
     }
     CHECK(take(receiver, &end, &request) == EIDERWAGON_RECEIVER_ENDED);
-    CHECK(receiver[EIDERWAGON_RECEIVER_ENDED_AT] == 1);
+    CHECK(receiver[EIDERWAGON_RECEIVER_CODE_AT] == 0);
 }
 
 /* A datagram without a receiver: what it is, one message by its place, and all of them. */
@@ -242,6 +243,13 @@ static void server_step(uint8_t server[EIDERWAGON_SERVER_SIZE], const Bytes *str
                                 EIDERWAGON_SERVER_STEP_WORDS));
 }
 
+/* The same step with its reply, which goes behind what is in the other stream. */
+static void server_reply(uint8_t server[EIDERWAGON_SERVER_SIZE], const Bytes *stream, Bytes *reply, uint64_t *words) {
+    DONE(eiderwagon_server_reply(server, EIDERWAGON_SERVER_SIZE, TEXT(accounts), stream->bytes, stream->size,
+                                 ROOM(reply), words, EIDERWAGON_SERVER_REPLY_WORDS));
+    reply->size += WORD(SERVER_REPLY_WRITTEN);
+}
+
 static void client_step(uint8_t client[EIDERWAGON_CLIENT_SIZE], const Bytes *stream, uint64_t *words) {
     DONE(eiderwagon_client_step(client, EIDERWAGON_CLIENT_SIZE, stream->bytes, stream->size, words,
                                 EIDERWAGON_CLIENT_STEP_WORDS));
@@ -252,10 +260,12 @@ static void log_in_and_out(void) {
     uint8_t client[EIDERWAGON_CLIENT_SIZE];
     Bytes up = {{0}, 0};   /* from the client to the server */
     Bytes down = {{0}, 0}; /* and back */
-    uint64_t words[EIDERWAGON_SERVER_STEP_WORDS]; /* as many as EIDERWAGON_CLIENT_STEP_WORDS */
+    uint64_t words[EIDERWAGON_SERVER_REPLY_WORDS]; /* no function has more */
 
-    /* The server's session has one message. The client wants any session, from message 1 on. */
-    DONE(eiderwagon_server_start(LEND(name), 1, LEND(server)));
+    /* The server's session has no message, and then one. The client wants any session, from message 1 on. */
+    DONE(eiderwagon_server_start(LEND(name), 0, LEND(server)));
+    DONE(eiderwagon_server_set_last(LEND(server), 1));
+    CHECK(number_in(server, EIDERWAGON_SERVER_LAST_AT, 8) == 1);
     DONE(eiderwagon_client_start(TEXT(any_session), 1, LEND(client)));
     DONE(eiderwagon_soup_write_login(TEXT("Clerk "), TEXT("DESK5     "), TEXT(any_session), 1, ROOM(&up), LEND(words)));
     CHECK(WORD(WRITE_SIZE) == 49);
@@ -265,16 +275,14 @@ static void log_in_and_out(void) {
     server_step(server, &up, words);
     CHECK(WORD(SERVER_STEP_ANSWER) == EIDERWAGON_SESSION_NEED_MORE && WORD(SERVER_STEP_SIZE) == 0);
     up.size += 1;
-    server_step(server, &up, words);
-    CHECK(WORD(SERVER_STEP_ANSWER) == EIDERWAGON_SESSION_ACCEPTED && WORD(SERVER_STEP_SIZE) == 49);
-    CHECK(WORD(SERVER_STEP_NUMBER) == 1);
-    pass(&up, WORD(SERVER_STEP_SIZE));
+    server_reply(server, &up, &down, words);
+    CHECK(WORD(SERVER_REPLY_ANSWER) == EIDERWAGON_SESSION_ACCEPTED && WORD(SERVER_REPLY_SIZE) == 49);
+    CHECK(WORD(SERVER_REPLY_NUMBER) == 1 && WORD(SERVER_REPLY_WRITTEN) == EIDERWAGON_LARGEST_REPLY);
+    pass(&up, WORD(SERVER_REPLY_SIZE));
     CHECK(up.size == 0);
 
-    /* The server writes A, with its session and the number of the answer, and then its messages from that number on. */
-    DONE(eiderwagon_soup_write_accepted(server + EIDERWAGON_SERVER_SESSION_AT, EIDERWAGON_SESSION_SIZE,
-                                        WORD(SERVER_STEP_NUMBER), ROOM(&down), LEND(words)));
-    down.size += WORD(WRITE_SIZE);
+    /* It has written A, with its session and the number of the answer; its messages from that number on follow. */
+    CHECK(memcmp(down.bytes, "\0\x1F" "AREADROOM01" "                   1", EIDERWAGON_LARGEST_REPLY) == 0);
     DONE(eiderwagon_soup_write_sequenced(TEXT("offer"), ROOM(&down), LEND(words)));
     down.size += WORD(WRITE_SIZE);
     DONE(eiderwagon_soup_write_server_heartbeat(ROOM(&down), LEND(words)));
@@ -314,6 +322,10 @@ static void log_in_and_out(void) {
     server_step(server, &up, words);
     CHECK(WORD(SERVER_STEP_ANSWER) == EIDERWAGON_SESSION_UNSEQUENCED);
     CHECK(same(up.bytes + WORD(SERVER_STEP_OFFSET), WORD(SERVER_STEP_LENGTH), "hello"));
+    /* a step that needs no reply writes none */
+    server_reply(server, &up, &down, words);
+    CHECK(WORD(SERVER_REPLY_ANSWER) == EIDERWAGON_SESSION_UNSEQUENCED && WORD(SERVER_REPLY_WRITTEN) == 0);
+    CHECK(same(up.bytes + WORD(SERVER_REPLY_OFFSET), WORD(SERVER_REPLY_LENGTH), "hello"));
     CHECK(WORD(SERVER_STEP_WORDS - 1) == 0);
     pass(&up, WORD(SERVER_STEP_SIZE));
     server_step(server, &up, words);
@@ -321,14 +333,14 @@ static void log_in_and_out(void) {
     pass(&up, WORD(SERVER_STEP_SIZE));
     server_step(server, &up, words);
     CHECK(WORD(SERVER_STEP_ANSWER) == EIDERWAGON_SESSION_LOGGED_OUT);
-    CHECK(server[EIDERWAGON_SERVER_STATE_AT] == EIDERWAGON_SERVER_CLOSED);
+    CHECK(server[EIDERWAGON_SERVER_CODE_AT] == 0 && server[EIDERWAGON_SERVER_PHASE_AT] == EIDERWAGON_SERVER_CLOSED);
 
     /* Had the client stayed, the server would have ended the session some day. */
     DONE(eiderwagon_soup_write_end(ROOM(&down), LEND(words)));
     down.size += WORD(WRITE_SIZE);
     client_step(client, &down, words);
     CHECK(WORD(CLIENT_STEP_ANSWER) == EIDERWAGON_SESSION_OVER);
-    CHECK(client[EIDERWAGON_CLIENT_STATE_AT] == EIDERWAGON_CLIENT_ENDED);
+    CHECK(client[EIDERWAGON_CLIENT_CODE_AT] == 0 && client[EIDERWAGON_CLIENT_PHASE_AT] == EIDERWAGON_CLIENT_ENDED);
 }
 
 /* A wrong password: the server answers J with a reason, and both ends are closed. */
@@ -337,7 +349,7 @@ static void be_rejected(void) {
     uint8_t client[EIDERWAGON_CLIENT_SIZE];
     Bytes up = {{0}, 0};
     Bytes down = {{0}, 0};
-    uint64_t words[EIDERWAGON_SERVER_STEP_WORDS] = {9, 9, 9, 9, 9};
+    uint64_t words[EIDERWAGON_SERVER_REPLY_WORDS] = {9, 9, 9, 9, 9, 9};
 
     DONE(eiderwagon_server_start(LEND(name), 1, LEND(server)));
     DONE(eiderwagon_client_start(LEND(name), 0, LEND(client)));
@@ -349,15 +361,14 @@ static void be_rejected(void) {
     CHECK(WORD(SOUP_READ_LETTER) == 'L' && WORD(SOUP_READ_SIZE) == up.size && WORD(SOUP_READ_NUMBER) == 0);
     CHECK(same(up.bytes + 3, EIDERWAGON_USERNAME_SIZE, "clerk "));
 
-    server_step(server, &up, words);
-    CHECK(WORD(SERVER_STEP_ANSWER) == EIDERWAGON_SESSION_REJECTED && WORD(SERVER_STEP_REASON) == 'A');
-    DONE(eiderwagon_soup_write_rejected((uint8_t)WORD(SERVER_STEP_REASON), ROOM(&down), LEND(words)));
-    down.size = WORD(WRITE_SIZE);
+    server_reply(server, &up, &down, words);
+    CHECK(WORD(SERVER_REPLY_ANSWER) == EIDERWAGON_SESSION_REJECTED && WORD(SERVER_REPLY_REASON) == 'A');
+    CHECK(down.size == 4);
     client_step(client, &down, words);
     CHECK(WORD(CLIENT_STEP_ANSWER) == EIDERWAGON_SESSION_REJECTED && WORD(CLIENT_STEP_REASON) == 'A');
     CHECK(WORD(CLIENT_STEP_OFFSET) == 0 && WORD(CLIENT_STEP_LENGTH) == 0);
-    CHECK(server[EIDERWAGON_SERVER_STATE_AT] == EIDERWAGON_SERVER_CLOSED);
-    CHECK(client[EIDERWAGON_CLIENT_STATE_AT] == EIDERWAGON_CLIENT_CLOSED);
+    CHECK(server[EIDERWAGON_SERVER_CODE_AT] == 0 && server[EIDERWAGON_SERVER_PHASE_AT] == EIDERWAGON_SERVER_CLOSED);
+    CHECK(client[EIDERWAGON_CLIENT_CODE_AT] == 0 && client[EIDERWAGON_CLIENT_PHASE_AT] == EIDERWAGON_CLIENT_CLOSED);
 }
 
 /* ---- 3. A capture ------------------------------------------------------------------------------------------------ */
@@ -443,7 +454,7 @@ static struct {
     uint8_t state[EIDERWAGON_CAPTURE_SIZE];
     uint8_t cursor[EIDERWAGON_CURSOR_SIZE];
     uint8_t out[EIDERWAGON_LARGEST_PACKET];
-    uint64_t words[EIDERWAGON_SERVER_STEP_WORDS]; /* no function has more */
+    uint64_t words[EIDERWAGON_SERVER_REPLY_WORDS]; /* no function has more */
 } lent, before;
 
 #define LENT(name) lent.words[EIDERWAGON_##name]
@@ -471,7 +482,9 @@ static void refuse_datagrams(void) {
     const Bytes one = data(1, 1, (const uint16_t[]){3}, "one");
     Bytes bad = one;
 
+    /* Too few words come behind every other ground. */
     REFUSED(OUTPUT_SHORT, eiderwagon_mold_read(one.bytes, one.size, FEWER(MOLD_READ)));
+    REFUSED(DATAGRAM_SHORT, eiderwagon_mold_read(one.bytes, 19, FEWER(MOLD_READ)));
     REFUSED(DATAGRAM_SHORT, eiderwagon_mold_read(one.bytes, 19, WORDS(MOLD_READ)));
     REFUSED(DATAGRAM_LONG, eiderwagon_mold_read(zeros, EIDERWAGON_LARGEST_DATAGRAM + 1, WORDS(MOLD_READ)));
     REFUSED(NUMBER_ZERO, eiderwagon_mold_read(zeros, EIDERWAGON_LARGEST_DATAGRAM, WORDS(MOLD_READ)));
@@ -493,14 +506,19 @@ static void refuse_written_datagrams(void) {
     const uint16_t lengths[] = {3};
     const uint16_t long_length[] = {65486};
 
-    /* A short name and short words come before every other ground, a short output after. */
+    /* A name of another size, too few words and a short output come behind every other ground. */
     REFUSED(OUTPUT_SHORT,
-            eiderwagon_mold_write_data(name, 9, 0, LEND(lengths), TEXT("one"), LEND(lent.out), WORDS(WRITE)));
+            eiderwagon_mold_write_data(name, 9, 1, LEND(lengths), TEXT("one"), LEND(lent.out), WORDS(WRITE)));
     REFUSED(OUTPUT_SHORT,
-            eiderwagon_mold_write_data(LEND(name), 0, LEND(lengths), TEXT("one"), LEND(lent.out), FEWER(WRITE)));
+            eiderwagon_mold_write_data(TEXT("READROOM011"), 1, LEND(lengths), TEXT("one"), LEND(lent.out),
+                                       WORDS(WRITE)));
+    REFUSED(NUMBER_ZERO,
+            eiderwagon_mold_write_data(name, 9, 0, LEND(lengths), TEXT("one"), LEND(lent.out), FEWER(WRITE)));
+    REFUSED(OUTPUT_SHORT,
+            eiderwagon_mold_write_data(LEND(name), 1, LEND(lengths), TEXT("one"), LEND(lent.out), FEWER(WRITE)));
     REFUSED(OUTPUT_SHORT, eiderwagon_mold_write_data(LEND(name), 1, LEND(lengths), TEXT("one"), OUT(24), WORDS(WRITE)));
     REFUSED(TOO_MANY_MESSAGES,
-            eiderwagon_mold_write_data(LEND(name), 1, LEND(too_many_lengths), TEXT(""), OUT(0), WORDS(WRITE)));
+            eiderwagon_mold_write_data(LEND(name), 1, LEND(too_many_lengths), TEXT(""), OUT(0), FEWER(WRITE)));
     REFUSED(LENGTHS_DIFFER,
             eiderwagon_mold_write_data(LEND(name), 0, LEND(lengths), TEXT("four"), OUT(0), WORDS(WRITE)));
     REFUSED(NUMBER_ZERO, eiderwagon_mold_write_data(LEND(name), 0, LEND(lengths), TEXT("one"), OUT(0), WORDS(WRITE)));
@@ -510,11 +528,13 @@ static void refuse_written_datagrams(void) {
             eiderwagon_mold_write_data(LEND(name), 1, LEND(long_length), zeros, 65486, OUT(0), WORDS(WRITE)));
 
     REFUSED(OUTPUT_SHORT, eiderwagon_mold_write_heartbeat(name, 9, 1, LEND(lent.out), WORDS(WRITE)));
+    REFUSED(OUTPUT_SHORT, eiderwagon_mold_write_heartbeat(TEXT("READROOM011"), 1, LEND(lent.out), WORDS(WRITE)));
     REFUSED(OUTPUT_SHORT, eiderwagon_mold_write_heartbeat(LEND(name), 1, LEND(lent.out), FEWER(WRITE)));
     REFUSED(OUTPUT_SHORT, eiderwagon_mold_write_heartbeat(LEND(name), 1, OUT(19), WORDS(WRITE)));
     REFUSED(NUMBER_ZERO, eiderwagon_mold_write_heartbeat(LEND(name), 0, OUT(19), WORDS(WRITE)));
 
     REFUSED(OUTPUT_SHORT, eiderwagon_mold_write_end(name, 9, 1, LEND(lent.out), WORDS(WRITE)));
+    REFUSED(OUTPUT_SHORT, eiderwagon_mold_write_end(TEXT("READROOM011"), 1, LEND(lent.out), WORDS(WRITE)));
     REFUSED(OUTPUT_SHORT, eiderwagon_mold_write_end(LEND(name), 1, LEND(lent.out), FEWER(WRITE)));
     REFUSED(OUTPUT_SHORT, eiderwagon_mold_write_end(LEND(name), 1, OUT(19), WORDS(WRITE)));
     REFUSED(NUMBER_ZERO, eiderwagon_mold_write_end(LEND(name), 0, OUT(19), WORDS(WRITE)));
@@ -524,13 +544,17 @@ static void refuse_requests(void) {
     const Bytes count_zero = heartbeat(1);
     const Bytes count_of_an_end = end_of_session(1);
 
-    REFUSED(OUTPUT_SHORT, eiderwagon_mold_read_request(zeros, 0, FEWER(READ_REQUEST)));
+    REFUSED(OUTPUT_SHORT,
+            eiderwagon_mold_read_request((const uint8_t *)"READROOM01\0\0\0\0\0\0\0\1\0\1", 20,
+                                         FEWER(READ_REQUEST)));
+    REFUSED(REQUEST_SIZE, eiderwagon_mold_read_request(zeros, 0, FEWER(READ_REQUEST)));
     REFUSED(REQUEST_SIZE, eiderwagon_mold_read_request(zeros, 21, WORDS(READ_REQUEST)));
     REFUSED(NUMBER_ZERO, eiderwagon_mold_read_request(zeros, 20, WORDS(READ_REQUEST)));
     REFUSED(REQUEST_COUNT, eiderwagon_mold_read_request(count_zero.bytes, 20, WORDS(READ_REQUEST)));
     REFUSED(REQUEST_COUNT, eiderwagon_mold_read_request(count_of_an_end.bytes, 20, WORDS(READ_REQUEST)));
 
     REFUSED(OUTPUT_SHORT, eiderwagon_mold_write_request(name, 9, 1, 1, LEND(lent.out), WORDS(WRITE)));
+    REFUSED(OUTPUT_SHORT, eiderwagon_mold_write_request(TEXT("READROOM011"), 1, 1, LEND(lent.out), WORDS(WRITE)));
     REFUSED(OUTPUT_SHORT, eiderwagon_mold_write_request(LEND(name), 1, 1, LEND(lent.out), FEWER(WRITE)));
     REFUSED(OUTPUT_SHORT, eiderwagon_mold_write_request(LEND(name), 1, 1, OUT(19), WORDS(WRITE)));
     REFUSED(NUMBER_ZERO, eiderwagon_mold_write_request(LEND(name), 0, 0, OUT(19), WORDS(WRITE)));
@@ -544,17 +568,23 @@ static void refuse_at_a_receiver(void) {
     Bytes other = end_at_five;
     other.bytes[9] = '2';
 
-    REFUSED(OUTPUT_SHORT, eiderwagon_receiver_start(name, 9, 5, 100, STATE(EIDERWAGON_RECEIVER_SIZE)));
+    REFUSED(BAD_SETTING, eiderwagon_receiver_start(name, 9, 5, 100, STATE(EIDERWAGON_RECEIVER_SIZE)));
+    REFUSED(BAD_SETTING, eiderwagon_receiver_start(TEXT("READROOM011"), 5, 100, STATE(EIDERWAGON_RECEIVER_SIZE)));
     REFUSED(OUTPUT_SHORT, eiderwagon_receiver_start(LEND(name), 5, 100, STATE(EIDERWAGON_RECEIVER_SIZE - 1)));
+    REFUSED(BAD_SETTING, eiderwagon_receiver_start(LEND(name), 0, 100, STATE(EIDERWAGON_RECEIVER_SIZE - 1)));
     REFUSED(BAD_SETTING, eiderwagon_receiver_start(LEND(name), 0, 100, LEND(lent.state)));
     REFUSED(BAD_SETTING, eiderwagon_receiver_start(LEND(name), 5, 0, LEND(lent.state)));
     REFUSED(BAD_SETTING, eiderwagon_receiver_start(LEND(name), 5, 65535, LEND(lent.state)));
 
     DONE(eiderwagon_receiver_start(LEND(name), 5, 100, LEND(lent.state)));
-    REFUSED(OUTPUT_SHORT, eiderwagon_receiver_take(STATE(EIDERWAGON_RECEIVER_SIZE - 1), zeros, 0, WORDS(TAKE)));
-    REFUSED(OUTPUT_SHORT, eiderwagon_receiver_take(STATE(EIDERWAGON_RECEIVER_SIZE), zeros, 0, FEWER(TAKE)));
+    /* 11 to 16 need no state; 17, 18 and 20 do, and come behind a short one, but before too few words. */
+    REFUSED(DATAGRAM_SHORT, eiderwagon_receiver_take(STATE(EIDERWAGON_RECEIVER_SIZE - 1), zeros, 0, FEWER(TAKE)));
+    REFUSED(OUTPUT_SHORT,
+            eiderwagon_receiver_take(STATE(EIDERWAGON_RECEIVER_SIZE - 1), other.bytes, other.size, WORDS(TAKE)));
+    REFUSED(OUTPUT_SHORT,
+            eiderwagon_receiver_take(LEND(lent.state), end_at_five.bytes, end_at_five.size, FEWER(TAKE)));
     REFUSED(DATAGRAM_SHORT, eiderwagon_receiver_take(LEND(lent.state), zeros, 0, WORDS(TAKE)));
-    REFUSED(SESSION_DIFFERS, eiderwagon_receiver_take(LEND(lent.state), other.bytes, other.size, WORDS(TAKE)));
+    REFUSED(SESSION_DIFFERS, eiderwagon_receiver_take(LEND(lent.state), other.bytes, other.size, FEWER(TAKE)));
     REFUSED(END_BELOW_EXPECTED,
             eiderwagon_receiver_take(LEND(lent.state), end_at_four.bytes, end_at_four.size, WORDS(TAKE)));
 
@@ -565,7 +595,8 @@ static void refuse_at_a_receiver(void) {
 
 static void refuse_packets(void) {
     REFUSED(OUTPUT_SHORT, eiderwagon_soup_read(TEXT("\0\1H"), EIDERWAGON_SOUP_FROM_SERVER, FEWER(SOUP_READ)));
-    REFUSED(LENGTH_ZERO, eiderwagon_soup_read(zeros, 2, EIDERWAGON_SOUP_FROM_SERVER, WORDS(SOUP_READ)));
+    REFUSED(OUTPUT_SHORT, eiderwagon_soup_read(zeros, 0, EIDERWAGON_SOUP_FROM_SERVER, FEWER(SOUP_READ)));
+    REFUSED(LENGTH_ZERO, eiderwagon_soup_read(zeros, 2, EIDERWAGON_SOUP_FROM_SERVER, FEWER(SOUP_READ)));
     REFUSED(PAYLOAD_LONG, eiderwagon_soup_read(TEXT("\x10\2"), EIDERWAGON_SOUP_FROM_SERVER, WORDS(SOUP_READ)));
     REFUSED(LETTER_NOT_SENT, eiderwagon_soup_read(TEXT("\0\1H"), EIDERWAGON_SOUP_FROM_CLIENT, WORDS(SOUP_READ)));
     REFUSED(LETTER_NOT_SENT, eiderwagon_soup_read(TEXT("\0\1H"), 255, WORDS(SOUP_READ)));
@@ -578,14 +609,14 @@ static void refuse_packets(void) {
     CHECK(LENT(SCAN_COUNT) == 1 && LENT(SCAN_SIZE) == 3 && LENT(SCAN_REFUSAL) == EIDERWAGON_REFUSED_FIELD_BAD);
 }
 
-/* A writer of bytes, and one of a packet that has none: each lacks words, then an output, then takes too many bytes. */
+/* A writer of bytes, and one of a packet that has none: each lacks words, then an output; too many bytes come first. */
 typedef uint32_t (*PayloadWriter)(const uint8_t *, size_t, uint8_t *, size_t, uint64_t *, size_t);
 typedef uint32_t (*BareWriter)(uint8_t *, size_t, uint64_t *, size_t);
 
 static void refuse_payload(PayloadWriter write) {
-    REFUSED(OUTPUT_SHORT, write(zeros, 4097, LEND(lent.out), FEWER(WRITE)));
+    REFUSED(OUTPUT_SHORT, write(zeros, 4096, LEND(lent.out), FEWER(WRITE)));
     REFUSED(OUTPUT_SHORT, write(zeros, 4096, OUT(EIDERWAGON_LARGEST_PACKET - 1), WORDS(WRITE)));
-    REFUSED(PAYLOAD_LONG, write(zeros, 4097, OUT(0), WORDS(WRITE)));
+    REFUSED(PAYLOAD_LONG, write(zeros, 4097, OUT(0), FEWER(WRITE)));
 }
 
 static void refuse_bare(BareWriter write) {
@@ -602,24 +633,35 @@ static void refuse_written_packets(void) {
     refuse_bare(eiderwagon_soup_write_client_heartbeat);
     refuse_bare(eiderwagon_soup_write_logout);
 
-    REFUSED(OUTPUT_SHORT, eiderwagon_soup_write_accepted(name, 9, 0, LEND(lent.out), WORDS(WRITE)));
-    REFUSED(OUTPUT_SHORT, eiderwagon_soup_write_accepted(LEND(name), 0, LEND(lent.out), FEWER(WRITE)));
+    REFUSED(FIELD_NOT_WRITTEN, eiderwagon_soup_write_accepted(name, 9, 1, LEND(lent.out), WORDS(WRITE)));
+    REFUSED(FIELD_NOT_WRITTEN, eiderwagon_soup_write_accepted(TEXT("READROOM011"), 1, LEND(lent.out), WORDS(WRITE)));
+    REFUSED(OUTPUT_SHORT, eiderwagon_soup_write_accepted(LEND(name), 1, LEND(lent.out), FEWER(WRITE)));
     REFUSED(OUTPUT_SHORT, eiderwagon_soup_write_accepted(LEND(name), 1, OUT(32), WORDS(WRITE)));
-    REFUSED(FIELD_NOT_WRITTEN, eiderwagon_soup_write_accepted(LEND(name), 0, OUT(32), WORDS(WRITE)));
+    REFUSED(FIELD_NOT_WRITTEN, eiderwagon_soup_write_accepted(LEND(name), 0, OUT(32), FEWER(WRITE)));
     REFUSED(FIELD_NOT_WRITTEN, eiderwagon_soup_write_accepted(TEXT(any_session), 1, OUT(32), WORDS(WRITE)));
 
-    REFUSED(OUTPUT_SHORT, eiderwagon_soup_write_rejected('X', LEND(lent.out), FEWER(WRITE)));
+    REFUSED(OUTPUT_SHORT, eiderwagon_soup_write_rejected('A', LEND(lent.out), FEWER(WRITE)));
     REFUSED(OUTPUT_SHORT, eiderwagon_soup_write_rejected('A', OUT(3), WORDS(WRITE)));
-    REFUSED(FIELD_NOT_WRITTEN, eiderwagon_soup_write_rejected('X', OUT(3), WORDS(WRITE)));
+    REFUSED(FIELD_NOT_WRITTEN, eiderwagon_soup_write_rejected('X', OUT(3), FEWER(WRITE)));
 
-    REFUSED(OUTPUT_SHORT,
+    /* A field of another size, shorter or longer, is one that isn't written. */
+    REFUSED(FIELD_NOT_WRITTEN,
             eiderwagon_soup_write_login(TEXT("clerk"), TEXT("desk5     "), LEND(name), 1,
                                         LEND(lent.out), WORDS(WRITE)));
-    REFUSED(OUTPUT_SHORT,
+    REFUSED(FIELD_NOT_WRITTEN,
+            eiderwagon_soup_write_login(TEXT("clerk  "), TEXT("desk5     "), LEND(name), 1,
+                                        LEND(lent.out), WORDS(WRITE)));
+    REFUSED(FIELD_NOT_WRITTEN,
             eiderwagon_soup_write_login(TEXT("clerk "), TEXT("desk5    "), LEND(name), 1,
                                         LEND(lent.out), WORDS(WRITE)));
-    REFUSED(OUTPUT_SHORT,
+    REFUSED(FIELD_NOT_WRITTEN,
+            eiderwagon_soup_write_login(TEXT("clerk "), TEXT("desk5      "), LEND(name), 1,
+                                        LEND(lent.out), WORDS(WRITE)));
+    REFUSED(FIELD_NOT_WRITTEN,
             eiderwagon_soup_write_login(TEXT("clerk "), TEXT("desk5     "), name, 9, 1, LEND(lent.out), WORDS(WRITE)));
+    REFUSED(FIELD_NOT_WRITTEN,
+            eiderwagon_soup_write_login(TEXT("clerk "), TEXT("desk5     "), TEXT("READROOM011"), 1,
+                                        LEND(lent.out), WORDS(WRITE)));
     REFUSED(OUTPUT_SHORT,
             eiderwagon_soup_write_login(TEXT("clerk "), TEXT("desk5     "), LEND(name), 1,
                                         LEND(lent.out), FEWER(WRITE)));
@@ -628,7 +670,7 @@ static void refuse_written_packets(void) {
     REFUSED(FIELD_NOT_WRITTEN,
             eiderwagon_soup_write_login(TEXT("      "), TEXT("desk5     "), LEND(name), 1, OUT(48), WORDS(WRITE)));
     REFUSED(FIELD_NOT_WRITTEN,
-            eiderwagon_soup_write_login(TEXT("clerk "), zeros, 10, LEND(name), 1, OUT(48), WORDS(WRITE)));
+            eiderwagon_soup_write_login(TEXT("clerk "), zeros, 10, LEND(name), 1, OUT(48), FEWER(WRITE)));
 }
 
 /* One step of the server, or the client, that is kept in lent.state. */
@@ -640,18 +682,35 @@ static void refuse_written_packets(void) {
 #define ACCEPTED "\0\x1F" "AREADROOM01" "18446744073709551615"
 
 static void refuse_at_a_server(void) {
-    REFUSED(OUTPUT_SHORT, eiderwagon_server_start(name, 9, 0, STATE(EIDERWAGON_SERVER_SIZE)));
+    REFUSED(BAD_SETTING, eiderwagon_server_start(name, 9, 0, STATE(EIDERWAGON_SERVER_SIZE)));
+    REFUSED(BAD_SETTING, eiderwagon_server_start(TEXT("READROOM011"), 0, STATE(EIDERWAGON_SERVER_SIZE)));
     REFUSED(OUTPUT_SHORT, eiderwagon_server_start(LEND(name), 0, STATE(EIDERWAGON_SERVER_SIZE - 1)));
-    REFUSED(BAD_SETTING, eiderwagon_server_start(LEND(name), UINT64_MAX, LEND(lent.state)));
+    REFUSED(BAD_SETTING, eiderwagon_server_start(LEND(name), UINT64_MAX, STATE(EIDERWAGON_SERVER_SIZE - 1)));
     REFUSED(BAD_SETTING, eiderwagon_server_start(TEXT(any_session), 0, LEND(lent.state)));
 
+    DONE(eiderwagon_server_start(LEND(name), 5, LEND(lent.state)));
+    /* That a number falls is the state's own ground, and that it is too high isn't. */
+    REFUSED(BAD_SETTING, eiderwagon_server_set_last(STATE(EIDERWAGON_SERVER_SIZE - 1), UINT64_MAX));
+    REFUSED(OUTPUT_SHORT, eiderwagon_server_set_last(STATE(EIDERWAGON_SERVER_SIZE - 1), 4));
+    REFUSED(BAD_SETTING, eiderwagon_server_set_last(LEND(lent.state), 4));
+    REFUSED(BAD_SETTING, eiderwagon_server_set_last(LEND(lent.state), UINT64_MAX));
+
     DONE(eiderwagon_server_start(LEND(name), 0, LEND(lent.state)));
+    /* 19 and 21 to 25 need no state; 32 and 31 do, and come behind a short one, but before too few words. */
+    REFUSED(LENGTH_ZERO,
+            eiderwagon_server_step(STATE(EIDERWAGON_SERVER_SIZE - 1), TEXT(accounts), zeros, 2, FEWER(SERVER_STEP)));
     REFUSED(OUTPUT_SHORT,
-            eiderwagon_server_step(STATE(EIDERWAGON_SERVER_SIZE - 1), TEXT(accounts), zeros, 2, WORDS(SERVER_STEP)));
+            eiderwagon_server_step(STATE(EIDERWAGON_SERVER_SIZE - 1), TEXT(accounts), TEXT("\0\1U"),
+                                   WORDS(SERVER_STEP)));
+    REFUSED(PACKET_NOT_TAKEN,
+            eiderwagon_server_step(STATE(EIDERWAGON_SERVER_SIZE), TEXT(accounts), TEXT("\0\1U"), FEWER(SERVER_STEP)));
+    /* more is needed: a short state and too few words are refused all the same */
     REFUSED(OUTPUT_SHORT,
-            eiderwagon_server_step(STATE(EIDERWAGON_SERVER_SIZE), TEXT(accounts), zeros, 2, FEWER(SERVER_STEP)));
-    REFUSED(BAD_SETTING, eiderwagon_server_step(LEND(lent.state), zeros, 1025 * EIDERWAGON_ACCOUNT_SIZE, zeros, 0,
-                                                WORDS(SERVER_STEP)));
+            eiderwagon_server_step(STATE(EIDERWAGON_SERVER_SIZE - 1), TEXT(accounts), zeros, 1, WORDS(SERVER_STEP)));
+    REFUSED(OUTPUT_SHORT,
+            eiderwagon_server_step(STATE(EIDERWAGON_SERVER_SIZE), TEXT(accounts), zeros, 1, FEWER(SERVER_STEP)));
+    REFUSED(BAD_SETTING, eiderwagon_server_step(STATE(0), zeros, 1025 * EIDERWAGON_ACCOUNT_SIZE, zeros, 0,
+                                                FEWER(SERVER_STEP)));
     REFUSED(LENGTH_ZERO, SERVER_STEP("\0\0"));
     REFUSED(PACKET_NOT_TAKEN, SERVER_STEP("\0\1U"));
     DONE(SERVER_STEP(LOGIN));
@@ -661,14 +720,50 @@ static void refuse_at_a_server(void) {
     REFUSED(STATE_CLOSED, SERVER_STEP("\0\1+"));
 }
 
+/* A reply that can't be written undoes its step: the login is still in front. */
+static void refuse_a_reply(void) {
+    DONE(eiderwagon_server_start(LEND(name), 0, LEND(lent.state)));
+    REFUSED(BAD_SETTING,
+            eiderwagon_server_reply(STATE(0), zeros, 1025 * EIDERWAGON_ACCOUNT_SIZE, TEXT(LOGIN), OUT(0),
+                                    FEWER(SERVER_REPLY)));
+    REFUSED(LENGTH_ZERO,
+            eiderwagon_server_reply(STATE(0), TEXT(accounts), zeros, 2, OUT(0), FEWER(SERVER_REPLY)));
+    REFUSED(OUTPUT_SHORT,
+            eiderwagon_server_reply(STATE(EIDERWAGON_SERVER_SIZE - 1), TEXT(accounts), TEXT(LOGIN), LEND(lent.out),
+                                    WORDS(SERVER_REPLY)));
+    REFUSED(PACKET_NOT_TAKEN,
+            eiderwagon_server_reply(LEND(lent.state), TEXT(accounts), TEXT("\0\1U"), OUT(0), FEWER(SERVER_REPLY)));
+    REFUSED(OUTPUT_SHORT,
+            eiderwagon_server_reply(LEND(lent.state), TEXT(accounts), TEXT(LOGIN), OUT(EIDERWAGON_LARGEST_REPLY - 1),
+                                    WORDS(SERVER_REPLY)));
+    REFUSED(OUTPUT_SHORT,
+            eiderwagon_server_reply(LEND(lent.state), TEXT(accounts), TEXT(LOGIN), LEND(lent.out),
+                                    FEWER(SERVER_REPLY)));
+    REFUSED(OUTPUT_SHORT,
+            eiderwagon_server_reply(LEND(lent.state), zeros, 0, TEXT(LOGIN), OUT(3), WORDS(SERVER_REPLY)));
+    /* by hand alone a server has a session that can't stand in 'A' */
+    memset(lent.state + EIDERWAGON_SERVER_SESSION_AT, ' ', EIDERWAGON_SESSION_SIZE);
+    REFUSED(FIELD_NOT_WRITTEN,
+            eiderwagon_server_reply(LEND(lent.state), TEXT(accounts), TEXT(LOGIN), OUT(0), FEWER(SERVER_REPLY)));
+    DONE(eiderwagon_server_reply(LEND(lent.state), zeros, 0, TEXT(LOGIN), OUT(4), WORDS(SERVER_REPLY)));
+    CHECK(LENT(SERVER_REPLY_ANSWER) == EIDERWAGON_SESSION_REJECTED && LENT(SERVER_REPLY_WRITTEN) == 4);
+    REFUSED(STATE_CLOSED,
+            eiderwagon_server_reply(LEND(lent.state), TEXT(accounts), TEXT(LOGIN), OUT(0), FEWER(SERVER_REPLY)));
+}
+
 static void refuse_at_a_client(void) {
-    REFUSED(OUTPUT_SHORT, eiderwagon_client_start(name, 9, 1, STATE(EIDERWAGON_CLIENT_SIZE)));
+    REFUSED(BAD_SETTING, eiderwagon_client_start(name, 9, 1, STATE(EIDERWAGON_CLIENT_SIZE)));
+    REFUSED(BAD_SETTING, eiderwagon_client_start(TEXT("READROOM011"), 1, STATE(EIDERWAGON_CLIENT_SIZE)));
     REFUSED(OUTPUT_SHORT, eiderwagon_client_start(LEND(name), 1, STATE(EIDERWAGON_CLIENT_SIZE - 1)));
-    REFUSED(BAD_SETTING, eiderwagon_client_start(zeros, 10, 1, LEND(lent.state)));
+    REFUSED(BAD_SETTING, eiderwagon_client_start(zeros, 10, 1, STATE(0)));
 
     DONE(eiderwagon_client_start(LEND(name), 1, LEND(lent.state)));
-    REFUSED(OUTPUT_SHORT, eiderwagon_client_step(STATE(EIDERWAGON_CLIENT_SIZE - 1), zeros, 2, WORDS(CLIENT_STEP)));
-    REFUSED(OUTPUT_SHORT, eiderwagon_client_step(STATE(EIDERWAGON_CLIENT_SIZE), zeros, 2, FEWER(CLIENT_STEP)));
+    REFUSED(LENGTH_ZERO, eiderwagon_client_step(STATE(EIDERWAGON_CLIENT_SIZE - 1), zeros, 2, FEWER(CLIENT_STEP)));
+    REFUSED(OUTPUT_SHORT,
+            eiderwagon_client_step(STATE(EIDERWAGON_CLIENT_SIZE - 1), TEXT("\0\1S"), WORDS(CLIENT_STEP)));
+    REFUSED(PACKET_NOT_TAKEN,
+            eiderwagon_client_step(STATE(EIDERWAGON_CLIENT_SIZE), TEXT("\0\1S"), FEWER(CLIENT_STEP)));
+    REFUSED(OUTPUT_SHORT, eiderwagon_client_step(STATE(EIDERWAGON_CLIENT_SIZE), zeros, 1, FEWER(CLIENT_STEP)));
     REFUSED(LENGTH_ZERO, CLIENT_STEP("\0\0"));
     REFUSED(PACKET_NOT_TAKEN, CLIENT_STEP("\0\1S"));
     REFUSED(LOGIN_NOT_ASKED, CLIENT_STEP(ACCEPTED));
@@ -759,6 +854,16 @@ static void use_no_more_of_a_state_than_its_size(void) {
          eiderwagon_server_step(LEND(lent.state), TEXT(accounts), TEXT(LOGIN), LEND(lent.words)));
     CHECK(LENT(SERVER_STEP_ANSWER) == EIDERWAGON_SESSION_ACCEPTED && LENT(SERVER_STEP_NUMBER) == 1);
     CHECK(LENT(SERVER_STEP_LENGTH) == 0 && LENT(SERVER_STEP_WORDS - 1) == 0);
+    CHECK(untouched(&LENT(SERVER_STEP_WORDS), sizeof lent.words[0]));
+    USES(EIDERWAGON_SERVER_SIZE, eiderwagon_server_set_last(LEND(lent.state), 9));
+    USES(EIDERWAGON_SERVER_SIZE,
+         eiderwagon_server_reply(LEND(lent.state), TEXT(accounts), TEXT("\0\1R"), LEND(lent.out), LEND(lent.words)));
+
+    memset(&lent, 0xA5, sizeof lent);
+    DONE(eiderwagon_server_start(LEND(name), 0, LEND(lent.state)));
+    DONE(eiderwagon_server_reply(LEND(lent.state), TEXT(accounts), TEXT(LOGIN), LEND(lent.out), LEND(lent.words)));
+    CHECK(LENT(SERVER_REPLY_WRITTEN) == EIDERWAGON_LARGEST_REPLY && LENT(SERVER_REPLY_WRITTEN - 1) == 0);
+    CHECK(untouched(lent.out + EIDERWAGON_LARGEST_REPLY, sizeof lent.out - EIDERWAGON_LARGEST_REPLY));
 
     memset(&lent, 0xA5, sizeof lent);
     USES(EIDERWAGON_CLIENT_SIZE, eiderwagon_client_start(LEND(name), 0, LEND(lent.state)));
@@ -775,25 +880,30 @@ static void keep_parts_in_their_places(void) {
     CHECK(memcmp(lent.state + EIDERWAGON_RECEIVER_SESSION_AT, name, sizeof name) == 0);
     CHECK(number_in(lent.state, EIDERWAGON_RECEIVER_NEXT_AT, 8) == 258);
     CHECK(number_in(lent.state, EIDERWAGON_RECEIVER_LIMIT_AT, 2) == 772);
-    CHECK(lent.state[EIDERWAGON_RECEIVER_ENDED_AT] == 0);
+    CHECK(lent.state[EIDERWAGON_RECEIVER_CODE_AT] == EIDERWAGON_RECEIVER_OPEN);
 
     DONE(eiderwagon_server_start(LEND(name), 258, LEND(lent.state)));
+    CHECK(lent.state[EIDERWAGON_SERVER_CODE_AT] == EIDERWAGON_SERVER_OPEN);
     CHECK(memcmp(lent.state + EIDERWAGON_SERVER_SESSION_AT, name, sizeof name) == 0);
     CHECK(number_in(lent.state, EIDERWAGON_SERVER_LAST_AT, 8) == 258);
-    CHECK(lent.state[EIDERWAGON_SERVER_STATE_AT] == EIDERWAGON_SERVER_WAITING);
+    CHECK(lent.state[EIDERWAGON_SERVER_PHASE_AT] == EIDERWAGON_SERVER_WAITING);
+    DONE(eiderwagon_server_set_last(LEND(lent.state), 0x0102030405060708));
+    CHECK(number_in(lent.state, EIDERWAGON_SERVER_LAST_AT, 8) == 0x0102030405060708);
     DONE(SERVER_STEP(LOGIN));
-    CHECK(lent.state[EIDERWAGON_SERVER_STATE_AT] == EIDERWAGON_SERVER_IN);
+    CHECK(lent.state[EIDERWAGON_SERVER_PHASE_AT] == EIDERWAGON_SERVER_IN);
 
     DONE(eiderwagon_client_start(TEXT(any_session), 0, LEND(lent.state)));
+    CHECK(lent.state[EIDERWAGON_CLIENT_CODE_AT] == EIDERWAGON_CLIENT_OPEN);
     CHECK(number_in(lent.state, EIDERWAGON_CLIENT_NUMBER_AT, 8) == 0);
-    CHECK(lent.state[EIDERWAGON_CLIENT_STATE_AT] == EIDERWAGON_CLIENT_ASKED);
+    CHECK(lent.state[EIDERWAGON_CLIENT_PHASE_AT] == EIDERWAGON_CLIENT_ASKED);
     DONE(CLIENT_STEP(ACCEPTED));
     CHECK(memcmp(lent.state + EIDERWAGON_CLIENT_SESSION_AT, name, sizeof name) == 0);
     CHECK(number_in(lent.state, EIDERWAGON_CLIENT_NUMBER_AT, 8) == UINT64_MAX);
-    CHECK(lent.state[EIDERWAGON_CLIENT_STATE_AT] == EIDERWAGON_CLIENT_IN);
+    CHECK(lent.state[EIDERWAGON_CLIENT_PHASE_AT] == EIDERWAGON_CLIENT_IN);
 
     DONE(eiderwagon_capture_start(LEND(lent.state)));
     DONE(eiderwagon_capture_feed(LEND(lent.state), capture.bytes, capture.size, WORDS(FEED)));
+    CHECK(lent.state[EIDERWAGON_CAPTURE_CODE_AT] == EIDERWAGON_CAPTURE_OPEN);
     CHECK(number_in(lent.state, EIDERWAGON_CAPTURE_RECEIVER_AT + EIDERWAGON_RECEIVER_NEXT_AT, 8) == 6);
     CHECK(lent.state[EIDERWAGON_CAPTURE_STAGE_AT] == EIDERWAGON_CAPTURE_RECORDS);
     CHECK(number_in(lent.state, EIDERWAGON_CAPTURE_RECORDS_AT, 8) == 9);
@@ -802,6 +912,9 @@ static void keep_parts_in_their_places(void) {
     CHECK(number_in(lent.state, EIDERWAGON_CAPTURE_QUIET_AT, 8) == 1);
     CHECK(number_in(lent.state, EIDERWAGON_CAPTURE_ASKED_AT, 8) == 2);
     CHECK(number_in(lent.state, EIDERWAGON_CAPTURE_REFUSED_AT, 8) == 1);
+
+    DONE(eiderwagon_mold_walk(capture.bytes, 0, LEND(lent.cursor)));
+    CHECK(lent.cursor[EIDERWAGON_CURSOR_CODE_AT] == EIDERWAGON_CURSOR_OPEN);
 }
 
 /* Just as many bytes as the header says are enough. */
@@ -812,7 +925,7 @@ static void take_sizes_as_they_are_said(void) {
     DONE(eiderwagon_soup_write_login((const uint8_t *)login, EIDERWAGON_USERNAME_SIZE,
                                      (const uint8_t *)login + EIDERWAGON_USERNAME_SIZE, EIDERWAGON_PASSWORD_SIZE,
                                      LEND(name), 1, LEND(lent.out), WORDS(WRITE)));
-    REFUSED(OUTPUT_SHORT,
+    REFUSED(FIELD_NOT_WRITTEN,
             eiderwagon_soup_write_login((const uint8_t *)login, EIDERWAGON_USERNAME_SIZE,
                                         (const uint8_t *)login + EIDERWAGON_USERNAME_SIZE, EIDERWAGON_PASSWORD_SIZE - 1,
                                         LEND(name), 1, LEND(lent.out), WORDS(WRITE)));
@@ -835,14 +948,16 @@ static void take_sizes_as_they_are_said(void) {
     CHECK(LENT(WRITE_SIZE) <= EIDERWAGON_LARGEST_REPORT);
 }
 
-/* Bytes of zero are a state too: a closed session, a capture whose settings are refused, a cursor with no messages
- * left, and a receiver, not ended, of a name of ten zero bytes. */
+/* Bytes of zero are never open: a closed session, an ended receiver, a capture whose settings are refused, a cursor
+ * with no messages left. */
 static void take_bytes_of_zero_as_states(void) {
     const Bytes one = data(1, 1, (const uint16_t[]){3}, "one");
-    const uint8_t end_of_zeros[EIDERWAGON_MOLD_HEADER_SIZE] = {[17] = 1, [18] = 0xFF, [19] = 0xFF};
+    const uint8_t heartbeat_of_zeros[EIDERWAGON_MOLD_HEADER_SIZE] = {[17] = 1};
     memset(&lent, 0, sizeof lent);
     REFUSED(STATE_CLOSED, SERVER_STEP("\0\1+"));
     REFUSED(STATE_CLOSED, CLIENT_STEP("\0\1+"));
+    REFUSED(SESSION_DIFFERS, eiderwagon_receiver_take(LEND(lent.state), one.bytes, one.size, LEND(lent.words)));
+    REFUSED(SESSION_ENDED, eiderwagon_receiver_take(LEND(lent.state), LEND(heartbeat_of_zeros), LEND(lent.words)));
 
     DONE(eiderwagon_capture_feed(LEND(lent.state), TEXT("more"), LEND(lent.words)));
     CHECK(LENT(FEED_USED) == 4 && LENT(FEED_OVER) == 1);
@@ -851,11 +966,6 @@ static void take_bytes_of_zero_as_states(void) {
 
     DONE(eiderwagon_mold_next(LEND(lent.cursor), one.bytes, one.size, LEND(lent.words)));
     CHECK(LENT(NEXT_FOUND) == 0 && LENT(NEXT_OFFSET) == 0 && LENT(NEXT_LENGTH) == 0);
-
-    memset(&lent, 0, sizeof lent);
-    REFUSED(SESSION_DIFFERS, eiderwagon_receiver_take(LEND(lent.state), one.bytes, one.size, LEND(lent.words)));
-    DONE(eiderwagon_receiver_take(LEND(lent.state), LEND(end_of_zeros), LEND(lent.words)));
-    CHECK(LENT(TAKE_ANSWER) == EIDERWAGON_RECEIVER_ASK);
 }
 
 /* A refused start leaves what was there: a host that starts a state anew clears it first. */
@@ -895,7 +1005,7 @@ static void has_no_receiver(void) {
     CHECK(same(receiver + EIDERWAGON_RECEIVER_SESSION_AT, EIDERWAGON_SESSION_SIZE, any_session));
     CHECK(number_in(receiver, EIDERWAGON_RECEIVER_NEXT_AT, 8) == 1);
     CHECK(number_in(receiver, EIDERWAGON_RECEIVER_LIMIT_AT, 2) == 1);
-    CHECK(receiver[EIDERWAGON_RECEIVER_ENDED_AT] == 1);
+    CHECK(receiver[EIDERWAGON_RECEIVER_CODE_AT] == 0);
 }
 
 /* Once the reading in lent.state is over a feed uses all of its bytes, and changes no byte of it. */
@@ -939,19 +1049,149 @@ static void end_a_capture(void) {
     uses_all();
 
     /* After 2^32 - 1 records nothing is used any more, and it isn't over. */
+    lent.state[EIDERWAGON_CAPTURE_CODE_AT] = EIDERWAGON_CAPTURE_OPEN;
     lent.state[EIDERWAGON_CAPTURE_STAGE_AT] = EIDERWAGON_CAPTURE_RECORDS;
     memset(records, 0, 8);
-    records[4] = records[5] = records[6] = records[7] = 0xFF;
+    records[0] = records[1] = records[2] = records[3] = 0xFF;
     DONE(eiderwagon_capture_feed(LEND(lent.state), zeros, 2, WORDS(FEED)));
     CHECK(LENT(FEED_USED) == 0 && LENT(FEED_OVER) == 0);
-    records[7] = 0xFE;
+    records[0] = 0xFE;
     DONE(eiderwagon_capture_feed(LEND(lent.state), zeros, 4, WORDS(FEED)));
     CHECK(LENT(FEED_USED) == 2 && LENT(FEED_OVER) == 0);
     CHECK(number_in(lent.state, EIDERWAGON_CAPTURE_RECORDS_AT, 8) == UINT32_MAX);
     CHECK(number_in(lent.state, EIDERWAGON_CAPTURE_REFUSED_AT, 8) == 1);
 }
 
-/* ---- 6. No elements, at NULL ------------------------------------------------------------------------------------- */
+/* ---- 6. States --------------------------------------------------------------------------------------------------- */
+
+/* What each kind's functions make of the bytes in a buffer: whether they take them for open. */
+typedef struct {
+    int cursor, receiver, server, client, capture;
+} Open;
+
+static Open open_as(const uint8_t *state) {
+    const Bytes one = data(1, 1, (const uint16_t[]){3}, "one");
+    uint8_t copy[EIDERWAGON_CAPTURE_SIZE];
+    uint64_t words[EIDERWAGON_SERVER_REPLY_WORDS];
+    Open open;
+    memcpy(copy, state, sizeof copy);
+    DONE(eiderwagon_mold_next(LEND(copy), one.bytes, one.size, LEND(words)));
+    open.cursor = WORD(NEXT_FOUND) == 1;
+    memcpy(copy, state, sizeof copy);
+    open.receiver = eiderwagon_receiver_take(LEND(copy), one.bytes, one.size, LEND(words)) == EIDERWAGON_OK;
+    memcpy(copy, state, sizeof copy);
+    open.server = eiderwagon_server_step(LEND(copy), zeros, 0, TEXT("\0\1+"), LEND(words)) == EIDERWAGON_OK;
+    memcpy(copy, state, sizeof copy);
+    open.client = eiderwagon_client_step(LEND(copy), TEXT("\0\1+"), LEND(words)) == EIDERWAGON_OK;
+    memcpy(copy, state, sizeof copy);
+    DONE(eiderwagon_capture_feed(LEND(copy), zeros, 0, LEND(words)));
+    open.capture = WORD(FEED_OVER) == 0;
+    return open;
+}
+
+static int opens(Open open) {
+    return open.cursor + open.receiver + open.server + open.client + open.capture;
+}
+
+/* The bytes of each kind are open for its own functions, and for no others; so is one first byte of all. */
+#define OPEN_ONLY_AS(kind, code)                                          \
+    do {                                                                  \
+        for (unsigned first = 0; first <= 0xFF; first++) {                \
+            lent.state[0] = (uint8_t)first;                               \
+            CHECK(open_as(lent.state).kind == (first == (unsigned)code)); \
+        }                                                                 \
+        lent.state[0] = (uint8_t)(code);                                  \
+        CHECK(opens(open_as(lent.state)) == 1);                           \
+    } while (0)
+
+static void be_open_as_one_kind_alone(void) {
+    const Bytes one = data(1, 1, (const uint16_t[]){3}, "one");
+    memset(&lent, 0, sizeof lent);
+    CHECK(opens(open_as(lent.state)) == 0);
+    DONE(eiderwagon_mold_walk(one.bytes, one.size, LEND(lent.state)));
+    OPEN_ONLY_AS(cursor, EIDERWAGON_CURSOR_OPEN);
+    DONE(eiderwagon_receiver_start(LEND(name), 1, 100, LEND(lent.state)));
+    OPEN_ONLY_AS(receiver, EIDERWAGON_RECEIVER_OPEN);
+    DONE(eiderwagon_server_start(LEND(name), 1, LEND(lent.state)));
+    OPEN_ONLY_AS(server, EIDERWAGON_SERVER_OPEN);
+    DONE(eiderwagon_client_start(LEND(name), 1, LEND(lent.state)));
+    OPEN_ONLY_AS(client, EIDERWAGON_CLIENT_OPEN);
+    DONE(eiderwagon_capture_start(LEND(lent.state)));
+    OPEN_ONLY_AS(capture, EIDERWAGON_CAPTURE_OPEN);
+}
+
+/* The bytes in lent.state, lent for a cursor: no message is there, and none of them changes. */
+static void has_no_message(const uint8_t *datagram, size_t size) {
+    memcpy(&before, &lent, sizeof lent);
+    DONE(eiderwagon_mold_next(LEND(lent.state), datagram, size, WORDS(NEXT)));
+    CHECK(LENT(NEXT_FOUND) == 0 && LENT(NEXT_OFFSET) == 0 && LENT(NEXT_LENGTH) == 0);
+    CHECK(memcmp(before.state, lent.state, sizeof lent.state) == 0);
+}
+
+/* Where no message is there no byte changes: at a datagram that lacks some of it, at the end, and with every first byte
+ * but the code. */
+static void change_no_byte_of_a_cursor_without_a_message(void) {
+    const Bytes one = data(1, 1, (const uint16_t[]){3}, "one");
+    memset(&lent, 0xA5, sizeof lent);
+    DONE(eiderwagon_mold_walk(one.bytes, one.size, LEND(lent.state)));
+    has_no_message(one.bytes, one.size - 1);
+    has_no_message(NULL, 0);
+    for (unsigned first = 0; first <= 0xFF; first++) {
+        lent.state[EIDERWAGON_CURSOR_CODE_AT] = (uint8_t)first;
+        if (first != EIDERWAGON_CURSOR_OPEN) {
+            has_no_message(one.bytes, one.size);
+        }
+    }
+    lent.state[EIDERWAGON_CURSOR_CODE_AT] = EIDERWAGON_CURSOR_OPEN;
+    DONE(eiderwagon_mold_next(LEND(lent.state), one.bytes, one.size, WORDS(NEXT)));
+    CHECK(LENT(NEXT_FOUND) == 1);
+    has_no_message(one.bytes, one.size);
+}
+
+/* So the bytes of another kind, lent for a cursor, stay what they are. */
+static void change_no_byte_of_another_kind(void) {
+    const Bytes one = data(1, 1, (const uint16_t[]){3}, "one");
+    DONE(eiderwagon_receiver_start(LEND(name), 1, 100, LEND(lent.state)));
+    has_no_message(one.bytes, one.size);
+    DONE(eiderwagon_server_start(LEND(name), 1, LEND(lent.state)));
+    has_no_message(one.bytes, one.size);
+    DONE(eiderwagon_client_start(LEND(name), 1, LEND(lent.state)));
+    has_no_message(one.bytes, one.size);
+    DONE(eiderwagon_capture_start(LEND(lent.state)));
+    has_no_message(one.bytes, one.size);
+}
+
+/* Where more is needed no byte changes, whatever the state was made of by hand. */
+static void change_no_byte_where_more_is_needed(void) {
+    for (unsigned byte = 0; byte <= 0xFF; byte++) {
+        memset(&lent, (int)byte, sizeof lent);
+        memcpy(&before, &lent, sizeof lent);
+        DONE(eiderwagon_server_step(LEND(lent.state), TEXT(accounts), zeros, 1, WORDS(SERVER_STEP)));
+        DONE(eiderwagon_server_reply(LEND(lent.state), TEXT(accounts), zeros, 1, OUT(0), WORDS(SERVER_REPLY)));
+        DONE(eiderwagon_client_step(LEND(lent.state), zeros, 1, WORDS(CLIENT_STEP)));
+        CHECK(memcmp(before.state, lent.state, sizeof lent.state) == 0);
+
+        lent.state[EIDERWAGON_CAPTURE_CODE_AT] = EIDERWAGON_CAPTURE_OPEN;
+        memcpy(&before, &lent, sizeof lent);
+        DONE(eiderwagon_capture_feed(LEND(lent.state), zeros, 1, WORDS(FEED)));
+        CHECK(LENT(FEED_USED) == 0 && LENT(FEED_OVER) == 0);
+        CHECK(memcmp(before.state, lent.state, sizeof lent.state) == 0);
+    }
+}
+
+/* The receiver inside a reading can be lent to the receiver's functions. */
+static void lend_the_receiver_of_a_reading(void) {
+    const Bytes capture = sample_capture();
+    const Bytes six = data(6, 1, (const uint16_t[]){3}, "six");
+    uint8_t *receiver = lent.state + EIDERWAGON_CAPTURE_RECEIVER_AT;
+    DONE(eiderwagon_capture_start(LEND(lent.state)));
+    /* all but the end of session */
+    DONE(eiderwagon_capture_feed(LEND(lent.state), capture.bytes, capture.size - 1, WORDS(FEED)));
+    DONE(eiderwagon_receiver_take(receiver, EIDERWAGON_RECEIVER_SIZE, six.bytes, six.size, WORDS(TAKE)));
+    CHECK(LENT(TAKE_ANSWER) == EIDERWAGON_RECEIVER_DELIVER && LENT(TAKE_FIRST) == 6);
+}
+
+/* ---- 7. No elements, at NULL ------------------------------------------------------------------------------------- */
 
 /* A buffer with no elements. Each function gets it in the place of each of its buffers, and of all of them. */
 #define NONE NULL, 0
@@ -964,7 +1204,7 @@ static void lend_no_bytes_to_datagrams(void) {
 
     REFUSED(DATAGRAM_SHORT, eiderwagon_mold_read(NONE, WORDS(MOLD_READ)));
     REFUSED(OUTPUT_SHORT, eiderwagon_mold_read(one.bytes, one.size, NONE));
-    REFUSED(OUTPUT_SHORT, eiderwagon_mold_read(NONE, NONE));
+    REFUSED(DATAGRAM_SHORT, eiderwagon_mold_read(NONE, NONE));
 
     DONE(eiderwagon_mold_locate(NONE, 0, WORDS(LOCATE)));
     CHECK(LENT(LOCATE_FOUND) == 0 && LENT(LOCATE_OFFSET) == 0 && LENT(LOCATE_LENGTH) == 0);
@@ -1008,22 +1248,22 @@ static void lend_no_bytes_to_datagrams(void) {
 
     REFUSED(REQUEST_SIZE, eiderwagon_mold_read_request(NONE, WORDS(READ_REQUEST)));
     REFUSED(OUTPUT_SHORT, eiderwagon_mold_read_request(one.bytes, 20, NONE));
-    REFUSED(OUTPUT_SHORT, eiderwagon_mold_read_request(NONE, NONE));
+    REFUSED(REQUEST_SIZE, eiderwagon_mold_read_request(NONE, NONE));
 
     REFUSED(OUTPUT_SHORT, eiderwagon_mold_write_request(NONE, 1, 1, LEND(lent.out), WORDS(WRITE)));
     REFUSED(OUTPUT_SHORT, eiderwagon_mold_write_request(LEND(name), 1, 1, NONE, WORDS(WRITE)));
     REFUSED(OUTPUT_SHORT, eiderwagon_mold_write_request(LEND(name), 1, 1, LEND(lent.out), NONE));
     REFUSED(OUTPUT_SHORT, eiderwagon_mold_write_request(NONE, 1, 1, NONE, NONE));
 
-    REFUSED(OUTPUT_SHORT, eiderwagon_receiver_start(NONE, 1, 1, LEND(lent.state)));
+    REFUSED(BAD_SETTING, eiderwagon_receiver_start(NONE, 1, 1, LEND(lent.state)));
     REFUSED(OUTPUT_SHORT, eiderwagon_receiver_start(LEND(name), 1, 1, NONE));
-    REFUSED(OUTPUT_SHORT, eiderwagon_receiver_start(NONE, 1, 1, NONE));
+    REFUSED(BAD_SETTING, eiderwagon_receiver_start(NONE, 1, 1, NONE));
 
     DONE(eiderwagon_receiver_start(LEND(name), 1, 1, LEND(lent.state)));
     REFUSED(OUTPUT_SHORT, eiderwagon_receiver_take(NONE, one.bytes, one.size, WORDS(TAKE)));
     REFUSED(DATAGRAM_SHORT, eiderwagon_receiver_take(LEND(lent.state), NONE, WORDS(TAKE)));
     REFUSED(OUTPUT_SHORT, eiderwagon_receiver_take(LEND(lent.state), one.bytes, one.size, NONE));
-    REFUSED(OUTPUT_SHORT, eiderwagon_receiver_take(NONE, NONE, NONE));
+    REFUSED(DATAGRAM_SHORT, eiderwagon_receiver_take(NONE, NONE, NONE));
 
     DONE(eiderwagon_receiver_walk(NONE, 2, 1, LEND(lent.cursor)));
     CHECK(number_in(lent.cursor, EIDERWAGON_CURSOR_PLACE_AT, 8) == 20);
@@ -1071,29 +1311,35 @@ static void lend_no_bytes_to_packets(void) {
     write_into_nothing(eiderwagon_soup_write_client_heartbeat);
     write_into_nothing(eiderwagon_soup_write_logout);
 
-    REFUSED(OUTPUT_SHORT, eiderwagon_soup_write_accepted(NONE, 1, LEND(lent.out), WORDS(WRITE)));
+    REFUSED(FIELD_NOT_WRITTEN, eiderwagon_soup_write_accepted(NONE, 1, LEND(lent.out), WORDS(WRITE)));
     REFUSED(OUTPUT_SHORT, eiderwagon_soup_write_accepted(LEND(name), 1, NONE, WORDS(WRITE)));
     REFUSED(OUTPUT_SHORT, eiderwagon_soup_write_accepted(LEND(name), 1, LEND(lent.out), NONE));
-    REFUSED(OUTPUT_SHORT, eiderwagon_soup_write_accepted(NONE, 1, NONE, NONE));
+    REFUSED(FIELD_NOT_WRITTEN, eiderwagon_soup_write_accepted(NONE, 1, NONE, NONE));
 
     REFUSED(OUTPUT_SHORT, eiderwagon_soup_write_rejected('A', NONE, WORDS(WRITE)));
     REFUSED(OUTPUT_SHORT, eiderwagon_soup_write_rejected('A', LEND(lent.out), NONE));
     REFUSED(OUTPUT_SHORT, eiderwagon_soup_write_rejected('A', NONE, NONE));
 
-    REFUSED(OUTPUT_SHORT, eiderwagon_soup_write_login(NONE, PASSWORD, LEND(name), 1, LEND(lent.out), WORDS(WRITE)));
-    REFUSED(OUTPUT_SHORT, eiderwagon_soup_write_login(USERNAME, NONE, LEND(name), 1, LEND(lent.out), WORDS(WRITE)));
-    REFUSED(OUTPUT_SHORT, eiderwagon_soup_write_login(USERNAME, PASSWORD, NONE, 1, LEND(lent.out), WORDS(WRITE)));
+    REFUSED(FIELD_NOT_WRITTEN,
+            eiderwagon_soup_write_login(NONE, PASSWORD, LEND(name), 1, LEND(lent.out), WORDS(WRITE)));
+    REFUSED(FIELD_NOT_WRITTEN,
+            eiderwagon_soup_write_login(USERNAME, NONE, LEND(name), 1, LEND(lent.out), WORDS(WRITE)));
+    REFUSED(FIELD_NOT_WRITTEN,
+            eiderwagon_soup_write_login(USERNAME, PASSWORD, NONE, 1, LEND(lent.out), WORDS(WRITE)));
     REFUSED(OUTPUT_SHORT, eiderwagon_soup_write_login(USERNAME, PASSWORD, LEND(name), 1, NONE, WORDS(WRITE)));
     REFUSED(OUTPUT_SHORT, eiderwagon_soup_write_login(USERNAME, PASSWORD, LEND(name), 1, LEND(lent.out), NONE));
-    REFUSED(OUTPUT_SHORT, eiderwagon_soup_write_login(NONE, NONE, NONE, 1, NONE, NONE));
+    REFUSED(FIELD_NOT_WRITTEN, eiderwagon_soup_write_login(NONE, NONE, NONE, 1, NONE, NONE));
 }
 
 static void lend_no_bytes_to_sessions(void) {
     memset(&lent, 0xA5, sizeof lent);
 
-    REFUSED(OUTPUT_SHORT, eiderwagon_server_start(NONE, 0, LEND(lent.state)));
+    REFUSED(BAD_SETTING, eiderwagon_server_start(NONE, 0, LEND(lent.state)));
     REFUSED(OUTPUT_SHORT, eiderwagon_server_start(LEND(name), 0, NONE));
-    REFUSED(OUTPUT_SHORT, eiderwagon_server_start(NONE, 0, NONE));
+    REFUSED(BAD_SETTING, eiderwagon_server_start(NONE, 0, NONE));
+
+    REFUSED(OUTPUT_SHORT, eiderwagon_server_set_last(NONE, 0));
+    REFUSED(BAD_SETTING, eiderwagon_server_set_last(NONE, UINT64_MAX));
 
     DONE(eiderwagon_server_start(LEND(name), 0, LEND(lent.state)));
     REFUSED(OUTPUT_SHORT, eiderwagon_server_step(NONE, TEXT(accounts), TEXT(LOGIN), WORDS(SERVER_STEP)));
@@ -1106,9 +1352,22 @@ static void lend_no_bytes_to_sessions(void) {
     DONE(eiderwagon_server_step(LEND(lent.state), NONE, TEXT(LOGIN), WORDS(SERVER_STEP)));
     CHECK(LENT(SERVER_STEP_ANSWER) == EIDERWAGON_SESSION_REJECTED && LENT(SERVER_STEP_REASON) == 'A');
 
-    REFUSED(OUTPUT_SHORT, eiderwagon_client_start(NONE, 0, LEND(lent.state)));
+    DONE(eiderwagon_server_start(LEND(name), 0, LEND(lent.state)));
+    REFUSED(OUTPUT_SHORT,
+            eiderwagon_server_reply(NONE, TEXT(accounts), TEXT(LOGIN), LEND(lent.out), WORDS(SERVER_REPLY)));
+    DONE(eiderwagon_server_reply(LEND(lent.state), TEXT(accounts), NONE, NONE, WORDS(SERVER_REPLY)));
+    CHECK(LENT(SERVER_REPLY_ANSWER) == EIDERWAGON_SESSION_NEED_MORE && LENT(SERVER_REPLY_WRITTEN) == 0);
+    REFUSED(OUTPUT_SHORT,
+            eiderwagon_server_reply(LEND(lent.state), TEXT(accounts), TEXT(LOGIN), NONE, WORDS(SERVER_REPLY)));
+    REFUSED(OUTPUT_SHORT,
+            eiderwagon_server_reply(LEND(lent.state), TEXT(accounts), TEXT(LOGIN), LEND(lent.out), NONE));
+    REFUSED(OUTPUT_SHORT, eiderwagon_server_reply(NONE, NONE, NONE, NONE, NONE));
+    DONE(eiderwagon_server_reply(LEND(lent.state), NONE, TEXT(LOGIN), LEND(lent.out), WORDS(SERVER_REPLY)));
+    CHECK(LENT(SERVER_REPLY_ANSWER) == EIDERWAGON_SESSION_REJECTED && LENT(SERVER_REPLY_WRITTEN) == 4);
+
+    REFUSED(BAD_SETTING, eiderwagon_client_start(NONE, 0, LEND(lent.state)));
     REFUSED(OUTPUT_SHORT, eiderwagon_client_start(LEND(name), 0, NONE));
-    REFUSED(OUTPUT_SHORT, eiderwagon_client_start(NONE, 0, NONE));
+    REFUSED(BAD_SETTING, eiderwagon_client_start(NONE, 0, NONE));
 
     DONE(eiderwagon_client_start(LEND(name), 0, LEND(lent.state)));
     REFUSED(OUTPUT_SHORT, eiderwagon_client_step(NONE, TEXT(ACCEPTED), WORDS(CLIENT_STEP)));
@@ -1136,6 +1395,7 @@ static void lend_no_bytes_to_captures(void) {
     CHECK(lent.state[EIDERWAGON_CAPTURE_STAGE_AT] == EIDERWAGON_CAPTURE_BAD);
     /* between records and when it is done, too */
     for (uint8_t stage = EIDERWAGON_CAPTURE_RECORDS; stage <= EIDERWAGON_CAPTURE_DONE; stage++) {
+        lent.state[EIDERWAGON_CAPTURE_CODE_AT] = stage == EIDERWAGON_CAPTURE_DONE ? 0 : EIDERWAGON_CAPTURE_OPEN;
         lent.state[EIDERWAGON_CAPTURE_STAGE_AT] = stage;
         DONE(eiderwagon_capture_feed(LEND(lent.state), NONE, WORDS(FEED)));
         CHECK(LENT(FEED_USED) == 0 && LENT(FEED_OVER) == (stage == EIDERWAGON_CAPTURE_DONE));
@@ -1156,7 +1416,12 @@ static void lend_no_bytes_to_captures(void) {
     REFUSED(OUTPUT_SHORT, eiderwagon_capture_report(NONE, NONE, NONE));
 }
 
-/* ---- 7. Codes and grounds ---------------------------------------------------------------------------------------- */
+/* ---- 8. The version, codes and grounds --------------------------------------------------------------------------- */
+
+static void be_of_this_version(void) {
+    CHECK(eiderwagon_version() == EIDERWAGON_VERSION);
+    CHECK(EIDERWAGON_VERSION == (0u << 16 | 1u << 8 | 0u));
+}
 
 static void say_the_grounds(void) {
     unsigned known = 0;
@@ -1190,6 +1455,7 @@ int main(void) {
     refuse_packets();
     refuse_written_packets();
     refuse_at_a_server();
+    refuse_a_reply();
     refuse_at_a_client();
     refuse_captures();
 
@@ -1202,11 +1468,18 @@ int main(void) {
     walk_past_the_end();
     end_a_capture();
 
+    be_open_as_one_kind_alone();
+    change_no_byte_of_a_cursor_without_a_message();
+    change_no_byte_of_another_kind();
+    change_no_byte_where_more_is_needed();
+    lend_the_receiver_of_a_reading();
+
     lend_no_bytes_to_datagrams();
     lend_no_bytes_to_packets();
     lend_no_bytes_to_sessions();
     lend_no_bytes_to_captures();
 
+    be_of_this_version();
     say_the_grounds();
 
     printf("test.c: %lu checks passed\n", checks);

@@ -1,5 +1,5 @@
 """The boundary as `include/eiderwagon.h` has it: how states lie in bytes, what codes mean, how many words each function
-sets and when a buffer is too short. No other module knows these: where the boundary changes, this one does. What is
+sets, and the order of the grounds. No other module knows these: where the boundary changes, this one does. What is
 answered comes from document 01's rules."""
 import inspect
 import struct
@@ -29,76 +29,107 @@ STEPS = (
 )
 LETTERS = {0: "need more", **{ord(letter): letter for sent in SENT.values() for letter in sent}}
 SENDERS = ("server", "client")
-SERVER_STATES = ("closed", "waiting", "in")
-CLIENT_STATES = ("closed", "asked", "in", "ended")
-STAGES = ("refused", "settings", "records", "done")
 
 
 def named(names, code):
     return names[code] if code < len(names) else names[0]
 
 
-# ---- states and cursors, big-endian
+# ---- states and cursors, little-endian. The first byte is the kind's code while the state is open, and 0 where a call
+# lays one that isn't; any other byte means the same as 0
 
-CURSOR = struct.Struct(">QH")  # place, messages left
-RECEIVER = struct.Struct(">10sQHB")  # session, next number, asking limit, ended if not 0
-SESSION = struct.Struct(">10sQB")  # session, last or next number, the state's code
-COUNTS = struct.Struct(">B6Q")  # behind a receiver: the stage's code, records, five counts
+CURSOR_CODE, RECEIVER_CODE, SERVER_CODE, CLIENT_CODE, CAPTURE_CODE = CODES = range(0xE1, 0xE6)
+NOT_OPEN = 0
+NOT_OPEN_TOO = 2  # a first byte that no call lays, and that no kind has as its code
+
+CURSOR = struct.Struct("<BQH")  # code, place, messages left
+RECEIVER = struct.Struct("<B10sQH")  # code, session, next number, asking limit
+SESSION = struct.Struct("<B10sQB")  # code, session, last or next number, phase
+FRONT = struct.Struct("<BB")  # of a reading: code, stage; a receiver follows
+COUNTS = struct.Struct("<6Q")  # behind it: records, five counts
 
 CURSOR_SIZE, RECEIVER_SIZE, SERVER_SIZE, CLIENT_SIZE = CURSOR.size, RECEIVER.size, SESSION.size, SESSION.size
-CAPTURE_SIZE = RECEIVER.size + COUNTS.size
-ENDED_TOO = 2  # a code that no call writes, and that means ended like the one that they do
+CAPTURE_SIZE = FRONT.size + RECEIVER.size + COUNTS.size
 # fixed sizes of inputs
 NAME_SIZE, USERNAME_SIZE, PASSWORD_SIZE = 10, 6, 10
 
+# phases and stages as they are laid: of what is open, and of what isn't. Every other byte is read as the first of each
+OPEN_SERVER, SHUT_SERVER = {"waiting": 1, "in": 2}, {"closed": 0}
+OPEN_CLIENT, SHUT_CLIENT = {"asked": 1, "in": 2}, {"closed": 0, "ended": 3}
+OPEN_STAGE, SHUT_STAGE = {"settings": 1, "records": 2}, {"refused": 0, "done": 3}
+
+
+def laid(code, opened, shut, state):
+    """The first byte and the phase of a state."""
+    return (code, opened[state]) if state in opened else (NOT_OPEN, shut[state])
+
+
+def meant(code, opened, shut, first, phase):
+    """What a first byte and a phase mean."""
+    states = opened if first == code else shut
+    return next((state for state, byte in states.items() if byte == phase), next(iter(states)))
+
 
 def cursor_bytes(cursor):
-    return CURSOR.pack(*cursor)
+    return CURSOR.pack(CURSOR_CODE, *cursor)
 
 
 def cursor_in(data):
-    return CURSOR.unpack_from(data)
+    first, *cursor = CURSOR.unpack_from(data)
+    return tuple(cursor) if first == CURSOR_CODE else (0, 0)
 
 
 def receiver_bytes(receiver):
-    return RECEIVER.pack(*receiver)
+    return RECEIVER.pack(NOT_OPEN if receiver.ended else RECEIVER_CODE, *receiver[:3])
 
 
 def receiver_in(data):
-    name, number, limit, ended = RECEIVER.unpack_from(data)
-    return Receiver(name, number, limit, ended != 0)
+    first, *fields = RECEIVER.unpack_from(data)
+    return Receiver(*fields, first != RECEIVER_CODE)
 
 
 def server_bytes(server):
-    return SESSION.pack(server.session, server.last, SERVER_STATES.index(server.state))
+    first, phase = laid(SERVER_CODE, OPEN_SERVER, SHUT_SERVER, server.state)
+    return SESSION.pack(first, server.session, server.last, phase)
 
 
 def server_in(data):
-    name, last, code = SESSION.unpack_from(data)
-    return session.Server(name, last, named(SERVER_STATES, code))
+    first, name, last, phase = SESSION.unpack_from(data)
+    return session.Server(name, last, meant(SERVER_CODE, OPEN_SERVER, SHUT_SERVER, first, phase))
 
 
 def client_bytes(client):
-    return SESSION.pack(client.session, client.number, CLIENT_STATES.index(client.state))
+    first, phase = laid(CLIENT_CODE, OPEN_CLIENT, SHUT_CLIENT, client.state)
+    return SESSION.pack(first, client.session, client.number, phase)
 
 
 def client_in(data):
-    name, number, code = SESSION.unpack_from(data)
-    return session.Client(name, number, named(CLIENT_STATES, code))
+    first, name, number, phase = SESSION.unpack_from(data)
+    return session.Client(name, number, meant(CLIENT_CODE, OPEN_CLIENT, SHUT_CLIENT, first, phase))
 
 
 def reading_bytes(reading):
     report = reading.report
-    return receiver_bytes(report.receiver) + COUNTS.pack(STAGES.index(reading.stage), report.records, *report.tally)
+    front = FRONT.pack(*laid(CAPTURE_CODE, OPEN_STAGE, SHUT_STAGE, reading.stage))
+    return front + receiver_bytes(report.receiver) + COUNTS.pack(report.records, *report.tally)
 
 
 def reading_in(data):
-    code, records, *counts = COUNTS.unpack_from(data, RECEIVER.size)
-    report = capture.Report(receiver_in(data), min(records, capture.MOST_RECORDS), capture.Tally(*counts))
-    return capture.Reading(named(STAGES, code), report)
+    stage = meant(CAPTURE_CODE, OPEN_STAGE, SHUT_STAGE, *FRONT.unpack_from(data))
+    records, *counts = COUNTS.unpack_from(data, FRONT.size + RECEIVER.size)
+    receiver = receiver_in(data[FRONT.size :])
+    return capture.Reading(stage, capture.Report(receiver, min(records, capture.MOST_RECORDS), capture.Tally(*counts)))
 
 
-# ---- what a function gives: the words that it sets, and what it lays at the front of the lent bytes
+def by_hand(state, first, phase=None):
+    """A state with another first byte, and with another phase or stage where one is given."""
+    at = 1 if len(state) == CAPTURE_SIZE else SESSION.size - 1
+    made = bytes([first]) + state[1:]
+    return made if phase is None else made[:at] + bytes([phase]) + made[at + 1 :]
+
+
+# ---- what a function gives: the words that it sets, what it lays at the front of the lent bytes, and of the reply what
+# it writes into its second output
 
 
 def located(found):
@@ -116,7 +147,9 @@ def mold_read(a):
 
 def mold_next(s, a):
     cursor = cursor_in(s)
-    return located(mold.cursor_located(cursor, a)), cursor_bytes(mold.cursor_next(cursor, a))
+    found = mold.cursor_located(cursor, a)
+    # where no message is there no byte changes, of bytes that are no cursor neither
+    return located(found), cursor_bytes(mold.cursor_next(cursor, a)) if found else b""
 
 
 def lengths_bytes(lengths):
@@ -124,9 +157,14 @@ def lengths_bytes(lengths):
     return b"".join(length.to_bytes(2, "big") for length in lengths)
 
 
+def ten(name):
+    """A name of another size is refused behind a MoldUDP64 writer's own grounds, which take it for ten bytes."""
+    return name[:NAME_SIZE].ljust(NAME_SIZE)
+
+
 def mold_write_data(a, n, b, c):
     lengths = [length for (length,) in struct.iter_unpack(">H", b)]
-    return written(mold.messages_packet(a[:NAME_SIZE], n, lengths, c))
+    return written(mold.messages_packet(ten(a), n, lengths, c))
 
 
 def receiver_take(s, a):
@@ -146,7 +184,7 @@ def soup_scan(a, n):
 
 
 def soup_write_login(a, b, c, n):
-    return written(soup.login_packet(a[:USERNAME_SIZE], b[:PASSWORD_SIZE], c[:NAME_SIZE], n))
+    return written(soup.login_packet(a, b, c, n))
 
 
 def step_words(answer):
@@ -154,19 +192,39 @@ def step_words(answer):
     return [STEPS.index(answer.name), answer.size, *values, *[0] * (3 - len(values))]
 
 
+def table_and_front(a, b):
+    """The grounds of a server's step that need no server."""
+    if len(session.records_of(a)) > session.MOST_ACCOUNTS:
+        raise Refused(19)
+    soup.front_of("client", b)
+
+
+def server_set_last(s, n):
+    return [], server_bytes(session.server_set_last(server_in(s), n))
+
+
 def server_step(s, a, b):
     answer, after = session.server_step(server_in(s), a, b)
-    return step_words(answer), server_bytes(after)
+    # need more changes no byte, of a state that was made by hand neither
+    return step_words(answer), server_bytes(after) if answer.size else b""
+
+
+def server_reply(s, a, b):
+    server = server_in(s)
+    answer, after = session.server_step(server, a, b)
+    reply = session.reply_to(server, answer)
+    return [*step_words(answer), len(reply)], server_bytes(after) if answer.size else b"", reply
 
 
 def client_step(s, a):
     answer, after = session.client_step(client_in(s), a)
-    return step_words(answer), client_bytes(after)
+    return step_words(answer), client_bytes(after) if answer.size else b""
 
 
 def capture_feed(s, a):
     after, used = capture.feed(reading_in(s), a)
-    return [used, int(after.stage in ("done", "refused"))], reading_bytes(after)
+    over = after.stage in ("done", "refused")
+    return [used, int(over)], reading_bytes(after) if used or over else b""
 
 
 # ---- the functions
@@ -174,31 +232,54 @@ def capture_feed(s, a):
 
 class Function:
     """A function that hosts call: its number in the program; its rule, from a line's fields to the words and to what it
-    lays at the front of the lent bytes; how many words it sets, and the names of the first one; and the fixed sizes of
-    its fields.
+    lays at the front of the lent bytes; how many words it sets, and the names of the first one; the field that is its
+    state, with its size, and what it refuses without looking at that; and the inputs of a fixed size, each with the
+    refusal of another one.
 
-    41 comes before every other ground for words or a field of a fixed size that are too short, and after every other
-    ground for an output that is."""
+    The order of the grounds: those that need no state; 41 for a state that is too short; the state's own; and last 41,
+    for an input of a fixed size where the function has no other ground, a short output, and too few words."""
 
-    def __init__(self, number, rule, words=0, names=None, **sizes):
-        self.number, self.rule, self.words, self.names, self.sizes = number, rule, words, names, sizes
+    def __init__(self, number, rule, words=0, names=None, state=None, before=None, **sized):
+        self.number, self.rule, self.words, self.names, self.before = number, rule, words, names, before
+        self.state, self.sized = state or {}, sized
         self.keys = inspect.signature(rule).parameters
+        self.writes_two = rule is server_reply
+
+    def other_sizes(self, fields, refusals):
+        """Refuses an input of another size than its own, on one of these grounds."""
+        for key, (size, refusal) in self.sized.items():
+            if refusal in refusals and len(fields[key]) != size:
+                raise Refused(refusal)
+
+    def given(self, fields):
+        """The words, what is laid, and what is written into a second output. Refused: by every ground but too little
+        room."""
+        self.other_sizes(fields, (19, 46))
+        if self.before:
+            self.before(**{key: fields[key] for key in inspect.signature(self.before).parameters})
+        if any(len(fields[key]) < size for key, size in self.state.items()):
+            raise Refused(41)
+        values, front, *second = self.rule(**{key: fields[key] for key in self.keys})
+        self.other_sizes(fields, (41,))
+        return values, front, second[0] if second else b""
 
     def answer(self, fields, words):
-        lent = fields.get("s", b"")
-        before = [FILL] * words
+        lent, before = fields.get("s", b""), [FILL] * words
+        also = fields["c"] if self.writes_two else None
         try:
-            if words < self.words or any(len(fields[key]) < size for key, size in self.sizes.items()):
-                raise Refused(41)
-            values, laid = self.rule(**{key: fields[key] for key in self.keys})
-            if len(laid) > len(lent):
+            values, front, second = self.given(fields)
+            if len(front) > len(lent) or len(second) > len(also or b"") or words < self.words:
                 raise Refused(41)
         except Refused as refusal:
-            return Answer(refusal.args[0], before, lent, [refusal.args[0]])
+            return Answer(refusal.args[0], before, lent, [refusal.args[0]], also)
         assert len(values) == self.words
         said = [self.names[values[0]], *values[1:]] if self.names else values
-        return Answer(0, [*values, *before[len(values) :]], laid + lent[len(laid) :], said)
+        written_too = second + also[len(second) :] if self.writes_two else None
+        return Answer(0, [*values, *before[len(values) :]], front + lent[len(front) :], said, written_too)
 
+
+# a session's name: at a start, at a MoldUDP64 writer, which has no ground of its own, and at a SoupBinTCP writer
+NAME_AT_START, NAME_AT_MOLD, NAME_AT_SOUP = (NAME_SIZE, 19), (NAME_SIZE, 41), (NAME_SIZE, 46)
 
 # By subject, as the modules of the crate `vector_calls` have them, each from its own number on.
 MOLD, RECEIVERS, SOUP, SERVERS, CLIENTS, CAPTURES = range(0, 120, 20)
@@ -206,54 +287,55 @@ MOLD, RECEIVERS, SOUP, SERVERS, CLIENTS, CAPTURES = range(0, 120, 20)
 FUNCTIONS = {
     "mold_read": Function(MOLD, mold_read, 3, KINDS),
     "mold_locate": Function(MOLD + 1, lambda a, n: (located(mold.message_located(a, n)), b""), 3),
-    "mold_walk": Function(MOLD + 2, lambda a: ([], cursor_bytes(mold.cursor_start(a))), s=CURSOR_SIZE),
-    "mold_next": Function(MOLD + 3, mold_next, 3, s=CURSOR_SIZE),
-    "mold_write_data": Function(MOLD + 4, mold_write_data, 1, a=NAME_SIZE),
+    "mold_walk": Function(MOLD + 2, lambda a: ([], cursor_bytes(mold.cursor_start(a)))),
+    "mold_next": Function(MOLD + 3, mold_next, 3, state={"s": CURSOR_SIZE}),
+    "mold_write_data": Function(MOLD + 4, mold_write_data, 1, a=NAME_AT_MOLD),
     "mold_write_heartbeat": Function(
-        MOLD + 5, lambda a, n: written(mold.messages_packet(a[:NAME_SIZE], n, [], b"")), 1, a=NAME_SIZE
+        MOLD + 5, lambda a, n: written(mold.messages_packet(ten(a), n, [], b"")), 1, a=NAME_AT_MOLD
     ),
-    "mold_write_end": Function(MOLD + 6, lambda a, n: written(mold.end_packet(a[:NAME_SIZE], n)), 1, a=NAME_SIZE),
+    "mold_write_end": Function(MOLD + 6, lambda a, n: written(mold.end_packet(ten(a), n)), 1, a=NAME_AT_MOLD),
     "mold_read_request": Function(MOLD + 7, lambda a: (list(mold.request_of(a)), b""), 2),
     "mold_write_request": Function(
-        MOLD + 8, lambda a, n, m: written(mold.request_packet(a[:NAME_SIZE], n, m)), 1, a=NAME_SIZE
+        MOLD + 8, lambda a, n, m: written(mold.request_packet(ten(a), n, m)), 1, a=NAME_AT_MOLD
     ),
     "receiver_start": Function(
-        RECEIVERS,
-        lambda a, n, m: ([], receiver_bytes(mold.receiver_start(a[:NAME_SIZE], n, m))),
-        a=NAME_SIZE,
-        s=RECEIVER_SIZE,
+        RECEIVERS, lambda a, n, m: ([], receiver_bytes(mold.receiver_start(a, n, m))), a=NAME_AT_START
     ),
-    "receiver_take": Function(RECEIVERS + 1, receiver_take, 4, TAKEN, s=RECEIVER_SIZE),
-    "receiver_walk": Function(
-        RECEIVERS + 2, lambda a, n, m: ([], cursor_bytes(mold.delivery_start(a, n, m))), s=CURSOR_SIZE
+    "receiver_take": Function(
+        RECEIVERS + 1, receiver_take, 4, TAKEN, {"s": RECEIVER_SIZE}, lambda a: mold.packet_of(a)
     ),
+    "receiver_walk": Function(RECEIVERS + 2, lambda a, n, m: ([], cursor_bytes(mold.delivery_start(a, n, m)))),
     "soup_read": Function(SOUP, soup_read, 3, LETTERS),
     "soup_scan": Function(SOUP + 1, soup_scan, 3),
     "soup_write_debug": Function(SOUP + 2, lambda a: written(soup.packet_of(b"+", a)), 1),
-    "soup_write_accepted": Function(
-        SOUP + 3, lambda a, n: written(soup.accepted_packet(a[:NAME_SIZE], n)), 1, a=NAME_SIZE
-    ),
+    "soup_write_accepted": Function(SOUP + 3, lambda a, n: written(soup.accepted_packet(a, n)), 1, a=NAME_AT_SOUP),
     "soup_write_rejected": Function(SOUP + 4, lambda n: written(soup.rejected_packet(bytes([n]))), 1),
     "soup_write_sequenced": Function(SOUP + 5, lambda a: written(soup.packet_of(b"S", a)), 1),
     "soup_write_server_heartbeat": Function(SOUP + 6, lambda: written(soup.packet_of(b"H")), 1),
     "soup_write_end": Function(SOUP + 7, lambda: written(soup.packet_of(b"Z")), 1),
-    "soup_write_login": Function(SOUP + 8, soup_write_login, 1, a=USERNAME_SIZE, b=PASSWORD_SIZE, c=NAME_SIZE),
+    "soup_write_login": Function(
+        SOUP + 8, soup_write_login, 1, a=(USERNAME_SIZE, 46), b=(PASSWORD_SIZE, 46), c=NAME_AT_SOUP
+    ),
     "soup_write_unsequenced": Function(SOUP + 9, lambda a: written(soup.packet_of(b"U", a)), 1),
     "soup_write_client_heartbeat": Function(SOUP + 10, lambda: written(soup.packet_of(b"R")), 1),
     "soup_write_logout": Function(SOUP + 11, lambda: written(soup.packet_of(b"O")), 1),
-    "server_start": Function(
-        SERVERS, lambda a, n: ([], server_bytes(session.server_start(a[:NAME_SIZE], n))), a=NAME_SIZE, s=SERVER_SIZE
+    "server_start": Function(SERVERS, lambda a, n: ([], server_bytes(session.server_start(a, n))), a=NAME_AT_START),
+    "server_step": Function(SERVERS + 1, server_step, 5, STEPS, {"s": SERVER_SIZE}, table_and_front),
+    "server_set_last": Function(
+        SERVERS + 2, server_set_last, state={"s": SERVER_SIZE}, before=lambda n: session.check_last(n)
     ),
-    "server_step": Function(SERVERS + 1, server_step, 5, STEPS, s=SERVER_SIZE),
-    "client_start": Function(
-        CLIENTS, lambda a, n: ([], client_bytes(session.client_start(a[:NAME_SIZE], n))), a=NAME_SIZE, s=CLIENT_SIZE
+    "server_reply": Function(SERVERS + 3, server_reply, 6, STEPS, {"s": SERVER_SIZE}, table_and_front),
+    "client_start": Function(CLIENTS, lambda a, n: ([], client_bytes(session.client_start(a, n))), a=NAME_AT_START),
+    "client_step": Function(
+        CLIENTS + 1, client_step, 5, STEPS, {"s": CLIENT_SIZE}, lambda a: soup.front_of("server", a)
     ),
-    "client_step": Function(CLIENTS + 1, client_step, 5, STEPS, s=CLIENT_SIZE),
-    "capture_start": Function(CAPTURES, lambda: ([], reading_bytes(capture.START)), s=CAPTURE_SIZE),
-    "capture_feed": Function(CAPTURES + 1, capture_feed, 2, s=CAPTURE_SIZE),
+    "capture_start": Function(CAPTURES, lambda: ([], reading_bytes(capture.START))),
+    "capture_feed": Function(CAPTURES + 1, capture_feed, 2, state={"s": CAPTURE_SIZE}),
     "capture_finish": Function(
-        CAPTURES + 2, lambda s, a: ([], reading_bytes(capture.finish(reading_in(s), a))), s=CAPTURE_SIZE
+        CAPTURES + 2, lambda s, a: ([], reading_bytes(capture.finish(reading_in(s), a))), state={"s": CAPTURE_SIZE}
     ),
-    "capture_write": Function(CAPTURES + 3, lambda a: written(capture.reading_text(reading_in(a))), 1, a=CAPTURE_SIZE),
+    "capture_write": Function(
+        CAPTURES + 3, lambda a: written(capture.reading_text(reading_in(a))), 1, state={"a": CAPTURE_SIZE}
+    ),
     "capture_report": Function(CAPTURES + 4, lambda a: written(capture.capture_text(a)), 1),
 }

@@ -1,6 +1,6 @@
 """Vectors of every function with lent buffers of other sizes: states, outputs, words and inputs of a fixed size that
 are one element too short, as long as needed, and longer; in a good call, and in one that is refused on another ground.
-Which ground comes first is the boundary's to say, so nothing is expected here."""
+Which ground comes first is the boundary's to say, so nothing is expected here; `grounds.py` expects it."""
 from boundary import (
     CAPTURE_SIZE,
     CLIENT_SIZE,
@@ -20,7 +20,7 @@ from captures import lines
 from datagrams import ROOM, TWO, data_of
 from lines import FILL, room
 from logins import LOGIN, READER, UNSOUND_RECORD
-from mold_rules import Receiver, header
+from mold_rules import TOP, Receiver, header
 from session_rules import Client, Server
 from streams import BLANK, PASSWORD, USER, accepted, packet, raw
 
@@ -71,6 +71,18 @@ CALLS = {
         dict(a=READER, b=LOGIN, s=server_bytes(Server(ROOM, 5, "closed"))),
         dict(a=UNSOUND_RECORD * 1025, b=b"", s=room(SERVER_SIZE)),
     ],
+    "server_set_last": [
+        dict(n=6, s=server_bytes(Server(ROOM, 5, "waiting"))),
+        dict(n=4, s=server_bytes(Server(ROOM, 5, "waiting"))),
+        dict(n=TOP, s=server_bytes(Server(ROOM, 5, "waiting"))),
+    ],
+    "server_reply": [
+        dict(a=READER, b=LOGIN, c=room(33), s=server_bytes(Server(ROOM, 5, "waiting"))),
+        dict(a=b"", b=LOGIN, c=room(4), s=server_bytes(Server(ROOM, 5, "waiting"))),
+        dict(a=READER, b=LOGIN, c=room(33), s=server_bytes(Server(BLANK, 5, "waiting"))),
+        dict(a=READER, b=LOGIN, c=room(33), s=server_bytes(Server(ROOM, 5, "closed"))),
+        dict(a=UNSOUND_RECORD * 1025, b=b"", c=b"", s=room(SERVER_SIZE)),
+    ],
     "client_start": [dict(a=ROOM, n=7, s=room(CLIENT_SIZE)), dict(a=bytes(10), n=7, s=room(CLIENT_SIZE))],
     "client_step": [
         dict(a=accepted(), s=client_bytes(Client(ROOM, 7, "asked"))),
@@ -92,7 +104,9 @@ def sizes(v):
         for fields in calls:
             for spare in (-1, 0) if FUNCTIONS[name].words else (0,):
                 v.ask(name, spare=spare, **fields)
-            for key in sorted({*FUNCTIONS[name].sizes, "s"} & set(fields)):
+            function = FUNCTIONS[name]
+            lent = {"s", "c"} if function.writes_two else {"s"}
+            for key in sorted({*function.state, *function.sized, *lent} & set(fields)):
                 for value in (fields[key][:-1], fields[key] + bytes([FILL]), b""):
                     v.ask(name, **{**fields, key: value})
 

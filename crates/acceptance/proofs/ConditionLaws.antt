@@ -15,26 +15,12 @@ use Rattle.soupbintcp_server.proofs.StatementLaws.{server-promises}
 use Rattle.soupbintcp_reply.proofs.StatementLaws.{reply-promises}
 use Rattle.soupbintcp_client.proofs.StatementLaws.{client-promises}
 use Rattle.host_answers.proofs.PromiseLaws.{host-promises}
-use Rattle.host_cursor.proofs.CursorLaws.{cursor-promises}
-use Rattle.host_receiver.proofs.ReceiverLaws as kept-receiver
-use Rattle.host_server.proofs.ServerLaws as kept-server
-use Rattle.host_client.proofs.ClientLaws as kept-client
-use Rattle.host_capture.proofs.ReadingLaws.{reading-promises}
-use Rattle.acceptance.specs.Conditions.{HostStates, Condition1, Condition2, Condition3, Condition3IsMeant}
+use Rattle.acceptance.specs.Conditions.{Condition1, Condition2, Condition3, Condition3IsMeant}
+use Rattle.acceptance.proofs.StateLaws.{host-states, open-by-code}
 
 last-kept : (s : Server) (n : ℕ) → (lastRefusal s n ≡ 0 → ⊥) → withLast s n ≡ s
 unfolding withLast
 last-kept s n z = rw (ne-eqb _ _ z) refl
-
-host-states : HostStates
-host-states =
-    record {
-      cursor = cursor-promises;
-      receiver = kept-receiver.receiver-promises;
-      server = kept-server.server-promises;
-      client = kept-client.client-promises;
-      reading = reading-promises;
-    }
 
 pub condition-1 : Condition1
 condition-1 =
@@ -48,6 +34,7 @@ condition-1 =
       last = last-kept;
       host-answers = host-promises .refusal-changes-nothing;
       host-states = host-states;
+      open-by-code = open-by-code;
     }
 
 pub condition-2 : Condition2

@@ -1,3 +1,4 @@
 pub mod Same
 pub mod ExampleLaws
+pub mod StateLaws
 pub mod ConditionLaws

@@ -25,21 +25,7 @@ use Rattle.soupbintcp_session.specs.Answer.{unsequenced}
 use Rattle.soupbintcp_session.specs.Statements.{ChangesNothing}
 use Rattle.soupbintcp_server.specs.Statements.{LoginExactlyWhen, WasIn}
 use Rattle.host_answers.specs.Answers.{RefusalChangesNothing}
-use Rattle.host_answers.specs.States.{StatePromises}
-use Rattle.host_cursor.specs.Cursor.{cursorSize, cursorBytes, KeepsCursor}
-use Rattle.host_receiver.specs.Receiver.{receiverSize, receiverBytes, KeepsReceiver}
-use Rattle.host_session.specs.Session.{sessionStateSize}
-use Rattle.host_server.specs.Server.{serverBytes, KeepsServer}
-use Rattle.host_client.specs.Client.{clientBytes, KeepsClient}
-use Rattle.host_capture.specs.Reading.{readingSize, readingBytes, KeepsReading}
-
--- of each state that a host keeps: a refusal changes no byte of it; a success lays its bytes, and no other
-pub record HostStates : Type 0 where
-  pub cursor : StatePromises KeepsCursor cursorSize cursorBytes
-  pub receiver : StatePromises KeepsReceiver receiverSize receiverBytes
-  pub server : StatePromises KeepsServer sessionStateSize serverBytes
-  pub client : StatePromises KeepsClient sessionStateSize clientBytes
-  pub reading : StatePromises KeepsReading readingSize readingBytes
+use Rattle.acceptance.specs.States.{HostStates, OpenByCode}
 
 -- Condition 1: a refusal changes neither state nor one lent byte. That every function ends and does nothing
 -- undefined, on any bytes, is no statement: each function of each crate is proved, and no public one of a library has
@@ -59,6 +45,8 @@ pub record Condition1 : Type 0 where
   -- a function for hosts in other languages: no word, no byte of an output and no byte of a state has changed
   pub host-answers : RefusalChangesNothing
   pub host-states : HostStates
+  -- and no bytes that a host lends are an open state by accident
+  pub open-by-code : OpenByCode
 
 -- Condition 2. That bytes are read and written exactly as the layouts say is each reader's and writer's own promise,
 -- an equation with its definition: `downstreamOf`, `requestOf` (moldudp64) and `frontOf` (soupbintcp); `encoded`,

@@ -1,6 +1,7 @@
 -- The loop of `keep`: d is the buffer at entry, from the first place, n how many bytes, out the buffer after i of them.
 use mathlib.Core.Path.{_≡_, refl, ap, sym, _∙_}
 use mathlib.Core.List.{List, _++_}
+use mathlib.Core.Bool.{true, false}
 use Prim.Native.Nat.{ℕ, _+_, _-_, _≤_, _<_}
 use native.Mathlib.Omega.{arith}
 use native.Mathlib.Numerals.{add-one}
@@ -10,7 +11,7 @@ use lib.Seq.{length-take-le, getD-append-add, getD-drop, paste, paste-zero, past
 use borrow.Author.Tests.{lt-ltb, le-ltb}
 use Rattle.wire.specs.Output.{put}
 use Rattle.wire.proofs.Outputs.{put-room, put-empty}
-use Rattle.capture_records.specs.Buffer.{keptSize, keptOf}
+use Rattle.capture_records.specs.Buffer.{arePlaces, keptSize, keptOf}
 
 pub record Kept (d : List ℕ) (from n : ℕ) (out : List ℕ) (i : ℕ) : Type 0 where
   pub within : i ≤ n
@@ -57,6 +58,18 @@ pub kept-long : {d : List ℕ} {from n : ℕ} {out : List ℕ} {i : ℕ} → Kep
 kept-long c = c .long
 
 -- ---- how many bytes are moved, and the buffer then
+
+pub places-all : (n from to : ℕ) → from ≤ to → to ≤ n → true ≡ arePlaces n from to
+unfolding arePlaces
+places-all n from to h k = rw (le-ltb n to k, le-ltb to from h)
+
+pub places-out : (n from to : ℕ) → n < to → false ≡ arePlaces n from to
+unfolding arePlaces
+places-out n from to h = rw (lt-ltb n to h)
+
+pub places-back : (n from to : ℕ) → to ≤ n → to < from → false ≡ arePlaces n from to
+unfolding arePlaces
+places-back n from to h k = rw (le-ltb n to h, lt-ltb to from k)
 
 pub size-all : (n from to : ℕ) → from ≤ to → to ≤ n → to - from ≡ keptSize n from to
 unfolding keptSize

@@ -2,21 +2,34 @@
 use wire::kinds::ByteOffset;
 ghost use mathlib.Core.Path.{_≡_};
 ghost use lib.ListN.{length};
-ghost use Rattle.capture_records.specs.Buffer.{keptSize, keptOf};
+ghost use Rattle.capture_records.specs.Buffer.{arePlaces, keptSize, keptOf};
+
+// Whether the places that were asked for are there, and how many bytes between them were kept: perhaps none.
+pub struct Kept {
+    pub there: bool,
+    pub size: usize,
+}
 
 // Moves the bytes from one place up to another to the front, and answers how many they are. Where these are no places
 // of the buffer, nothing is moved.
-pub fn keep(buf: &mut [u8], from: ByteOffset, to: ByteOffset) -> usize
-    ensures { λ r. ⌜ r ≡ keptSize (length (now (buf .entry))) (from .0) (to .0) ⌝ }
+pub fn keep(buf: &mut [u8], from: ByteOffset, to: ByteOffset) -> Kept
+    ensures { λ r. ⌜ (r .there ≡ arePlaces (length (now (buf .entry))) (from .0) (to .0))
+        × (r .size ≡ keptSize (length (now (buf .entry))) (from .0) (to .0)) ⌝ }
     ensures moved { λ _. ⌜ now (buf .exit) ≡ keptOf (now (buf .entry)) (from .0) (to .0) ⌝ }
 {
     let first = from.0;
     let end = to.0;
     if buf.len() < end {
-        return 0;
+        return Kept {
+            there: false,
+            size: 0,
+        };
     }
     if end < first {
-        return 0;
+        return Kept {
+            there: false,
+            size: 0,
+        };
     }
     let size = end - first;
     let mut i: usize = 0;
@@ -24,5 +37,5 @@ pub fn keep(buf: &mut [u8], from: ByteOffset, to: ByteOffset) -> usize
         buf[i] = buf[first + i];
         i += 1;
     }
-    size
+    Kept { there: true, size }
 }

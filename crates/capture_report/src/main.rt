@@ -36,7 +36,8 @@ fn read_all(buf: &mut [u8]) -> Reading {
         if reading.is_over() {
             return reading;
         }
-        have = buffer::keep(buf, ByteOffset(fed.used), ByteOffset(there));
+        let kept = buffer::keep(buf, ByteOffset(fed.used), ByteOffset(there));
+        have = kept.size;
         turns -= 1;
     }
     reading.finish(&buf[..have])

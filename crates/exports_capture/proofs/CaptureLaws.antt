@@ -1,35 +1,79 @@
 -- Readings kept, and what a feed answers.
-use Prim.Native.Nat.{ℕ}
+use Prim.Native.Nat.{ℕ, _≤_, _<_}
 use mathlib.Core.List.{List, [], _∷_}
-use mathlib.Core.Bool.{Bool, false, _||_}
-use mathlib.Core.Path.{_≡_}
+use mathlib.Core.Bool.{Bool, true, false, not, _&&_, _||_}
+use mathlib.Core.Path.{_≡_, refl, sym, _∙_}
+use native.Mathlib.Omega.{arith}
 use lib.ListN.{length}
-use lib.Dec.{ltb}
-use Rattle.wire.specs.Output.{writtenWords, Writes}
+use lib.Dec.{ltb, eqb}
+use borrow.Author.Tests.{lt-ltb, le-ltb, eq-eqb, ne-eqb}
+use Rattle.wire.specs.Choice.{if_then_else_}
+use Rattle.wire.specs.Bounds.{sessionSize}
+use Rattle.wire.specs.Refusals.{outputShort}
+use Rattle.wire.specs.Output.{writtenWords, writeRefusal, Writes}
 use Rattle.wire.specs.declared.output.Written.{Written}
+use Rattle.wire.proofs.Cases.{below-or-not}
 use Rattle.capture.specs.declared.reading.Reading.{Reading}
 use Rattle.capture.specs.declared.reading.Fed.{Fed}
 use Rattle.capture.specs.Reading.{feedOf, finishOf, isOver, textOf}
-use Rattle.host_answers.specs.Answers.{flag, padded, AnswersWith, AnswersWriting}
-use Rattle.host_answers.proofs.WritingLaws.{writing-reported}
-use Rattle.host_capture.specs.Reading.{readingIn, KeepsReading}
+use Rattle.host_answers.specs.Answers.{orElse, short, flag, padded, isOneOf, RefusesOnly, AnswersWith, AnswersWriting}
+use Rattle.host_answers.proofs.AnswerLaws.{or-next, or-none, or-short-no, or-first, rung-own, not-answered, no-success}
+use Rattle.host_answers.proofs.OnlyLaws.{only-ending, answers-only, reported-only}
+use Rattle.host_states.specs.States.{onCode, Keeps}
+use Rattle.host_capture.specs.Reading.{readingSize, readingBytes, readingIn, KeepsReading}
+use Rattle.host_capture.proofs.ReadingLaws.{reading-not}
+use Rattle.exports_capture.specs.Calls.{SetsReading, fedWords, onFeed, FeedsReading}
 
-pub reading-kept : (x y : Reading) (r : ℕ) (l m : List ℕ) → x ≡ y → KeepsReading r l m x → KeepsReading r l m y
-reading-kept x y r l m e k = rw (← e) k
+-- ---- which refusals there are: 41 at the most
 
-module _ (d l : List ℕ) (x : Reading) (r : ℕ) (a : x ≡ readingIn l) where
-  pub feed-answers : (f : Fed) (ws ws′ : List ℕ) (lacks : Bool) (over : Bool) (n : ℕ) → f ≡ feedOf x d → over ≡ isOver (f .reading .stage) → n ≡ flag over
-      → AnswersWith r ws ws′ lacks 0 (f .used ∷ n ∷ []) → AnswersWith r ws ws′ lacks 0 (feedOf (readingIn l) d .used ∷ flag (isOver (feedOf (readingIn l) d .reading .stage)) ∷ [])
-  feed-answers f ws ws′ lacks over n e o b h = rw (← a, ← e, ← o, ← b) h
+pub short-only : RefusesOnly outputShort (41 ∷ [])
+unfolding isOneOf
+short-only = refl
 
-  pub feed-kept : (f : Fed) (m : List ℕ) → f ≡ feedOf x d → KeepsReading r l m (f .reading) → KeepsReading r l m (feedOf (readingIn l) d .reading)
-  feed-kept f m e k = rw (← a, ← e) k
+pub sets-only : (r : ℕ) (b : Bool) → r ≡ orElse 0 (short b) → RefusesOnly r (41 ∷ [])
+unfolding isOneOf
+sets-only r b e = only-ending r 0 b (41 ∷ []) e refl refl
 
-  pub finish-kept : (y : Reading) (m : List ℕ) → y ≡ finishOf x d → KeepsReading r l m y → KeepsReading r l m (finishOf (readingIn l) d)
-  finish-kept y m e k = rw (← a, ← e) k
+pub feed-only : (r code : ℕ) (b : Bool) (ws ws′ vs : List ℕ) → AnswersWith code ws ws′ 0 vs → r ≡ orElse code (short b) → RefusesOnly r (41 ∷ [])
+unfolding isOneOf
+feed-only r code b ws ws′ vs a e = only-ending r code b (41 ∷ []) e (answers-only code 0 ws ws′ vs (41 ∷ []) a refl refl) refl
 
--- what is written of a reading that was read from its bytes
-pub text-reported : (lacks : Bool) (ws ws′ l l′ s : List ℕ) (x : Reading) (w : Written) (r : ℕ) → x ≡ readingIn s → lacks || ltb (length ws) 1 ≡ false
-    → Writes w l l′ 0 0 (textOf x) → AnswersWith r ws ws′ false (writtenWords w .refusal) (padded 1 (writtenWords w .values))
-    → AnswersWriting r ws ws′ l l′ lacks 0 (textOf (readingIn s))
-text-reported lacks ws ws′ l l′ s x w r a e f h = rw (← a) (writing-reported lacks ws l _ _ w r ws′ l′ e f h)
+pub more-only : (code : ℕ) (ws ws′ vs : List ℕ) → AnswersWith code ws ws′ 0 vs → RefusesOnly code (41 ∷ [])
+unfolding isOneOf
+more-only code ws ws′ vs a = answers-only code 0 ws ws′ vs (41 ∷ []) a refl refl
+
+pub text-only : (r : ℕ) (b : Bool) (w : Written) (ws ws′ vs l m bs : List ℕ) → AnswersWith r ws ws′ (orElse (writtenWords w .refusal) (short b)) vs → Writes w l m 0 0 bs
+    → RefusesOnly r (41 ∷ [])
+unfolding isOneOf
+text-only r b w ws ws′ vs l m bs a x = reported-only r 0 b w ws ws′ vs l m bs (41 ∷ []) a x refl refl
+
+-- ---- a reading is set
+
+pub sets-reading : (r : ℕ) (l m : List ℕ) (x y : Reading) → r ≡ orElse 0 (short (ltb (length l) readingSize)) → KeepsReading (onCode r) l m x → x ≡ y → SetsReading r l m y
+sets-reading r l m x y e k f = record { returns = e ∙ sym (or-next 0 _ refl); keeps = rw (← f) k }
+
+-- the last bytes of one that was read from its bytes
+pub sets-finished : (r : ℕ) (d l m : List ℕ) (x y : Reading) → x ≡ readingIn l → y ≡ finishOf x d → r ≡ orElse 0 (short (ltb (length l) readingSize)) → KeepsReading (onCode r) l m y
+    → SetsReading r l m (finishOf (readingIn l) d)
+sets-finished r d l m x y a f e k = sets-reading r l m y (finishOf (readingIn l) d) e k (rw (← a) f)
+
+pub sets-short : (l : List ℕ) (x : Reading) → length (x .report .receiver .session) ≡ sessionSize → length l < readingSize → SetsReading outputShort l l x
+unfolding short
+sets-short l x ten h = record { returns = rw (lt-ltb (length l) readingSize h); keeps = reading-not x l outputShort ten (λ z. omega arith) }
+
+-- ---- what is written of a reading
+
+pub text-short : (ws l s bs : List ℕ) → length s < readingSize → AnswersWriting outputShort ws ws l l (short (ltb (length s) readingSize)) bs
+unfolding short writeRefusal
+text-short ws l s bs h =
+    rw (lt-ltb (length s) readingSize h)
+    (record {
+      returns = or-first outputShort _ (λ z. omega arith);
+      words = no-success outputShort _ ws (λ z. omega arith);
+      output = no-success outputShort _ l (λ z. omega arith);
+    })
+
+pub text-reported : (ws ws′ l l′ s : List ℕ) (x : Reading) (r : ℕ) → x ≡ readingIn s → readingSize ≤ length s → AnswersWriting r ws ws′ l l′ 0 (textOf x)
+    → AnswersWriting r ws ws′ l l′ (short (ltb (length s) readingSize)) (textOf (readingIn s))
+unfolding short
+text-reported ws ws′ l l′ s x r a h t = rw (le-ltb (length s) readingSize h, ← a) t

@@ -1,4 +1,5 @@
 pub mod WordLaws
 pub mod MessageLaws
 pub mod NameLaws
+pub mod RefusalLaws
 pub mod Rules

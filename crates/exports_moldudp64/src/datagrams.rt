@@ -4,9 +4,9 @@ use moldudp64::downstream::Downstream;
 use wire::refusal;
 use wire::refusal::Refusal;
 ghost use mathlib.Core.Path.{_≡_};
-ghost use mathlib.Core.Bool.{false};
+ghost use mathlib.Core.List.{[], _∷_};
 ghost use Rattle.moldudp64.specs.Downstream.{downstreamWords, downstreamOf};
-ghost use Rattle.host_answers.specs.Answers.{wordsOf, Answers};
+ghost use Rattle.host_answers.specs.Answers.{wordsOf, RefusesOnly, Answers};
 ghost use Rattle.exports_moldudp64.specs.Datagrams.{kindNumber, DatagramsApart};
 
 // What a datagram is, by number.
@@ -52,11 +52,12 @@ fn datagram_words(read: Downstream) -> SaidDatagram
 // Reads a datagram.
 #[no_mangle]
 pub extern "C" fn eiderwagon_mold_read(datagram: &[u8], words: &mut [u64]) -> u32
-    ensures { λ r. ⌜ Answers r (now (words .entry)) (now (words .exit)) false kindNumber 3
+    ensures { λ r. ⌜ Answers r (now (words .entry)) (now (words .exit)) kindNumber 3
         (downstreamOf (now (datagram .entry))) ⌝ }
+    ensures refuses { λ r. ⌜ RefusesOnly r (11 ∷ 12 ∷ 13 ∷ 14 ∷ 15 ∷ 16 ∷ 41 ∷ []) ⌝ }
     ensures tells_apart { λ _. ⌜ DatagramsApart ⌝ }
 {
     let said = datagram_words(downstream::read(datagram));
     let values = said.words;
-    host_answers::answer(words, false, said.refusal, &values)
+    host_answers::answer(words, said.refusal, &values)
 }

@@ -1,5 +1,4 @@
-// Datagrams and requests, written.
-use host_answers::SHORT;
+// Datagrams and requests, written. Document 01 has no ground for a session of another size: it is 41 here.
 use host_answers::WRITTEN_WORDS;
 use moldudp64_writer::downstream;
 use moldudp64_writer::request;
@@ -7,16 +6,15 @@ use wire::kinds::MessageCount;
 use wire::kinds::SESSION_SIZE;
 use wire::kinds::SequenceNumber;
 use wire::parts;
-ghost use mathlib.Core.List.{[]};
-ghost use lib.ListN.{length};
-ghost use lib.Dec.{ltb};
+ghost use mathlib.Core.List.{[], _∷_};
 ghost use Rattle.wire.specs.Bounds.{sessionSize};
 ghost use Rattle.wire.specs.Parts.{firstBytes};
 ghost use Rattle.moldudp64.specs.Header.{header};
 ghost use Rattle.moldudp64.specs.Request.{requestGround};
 ghost use Rattle.moldudp64.specs.Written.{encoded, encodedEnd};
 ghost use Rattle.moldudp64_writer.specs.Writer.{encodedCut, packetGround, endGround};
-ghost use Rattle.host_answers.specs.Answers.{AnswersWriting};
+ghost use Rattle.host_answers.specs.Answers.{RefusesOnly, AnswersWriting};
+ghost use Rattle.exports_moldudp64.specs.Writers.{named};
 
 // Writes data; no lengths make a heartbeat.
 #[no_mangle]
@@ -29,24 +27,23 @@ pub extern "C" fn eiderwagon_mold_write_data(
     words: &mut [u64],
 ) -> u32
     ensures { λ r. ⌜ AnswersWriting r (now (words .entry)) (now (words .exit)) (now (out .entry))
-        (now (out .exit)) (ltb (length (now (session .entry))) sessionSize)
-        (packetGround first (now (lengths .entry)) (now (joined .entry)))
+        (now (out .exit))
+        (named (now (session .entry)) (packetGround first (now (lengths .entry)) (now (joined .entry))))
         (encodedCut (firstBytes sessionSize (now (session .entry))) first (now (lengths .entry))
         (now (joined .entry))) ⌝ }
+    ensures refuses { λ r. ⌜ RefusesOnly r (42 ∷ 44 ∷ 13 ∷ 14 ∷ 12 ∷ 41 ∷ []) ⌝ }
 {
-    if (session.len() < SESSION_SIZE) | (words.len() < WRITTEN_WORDS) {
-        return SHORT;
-    }
-    host_answers::answer_written(
-        words,
-        downstream::write_messages(
-            out,
-            parts::ten(session),
-            SequenceNumber(first),
-            lengths,
-            joined,
-        ),
-    )
+    let unnamed = session.len() != SESSION_SIZE;
+    let from = host_answers::lent_from(unnamed | (words.len() < WRITTEN_WORDS), out.len());
+    let name = parts::ten(session);
+    let written = downstream::write_messages(
+        &mut out[from..],
+        name,
+        SequenceNumber(first),
+        lengths,
+        joined,
+    );
+    host_answers::answer_written(words, unnamed, written)
 }
 
 // Writes a heartbeat: a packet of no messages.
@@ -58,23 +55,22 @@ pub extern "C" fn eiderwagon_mold_write_heartbeat(
     words: &mut [u64],
 ) -> u32
     ensures { λ r. ⌜ AnswersWriting r (now (words .entry)) (now (words .exit)) (now (out .entry))
-        (now (out .exit)) (ltb (length (now (session .entry))) sessionSize) (packetGround next [] [])
+        (now (out .exit)) (named (now (session .entry)) (packetGround next [] []))
         (encoded (firstBytes sessionSize (now (session .entry))) next []) ⌝ }
+    ensures refuses { λ r. ⌜ RefusesOnly r (13 ∷ 41 ∷ []) ⌝ }
 {
-    if (session.len() < SESSION_SIZE) | (words.len() < WRITTEN_WORDS) {
-        return SHORT;
-    }
+    let unnamed = session.len() != SESSION_SIZE;
+    let from = host_answers::lent_from(unnamed | (words.len() < WRITTEN_WORDS), out.len());
+    let name = parts::ten(session);
     let lengths = [0u16; 1];
-    host_answers::answer_written(
-        words,
-        downstream::write_messages(
-            out,
-            parts::ten(session),
-            SequenceNumber(next),
-            &lengths[..0],
-            &session[..0],
-        ),
-    )
+    let written = downstream::write_messages(
+        &mut out[from..],
+        name,
+        SequenceNumber(next),
+        &lengths[..0],
+        &session[..0],
+    );
+    host_answers::answer_written(words, unnamed, written)
 }
 
 // Writes an end of session.
@@ -86,16 +82,15 @@ pub extern "C" fn eiderwagon_mold_write_end(
     words: &mut [u64],
 ) -> u32
     ensures { λ r. ⌜ AnswersWriting r (now (words .entry)) (now (words .exit)) (now (out .entry))
-        (now (out .exit)) (ltb (length (now (session .entry))) sessionSize) (endGround next)
+        (now (out .exit)) (named (now (session .entry)) (endGround next))
         (encodedEnd (firstBytes sessionSize (now (session .entry))) next) ⌝ }
+    ensures refuses { λ r. ⌜ RefusesOnly r (13 ∷ 41 ∷ []) ⌝ }
 {
-    if (session.len() < SESSION_SIZE) | (words.len() < WRITTEN_WORDS) {
-        return SHORT;
-    }
-    host_answers::answer_written(
-        words,
-        downstream::write_end_of_session(out, parts::ten(session), SequenceNumber(next)),
-    )
+    let unnamed = session.len() != SESSION_SIZE;
+    let from = host_answers::lent_from(unnamed | (words.len() < WRITTEN_WORDS), out.len());
+    let name = parts::ten(session);
+    let written = downstream::write_end_of_session(&mut out[from..], name, SequenceNumber(next));
+    host_answers::answer_written(words, unnamed, written)
 }
 
 // Writes a request.
@@ -108,19 +103,18 @@ pub extern "C" fn eiderwagon_mold_write_request(
     words: &mut [u64],
 ) -> u32
     ensures { λ r. ⌜ AnswersWriting r (now (words .entry)) (now (words .exit)) (now (out .entry))
-        (now (out .exit)) (ltb (length (now (session .entry))) sessionSize) (requestGround first count)
+        (now (out .exit)) (named (now (session .entry)) (requestGround first count))
         (header (firstBytes sessionSize (now (session .entry))) first count) ⌝ }
+    ensures refuses { λ r. ⌜ RefusesOnly r (13 ∷ 48 ∷ 41 ∷ []) ⌝ }
 {
-    if (session.len() < SESSION_SIZE) | (words.len() < WRITTEN_WORDS) {
-        return SHORT;
-    }
-    host_answers::answer_written(
-        words,
-        request::write(
-            out,
-            parts::ten(session),
-            SequenceNumber(first),
-            MessageCount(count),
-        ),
-    )
+    let unnamed = session.len() != SESSION_SIZE;
+    let from = host_answers::lent_from(unnamed | (words.len() < WRITTEN_WORDS), out.len());
+    let name = parts::ten(session);
+    let written = request::write(
+        &mut out[from..],
+        name,
+        SequenceNumber(first),
+        MessageCount(count),
+    );
+    host_answers::answer_written(words, unnamed, written)
 }

@@ -1,4 +1,6 @@
 pub mod ReplyLaws
+pub mod LadderLaws
 pub mod ReceiverLaws
+pub mod WalkLaws
 pub mod RunLaws
 pub mod Rules

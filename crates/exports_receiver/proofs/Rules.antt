@@ -1,13 +1,13 @@
 -- The laws that the functions' proofs need, for `search`: one set for each task.
 use borrow.Author.Needs.{needs}
 use mathlib.Core.Path.{refl}
-use Rattle.host_cursor.proofs.CursorLaws.{cursor-kept}
+use Rattle.host_cursor.proofs.CallLaws.{sets-cursor, sets-only}
 use Rattle.exports_receiver.proofs.ReplyLaws.{answer-refusal, answer-words, answers-apart}
-use Rattle.exports_receiver.proofs.ReceiverLaws.{start-code, start-kept, take-answers, take-kept}
-use Rattle.exports_receiver.proofs.RunLaws.{hands-on}
+use Rattle.exports_receiver.proofs.LadderLaws.{start-only, take-only}
+use Rattle.exports_receiver.proofs.ReceiverLaws.{starts-receiver, takes-datagram}
 
 pub ruleset words = (answer-refusal, answer-words, refl, needs)
 
-pub ruleset receivers = (hands-on, answers-apart, start-code, start-kept, take-answers, take-kept, needs)
+pub ruleset receivers = (answers-apart, starts-receiver, start-only, takes-datagram, take-only, needs)
 
-pub ruleset cursors = (cursor-kept, needs)
+pub ruleset cursors = (sets-cursor, sets-only, needs)

@@ -1,5 +1,6 @@
 // The receiver for hosts in other languages: started, given datagrams, and what it delivers of them.
 // `include/eiderwagon.h` says what each function takes and answers.
+use host_answers::LAST_OF_DATAGRAM;
 use moldudp64_messages::cursor::Cursor;
 use receiver::delivery;
 use receiver::receiver::Answer;
@@ -11,19 +12,14 @@ use wire::parts;
 use wire::refusal;
 use wire::refusal::Refusal;
 ghost use mathlib.Core.Path.{_≡_};
-ghost use mathlib.Core.Bool.{_||_};
-ghost use lib.ListN.{length};
-ghost use lib.Dec.{ltb};
-ghost use Rattle.wire.specs.Bounds.{sessionSize};
-ghost use Rattle.wire.specs.Parts.{firstBytes};
+ghost use mathlib.Core.List.{[], _∷_};
 ghost use Rattle.receiver.specs.Table.{answerWords};
 ghost use Rattle.receiver.specs.Delivery.{deliveryCursor};
-ghost use Rattle.receiver.specs.Receiver.{receiverStartRefusal, startReceiver, answerOf, receiverAfter};
-ghost use Rattle.host_answers.specs.Answers.{codeOf, wordsOf, Answers};
-ghost use Rattle.host_cursor.specs.Cursor.{cursorSize, KeepsCursor};
-ghost use Rattle.host_receiver.specs.Receiver.{receiverSize, receiverIn, KeepsReceiver};
+ghost use Rattle.host_answers.specs.Answers.{wordsOf, RefusesOnly};
+ghost use Rattle.host_cursor.specs.Calls.{SetsCursor};
 ghost use Rattle.exports_receiver.specs.Replies.{answerNumber, AnswerNumbersApart};
-ghost use Rattle.exports_receiver.specs.Run.{HandsOn};
+ghost use Rattle.exports_receiver.specs.Calls.{StartsReceiver, TakesDatagram};
+ghost use Rattle.exports_receiver.specs.Run.{HandsOn, HostGetsTrue};
 
 // What a receiver answers, by number.
 const DELIVER: u64 = 1;
@@ -89,11 +85,10 @@ pub extern "C" fn eiderwagon_receiver_start(
     limit: u16,
     state: &mut [u8],
 ) -> u32
-    ensures { λ r. ⌜ r ≡ codeOf (ltb (length (now (session .entry))) sessionSize
-        || ltb (length (now (state .entry))) receiverSize) (receiverStartRefusal next limit) ⌝ }
-    ensures keeps { λ r. ⌜ KeepsReceiver r (now (state .entry)) (now (state .exit))
-        (startReceiver (firstBytes sessionSize (now (session .entry))) next limit) ⌝ }
+    ensures { λ r. ⌜ StartsReceiver r (now (session .entry)) next limit (now (state .entry)) (now (state .exit)) ⌝ }
+    ensures refuses { λ r. ⌜ RefusesOnly r (19 ∷ 41 ∷ []) ⌝ }
     ensures hands_on { λ _. ⌜ HandsOn ⌝ }
+    ensures condition_3 { λ _. ⌜ HostGetsTrue ⌝ }
 {
     let started = Receiver::new(
         parts::ten(session),
@@ -101,10 +96,13 @@ pub extern "C" fn eiderwagon_receiver_start(
         MessageCount(limit),
     );
     let receiver = started.receiver;
-    let short = (session.len() < SESSION_SIZE) | (state.len() < host_receiver::SIZE);
-    let code = host_answers::code(short, started.refusal);
-    host_receiver::write(state, code, receiver);
-    code
+    let refused = host_answers::unless_sized(
+        session.len(),
+        SESSION_SIZE,
+        refusal::BAD_SETTING,
+        started.refusal,
+    );
+    host_receiver::write(state, refused.number as u32, receiver)
 }
 
 // Takes a datagram.
@@ -114,26 +112,23 @@ pub extern "C" fn eiderwagon_receiver_take(
     datagram: &[u8],
     words: &mut [u64],
 ) -> u32
-    ensures { λ r. ⌜ Answers r (now (words .entry)) (now (words .exit))
-        (ltb (length (now (state .entry))) receiverSize) answerNumber 4
-        (answerOf (receiverIn (now (state .entry))) (now (datagram .entry))) ⌝ }
-    ensures keeps { λ r. ⌜ KeepsReceiver r (now (state .entry)) (now (state .exit))
-        (receiverAfter (receiverIn (now (state .entry))) (now (datagram .entry))) ⌝ }
+    ensures { λ r. ⌜ TakesDatagram r (now (state .entry)) (now (state .exit)) (now (datagram .entry))
+        (now (words .entry)) (now (words .exit)) ⌝ }
+    ensures refuses { λ r. ⌜ RefusesOnly r (11 ∷ 12 ∷ 13 ∷ 14 ∷ 15 ∷ 16 ∷ 17 ∷ 18 ∷ 20 ∷ 41 ∷ []) ⌝ }
     ensures tells_apart { λ _. ⌜ AnswerNumbersApart ⌝ }
 {
     let taken = host_receiver::read(state).take(datagram);
     let answer = taken.answer;
     let after = taken.receiver;
     let said = answer_words(answer);
-    let values = said.words;
-    let code = host_answers::answer(
-        words,
+    let refused = host_answers::behind_stateless(
         state.len() < host_receiver::SIZE,
+        LAST_OF_DATAGRAM,
         said.refusal,
-        &values,
     );
-    host_receiver::write(state, code, after);
-    code
+    let values = said.words;
+    let code = host_answers::answer(words, refused, &values);
+    host_receiver::write(state, code, after)
 }
 
 // Sets a cursor to the first message that a deliver answer delivers.
@@ -144,12 +139,10 @@ pub extern "C" fn eiderwagon_receiver_walk(
     skipped: u16,
     cursor: &mut [u8],
 ) -> u32
-    ensures { λ r. ⌜ r ≡ codeOf (ltb (length (now (cursor .entry))) cursorSize) 0 ⌝ }
-    ensures keeps { λ r. ⌜ KeepsCursor r (now (cursor .entry)) (now (cursor .exit))
+    ensures { λ r. ⌜ SetsCursor r (now (cursor .entry)) (now (cursor .exit))
         (deliveryCursor (now (datagram .entry)) count skipped) ⌝ }
+    ensures refuses { λ r. ⌜ RefusesOnly r (41 ∷ []) ⌝ }
 {
-    let code = host_answers::code(cursor.len() < host_cursor::SIZE, refusal::NONE);
     let first: Cursor = delivery::start(datagram, MessageCount(count), MessageCount(skipped));
-    host_cursor::write(cursor, code, first);
-    code
+    host_cursor::write(cursor, 0, first)
 }

@@ -1,6 +1,5 @@
 -- The laws that the functions' proofs need, for `search`.
 use borrow.Author.Needs.{needs}
-use Rattle.host_session.proofs.ReplyLaws.{answers-apart}
-use Rattle.exports_server.proofs.ServerLaws.{server-start-code, server-start-kept, server-answers, server-kept}
+use Rattle.exports_server.proofs.ServerLaws.{server-starts, last-above, last-short, last-moves}
 
-pub ruleset servers = (answers-apart, server-start-code, server-start-kept, server-answers, server-kept, needs)
+pub ruleset servers = (server-starts, last-above, last-short, last-moves, needs)

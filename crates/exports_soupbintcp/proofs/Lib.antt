@@ -1,3 +1,4 @@
 pub mod PacketLaws
 pub mod NameLaws
+pub mod RefusalLaws
 pub mod Rules

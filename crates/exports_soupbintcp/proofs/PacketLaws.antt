@@ -1,7 +1,6 @@
 -- The words of what stands at the front of a stream, and of a scan.
 use Prim.Native.Nat.{ℕ, _<_}
 use mathlib.Core.List.{List, [], _∷_}
-use mathlib.Core.Bool.{false}
 use mathlib.Core.Path.{_≡_, refl}
 use native.Mathlib.Omega.{arith}
 use lib.ListN.{length}
@@ -75,11 +74,11 @@ stop-refused x r e = rw e
 
 module _ (n : ℕ) (s : Sender) (l : List ℕ) (r : ℕ) (ws ws′ : List ℕ) (e : s ≡ senderOf n) where
   pub read-answers : (x : Front) (g : ℕ) (vs : List ℕ) → frontWords x ≡ frontOf s l → g ≡ frontWords x .refusal → vs ≡ wordsOf frontNumber 3 (frontWords x)
-      → AnswersWith r ws ws′ false g vs → AnswersWith r ws ws′ false (frontOf (senderOf n) l .refusal) (wordsOf frontNumber 3 (frontOf (senderOf n) l))
+      → AnswersWith r ws ws′ g vs → AnswersWith r ws ws′ (frontOf (senderOf n) l .refusal) (wordsOf frontNumber 3 (frontOf (senderOf n) l))
   read-answers x g vs f a b h = rw (← e, ← f, ← a, ← b) h
 
-  pub scan-answers : (x : Scanned) (k : ℕ) → Scans x s l → k ≡ stopWords (x .stop) .refusal → AnswersWith r ws ws′ false 0 (x .packets ∷ x .bytes ∷ k ∷ [])
-      → AnswersWith r ws ws′ false 0 (scanWords (scanOf (senderOf n) l))
+  pub scan-answers : (x : Scanned) (k : ℕ) → Scans x s l → k ≡ stopWords (x .stop) .refusal → AnswersWith r ws ws′ 0 (x .packets ∷ x .bytes ∷ k ∷ [])
+      → AnswersWith r ws ws′ 0 (scanWords (scanOf (senderOf n) l))
   scan-answers x k f a h = rw (← e, ← f .packets, ← f .bytes, ← f .stop, ← a) h
 
 -- ---- the numbers tell fronts apart: each is read back

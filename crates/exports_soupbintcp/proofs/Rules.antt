@@ -1,8 +1,9 @@
 -- The laws that the functions' proofs need, for `search`: one set for each task.
 use borrow.Author.Needs.{needs}
 use mathlib.Core.Path.{refl}
-use Rattle.host_answers.proofs.Rules.{writings}
-use Rattle.exports_soupbintcp.proofs.NameLaws.{accepted-reported, login-reported}
+use Rattle.host_answers.proofs.WritingLaws.{lent-within, writing-plain}
+use Rattle.exports_soupbintcp.proofs.NameLaws.{missized, missized-behind, accepted-reported, login-reported}
+use Rattle.exports_soupbintcp.proofs.RefusalLaws.{read-only, scan-only, missized-only, bare-only, payload-only, accepted-only, reason-only, login-only}
 use Rattle.exports_soupbintcp.proofs.PacketLaws.{from-server, from-client, packet-words, whole-refusal, whole-words, more-refusal, more-words, refused-refusal, refused-words, stop-more, stop-refused, read-answers, scan-answers, fronts-apart}
 
 pub ruleset senders = (from-server, from-client, needs)
@@ -13,6 +14,8 @@ pub ruleset fronts = (whole-refusal, whole-words, more-refusal, more-words, refu
 
 pub ruleset stops = (stop-more, stop-refused, needs)
 
-pub ruleset answers = (fronts-apart, read-answers, scan-answers, needs)
+pub ruleset answers = (fronts-apart, read-answers, scan-answers, read-only, scan-only, needs)
 
-pub ruleset names = (accepted-reported, login-reported, writings)
+pub ruleset writers = (lent-within, writing-plain, bare-only, payload-only, reason-only, needs)
+
+pub ruleset names = (lent-within, missized, missized-behind, accepted-reported, login-reported, missized-only, accepted-only, login-only, needs)

@@ -8,9 +8,8 @@ use soupbintcp::scan::Stop;
 use wire::refusal;
 use wire::refusal::Refusal;
 ghost use mathlib.Core.Path.{_≡_};
-ghost use mathlib.Core.List.{_∷_};
-ghost use mathlib.Core.Bool.{false};
-ghost use Rattle.host_answers.specs.Answers.{padded, wordsOf, AnswersWith, Answers};
+ghost use mathlib.Core.List.{[], _∷_};
+ghost use Rattle.host_answers.specs.Answers.{padded, wordsOf, RefusesOnly, AnswersWith, Answers};
 ghost use Rattle.soupbintcp.specs.Letters.{packetKind, packetValues, letterFor};
 ghost use Rattle.soupbintcp.specs.Front.{frontWords, frontOf};
 ghost use Rattle.soupbintcp.specs.Scan.{stopWords, scanOf};
@@ -78,13 +77,14 @@ fn front_words(front: Front) -> Said
 // Reads the packet at the front of a stream.
 #[no_mangle]
 pub extern "C" fn eiderwagon_soup_read(stream: &[u8], sender: u8, words: &mut [u64]) -> u32
-    ensures { λ r. ⌜ Answers r (now (words .entry)) (now (words .exit)) false frontNumber 3
+    ensures { λ r. ⌜ Answers r (now (words .entry)) (now (words .exit)) frontNumber 3
         (frontOf (senderOf sender) (now (stream .entry))) ⌝ }
+    ensures refuses { λ r. ⌜ RefusesOnly r (21 ∷ 22 ∷ 23 ∷ 24 ∷ 25 ∷ 41 ∷ []) ⌝ }
     ensures tells_apart { λ _. ⌜ FrontsApart ⌝ }
 {
     let said = front_words(front::read(stream, sender_of(sender)));
     let values = said.words;
-    host_answers::answer(words, false, said.refusal, &values)
+    host_answers::answer(words, said.refusal, &values)
 }
 
 // The refusal that stopped a scan, its number 0 where more bytes are needed.
@@ -100,8 +100,9 @@ fn stop_number(stop: Stop) -> u64
 // Passes all good packets at the front of a stream.
 #[no_mangle]
 pub extern "C" fn eiderwagon_soup_scan(stream: &[u8], sender: u8, words: &mut [u64]) -> u32
-    ensures { λ r. ⌜ AnswersWith r (now (words .entry)) (now (words .exit)) false 0
+    ensures { λ r. ⌜ AnswersWith r (now (words .entry)) (now (words .exit)) 0
         (scanWords (scanOf (senderOf sender) (now (stream .entry)))) ⌝ }
+    ensures refuses { λ r. ⌜ RefusesOnly r (41 ∷ []) ⌝ }
 {
     let scanned = scan::scan(stream, sender_of(sender));
     let stop = scanned.stop;
@@ -110,5 +111,5 @@ pub extern "C" fn eiderwagon_soup_scan(stream: &[u8], sender: u8, words: &mut [u
         scanned.bytes as u64,
         stop_number(stop),
     ];
-    host_answers::answer(words, false, refusal::NONE, &values)
+    host_answers::answer(words, refusal::NONE, &values)
 }

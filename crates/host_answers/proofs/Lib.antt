@@ -1,5 +1,6 @@
 pub mod AnswerLaws
 pub mod WritingLaws
 pub mod PromiseLaws
-pub mod StateLaws
+pub mod LadderLaws
+pub mod OnlyLaws
 pub mod Rules

@@ -2,18 +2,11 @@
 use borrow.Author.Needs.{needs}
 use mathlib.Core.Path.{refl}
 use Rattle.wire.proofs.Copy.{copied-start, copied-kept}
-use Rattle.host_answers.proofs.AnswerLaws.{code-lacks, code-has, has-room, success, no-success, laid-step, laid-end, answers-wrote, answers-refused}
-use Rattle.host_answers.proofs.WritingLaws.{writing-short, writing-reported, words-short, words-reported}
-use Rattle.host_answers.proofs.StateLaws.{flag-set}
+use Rattle.host_answers.proofs.AnswerLaws.{rung-own, rung-short, rung-none, sized-own, sized-not, behind-has, behind-zero, behind-above, behind-own, lent-none, lent-all, has-room, answered, not-answered, laid-step, laid-end, answers-wrote, answers-refused}
 use Rattle.host_answers.proofs.PromiseLaws.{host-promises}
 
-pub ruleset flags = (flag-set, refl, needs)
-
-pub ruleset codes = (code-lacks, code-has, needs)
+pub ruleset ladders = (rung-own, rung-short, rung-none, sized-own, sized-not, behind-has, behind-zero, behind-above, behind-own, lent-none, lent-all, refl, needs)
 
 pub ruleset layings = (copied-start, laid-step, laid-end, copied-kept, needs)
 
-pub ruleset answers = (host-promises, has-room, success, no-success, answers-wrote, answers-refused, needs)
-
--- for the exported writers
-pub ruleset writings = (writing-short, writing-reported, words-short, words-reported, needs)
+pub ruleset answers = (host-promises, has-room, answered, not-answered, answers-wrote, answers-refused, needs)

@@ -1,7 +1,7 @@
--- What an exported function answers: its code, and what it leaves in lent words, bytes and states.
+-- What an exported function answers: its code, and what it leaves in lent words and in a lent output.
 use Prim.Native.Nat.{ℕ, zero, suc}
 use mathlib.Core.List.{List, [], _∷_, _++_}
-use mathlib.Core.Bool.{Bool, true, false, _||_}
+use mathlib.Core.Bool.{Bool, true, false}
 use mathlib.Core.Path.{_≡_}
 use lib.ListN.{length, drop}
 use lib.Dec.{ltb, eqb}
@@ -10,11 +10,33 @@ use Rattle.wire.specs.Refusals.{outputShort}
 use Rattle.wire.specs.Words.{Words, Case, answer, refused}
 use Rattle.wire.specs.Output.{put, writeRefusal}
 
--- ---- the code: 0, or the number of a refusal
+-- ---- the code: 0, or the number of a refusal, by a ladder of grounds that ends with 41
 
--- 41 where a lent buffer of a fixed size is too short, before every other ground; else g
-unfoldable pub codeOf : Bool → ℕ → ℕ
-codeOf lacks g = if lacks then outputShort else g
+-- the ground g, or h where g doesn't apply
+unfoldable pub orElse : ℕ → ℕ → ℕ
+orElse g h = if eqb g 0 then h else g
+
+-- 41 where lent memory is too short
+unfoldable pub short : Bool → ℕ
+short lacks = if lacks then outputShort else 0
+
+-- an input of n bytes that is to have k: where it hasn't, g; else h
+unfoldable pub unlessSized : ℕ → ℕ → ℕ → ℕ → ℕ
+unlessSized n k g h = if eqb n k then h else g
+
+-- a call that is lent a state: first the ground that needs no state; then 41 where the state is too short; then h, its
+-- own
+abbrev pub stateLadder : ℕ → Bool → ℕ → ℕ
+stateLadder g lacks h = orElse g (orElse (short lacks) h)
+
+-- a number is one of these
+unfoldable pub isOneOf : ℕ → List ℕ → Bool
+isOneOf r [] = false
+isOneOf r (g ∷ gs) = if eqb r g then true else isOneOf r gs
+
+-- a code is 0 or one of these numbers
+abbrev pub RefusesOnly : ℕ → List ℕ → Type 0
+RefusesOnly r gs = isOneOf r (0 ∷ gs) ≡ true
 
 -- lent memory changes on success alone: on every refusal it is as it came
 unfoldable pub onSuccess : ℕ → List ℕ → List ℕ → List ℕ
@@ -42,21 +64,25 @@ wordsAt table n refused vs = padded n []
 abbrev pub wordsOf : {K : Type 0} → (K → ℕ) → ℕ → Words K → List ℕ
 wordsOf table n w = wordsAt table n (w .which) (w .values)
 
--- ---- the promises, of a function that answers r; lacks says that another lent buffer of a fixed size is too short
+-- ---- the promises, of a function that answers r
 
--- g is the refusal, or 0, and vs are the values: the words ws become ws′
-pub record AnswersWith (r : ℕ) (ws ws′ : List ℕ) (lacks : Bool) (g : ℕ) (vs : List ℕ) : Type 0 where
-  pub returns : r ≡ codeOf (lacks || ltb (length ws) (length vs)) g
+-- g is the ground before the last, or 0, and vs are the values: the words ws become ws′. Too few words are the last
+pub record AnswersWith (r : ℕ) (ws ws′ : List ℕ) (g : ℕ) (vs : List ℕ) : Type 0 where
+  pub returns : r ≡ orElse g (short (ltb (length ws) (length vs)))
   pub words : ws′ ≡ onSuccess r (put ws 0 vs) ws
 
 -- an answer w in document 01's words, its kinds by a table, in n words
-abbrev pub Answers : {K : Type 0} → ℕ → List ℕ → List ℕ → Bool → (K → ℕ) → ℕ → Words K → Type 0
-Answers r ws ws′ lacks table n w = AnswersWith r ws ws′ lacks (w .refusal) (wordsOf table n w)
+abbrev pub Answers : {K : Type 0} → ℕ → List ℕ → List ℕ → (K → ℕ) → ℕ → Words K → Type 0
+Answers r ws ws′ table n w = AnswersWith r ws ws′ (w .refusal) (wordsOf table n w)
+
+-- the same of a call that is lent a state, which lacks bytes or not; g is the ground that needs none
+abbrev pub StateAnswers : {K : Type 0} → ℕ → List ℕ → List ℕ → ℕ → Bool → (K → ℕ) → ℕ → Words K → Type 0
+StateAnswers r ws ws′ g lacks table n w = AnswersWith r ws ws′ (stateLadder g lacks (w .refusal)) (wordsOf table n w)
 
 -- a writer: g is its own ground and bs are its bytes. The output l becomes l′, and the words say how many bytes were
--- written
-pub record AnswersWriting (r : ℕ) (ws ws′ l l′ : List ℕ) (lacks : Bool) (g : ℕ) (bs : List ℕ) : Type 0 where
-  pub returns : r ≡ codeOf (lacks || ltb (length ws) 1) (writeRefusal g l 0 bs)
+-- written. An output that is too short and too few words are the last
+pub record AnswersWriting (r : ℕ) (ws ws′ l l′ : List ℕ) (g : ℕ) (bs : List ℕ) : Type 0 where
+  pub returns : r ≡ orElse (writeRefusal g l 0 bs) (short (ltb (length ws) 1))
   pub words : ws′ ≡ onSuccess r (put ws 0 (length bs ∷ [])) ws
   pub output : l′ ≡ onSuccess r (put l 0 bs) l
 
@@ -64,21 +90,39 @@ pub record AnswersWriting (r : ℕ) (ws ws′ l l′ : List ℕ) (lacks : Bool) 
 
 -- a refusal changes no word and no byte of an output, whatever the function
 pub record RefusalChangesNothing : Type 0 where
-  pub words : (r : ℕ) (ws ws′ : List ℕ) (lacks : Bool) (g : ℕ) (vs : List ℕ) → AnswersWith r ws ws′ lacks g vs
-      → (r ≡ 0 → ⊥) → ws′ ≡ ws
-  pub writing : (r : ℕ) (ws ws′ l l′ : List ℕ) (lacks : Bool) (g : ℕ) (bs : List ℕ)
-      → AnswersWriting r ws ws′ l l′ lacks g bs → (r ≡ 0 → ⊥)
+  pub words : (r : ℕ) (ws ws′ : List ℕ) (g : ℕ) (vs : List ℕ) → AnswersWith r ws ws′ g vs → (r ≡ 0 → ⊥) → ws′ ≡ ws
+  pub writing : (r : ℕ) (ws ws′ l l′ : List ℕ) (g : ℕ) (bs : List ℕ) → AnswersWriting r ws ws′ l l′ g bs
+      → (r ≡ 0 → ⊥)
       → (ws′ ≡ ws) × (l′ ≡ l)
 
 -- a success lays all of its words and changes none behind them; what is written stands in front, and nothing behind
 -- it changes
 pub record SuccessLaysItsWords : Type 0 where
-  pub words : (r : ℕ) (ws ws′ : List ℕ) (lacks : Bool) (g : ℕ) (vs : List ℕ) → AnswersWith r ws ws′ lacks g vs → r ≡ 0
+  pub words : (r : ℕ) (ws ws′ : List ℕ) (g : ℕ) (vs : List ℕ) → AnswersWith r ws ws′ g vs → r ≡ 0
       → ws′ ≡ vs ++ drop (length vs) ws
-  pub writing : (r : ℕ) (ws ws′ l l′ : List ℕ) (lacks : Bool) (g : ℕ) (bs : List ℕ)
-      → AnswersWriting r ws ws′ l l′ lacks g bs → r ≡ 0
+  pub writing : (r : ℕ) (ws ws′ l l′ : List ℕ) (g : ℕ) (bs : List ℕ) → AnswersWriting r ws ws′ l l′ g bs → r ≡ 0
       → (ws′ ≡ length bs ∷ drop 1 ws) × (l′ ≡ bs ++ drop (length bs) l)
+
+-- 41 comes behind every other ground for words and for an output, and for a state behind those that need none
+pub record ShortIsLast : Type 0 where
+  pub words : (r : ℕ) (ws ws′ : List ℕ) (g : ℕ) (vs : List ℕ) → AnswersWith r ws ws′ g vs → (g ≡ 0 → ⊥) → r ≡ g
+  pub writing : (r : ℕ) (ws ws′ l l′ : List ℕ) (g : ℕ) (bs : List ℕ) → AnswersWriting r ws ws′ l l′ g bs
+      → (g ≡ 0 → ⊥) → r ≡ g
+  pub state : (r : ℕ) (ws ws′ : List ℕ) (g : ℕ) (lacks : Bool) (h : ℕ) (vs : List ℕ)
+      → AnswersWith r ws ws′ (stateLadder g lacks h) vs → (g ≡ 0 → ⊥) → r ≡ g
 
 pub record HostPromises : Type 0 where
   pub refusal-changes-nothing : RefusalChangesNothing
   pub success-lays-its-words : SuccessLaysItsWords
+  pub short-is-last : ShortIsLast
+
+-- ---- for helpers alone: no exported function promises it
+
+-- a refusal g by a state that is too short: those up to `last` need no state, and come before 41
+unfoldable pub behindStateless : Bool → ℕ → ℕ → ℕ
+behindStateless lacks last g =
+    if lacks then (if eqb g 0 then outputShort else if ltb last g then outputShort else g) else g
+
+-- from where on an output of n bytes is lent to a writer: nothing of it where other lent memory is too short
+unfoldable pub lentFrom : Bool → ℕ → ℕ
+lentFrom lacks n = if lacks then n else 0

@@ -1,8 +1,8 @@
--- The laws that the functions' proofs need, for `search`.
+-- The laws that the functions' proofs need, for `search`: one set for each task.
 use borrow.Author.Needs.{needs}
-use mathlib.Core.Path.{refl}
-use Rattle.host_capture.proofs.ReadingLaws.{stage-byte, stage-settings, stage-records, stage-done, stage-refused, tally-read, reading-read, tally-put, still-room, rest-laid, rest-refused, rest-short, rest-kept, code-short, code-room, reading-kept, reading-promises}
+use Rattle.host_answers.proofs.AnswerLaws.{has-room}
+use Rattle.host_capture.proofs.ReadingLaws.{byte-settings, byte-records, byte-done, byte-refused, open-settings, open-records, over-done, over-refused, stage-records, stage-settings, stage-done, stage-refused, tally-read, refused-start, reading-short, reading-read, receiver-within, counts-put, receiver-put, still-room, reading-lays, reading-not, reading-laid, reading-promises}
 
-pub ruleset stages = (stage-byte, stage-settings, stage-records, stage-done, stage-refused, refl, needs)
+pub ruleset stages = (byte-settings, byte-records, byte-done, byte-refused, open-settings, open-records, over-done, over-refused, stage-records, stage-settings, stage-done, stage-refused, needs)
 
-pub ruleset readings = (tally-read, reading-read, tally-put, still-room, rest-laid, rest-refused, rest-short, rest-kept, code-short, code-room, reading-kept, reading-promises, needs)
+pub ruleset readings = (tally-read, refused-start, reading-short, reading-read, receiver-within, counts-put, receiver-put, still-room, reading-lays, reading-not, reading-laid, reading-promises, has-room, needs)

@@ -1,37 +1,47 @@
-// A reading of a capture, as a host keeps it. Its bytes begin with those of its receiver.
+// A reading of a capture, as a host keeps it. The bytes of its receiver stand in it, and are a receiver's.
 use capture::reading::Reading;
 use capture::reading::Stage;
 use capture_records::records::MOST_RECORDS;
 use capture_tally::report::Report;
 use capture_tally::tally::Tally;
-use host_answers::FLAG_SIZE;
+use host_states::CODE_AT;
+use host_states::CODE_SIZE;
+use host_states::PHASE_SIZE;
+use host_states::READING;
+use host_states::little;
+use receiver::receiver::Receiver;
 use wire::kinds::ByteOffset;
-use wire::number;
 use wire::output;
 use wire::parts;
 ghost use mathlib.Core.Path.{_≡_};
 ghost use Prim.Native.Nat.{_≤_, min};
+ghost use mathlib.Core.List.{[], _∷_};
+ghost use mathlib.Core.Bool.{not};
 ghost use lib.ListN.{length};
 ghost use lib.Dec.{ltb};
-ghost use Rattle.wire.specs.Bytes.{bytes};
 ghost use Rattle.wire.specs.Output.{put};
 ghost use Rattle.capture_records.specs.Records.{mostRecords};
 ghost use Rattle.capture_tally.specs.Tally.{tally};
-ghost use Rattle.host_answers.specs.Answers.{codeOf};
-ghost use Rattle.host_answers.specs.States.{StatePromises};
-ghost use Rattle.host_capture.specs.Reading.{tallySize, readingSize, deliveredAt, stageOf, stageByte};
-ghost use Rattle.host_capture.specs.Reading.{tallyBytes, tallyIn, readingBytes, readingIn, KeepsReading};
-ghost use Rattle.host_capture.specs.Reading.{RestLaid, RestKept};
+ghost use Rattle.capture_tally.specs.Report.{report};
+ghost use Rattle.capture.specs.Reading.{reading, isOver};
+ghost use Rattle.host_answers.specs.Answers.{orElse, short};
+ghost use Rattle.host_states.specs.Little.{littleBytes};
+ghost use Rattle.host_states.specs.States.{Lays, StatePromises, onCode};
+ghost use Rattle.host_receiver.specs.Receiver.{receiverBytes};
+ghost use Rattle.host_capture.specs.Reading.{tallySize, receiverAt, readingSize, recordsAt, stageOf, stageByte, countBytes};
+ghost use Rattle.host_capture.specs.Reading.{tallyIn, refusedReading, readingBytes, readingIn, KeepsReading};
 
 // Bytes of a count, and of all that stands before the counts.
 const TALLY_SIZE: usize = 8;
 
-const BEFORE: usize = host_receiver::SIZE + FLAG_SIZE + TALLY_SIZE;
+const BEFORE: usize = CODE_SIZE + PHASE_SIZE + host_receiver::SIZE + TALLY_SIZE;
 
-// Its stage stands behind the receiver, then how many records were read, and its five counts.
-const STAGE_AT: ByteOffset = ByteOffset(host_receiver::SIZE);
+// Its stage stands behind its code, then its receiver, how many records were read, and its five counts.
+const STAGE_AT: ByteOffset = ByteOffset(CODE_SIZE);
 
-const RECORDS_AT: ByteOffset = ByteOffset(host_receiver::SIZE + FLAG_SIZE);
+const RECEIVER_AT: ByteOffset = ByteOffset(CODE_SIZE + PHASE_SIZE);
+
+const RECORDS_AT: ByteOffset = ByteOffset(CODE_SIZE + PHASE_SIZE + host_receiver::SIZE);
 
 const DELIVERED_AT: ByteOffset = ByteOffset(BEFORE);
 
@@ -55,16 +65,21 @@ const DONE: u8 = 3;
 
 const REFUSED: u8 = 0;
 
-// A byte that is no other stage's number is refused.
-fn stage_of(byte: u8) -> Stage
-    ensures { λ r. ⌜ r ≡ stageOf byte ⌝ }
+// What is open takes records by one stage, and settings by every other one; what isn't is done by one, and else its
+// settings are refused.
+fn stage_of(opened: bool, stage: u8) -> Stage
+    ensures { λ r. ⌜ r ≡ stageOf opened stage ⌝ }
 {
-    match byte {
-        SETTINGS => Stage::Settings,
-        RECORDS => Stage::Records,
-        DONE => Stage::Done,
-        _ => Stage::Refused,
+    if opened {
+        if stage == RECORDS {
+            return Stage::Records;
+        }
+        return Stage::Settings;
     }
+    if stage == DONE {
+        return Stage::Done;
+    }
+    Stage::Refused
 }
 
 fn stage_byte(stage: Stage) -> u8
@@ -78,6 +93,17 @@ fn stage_byte(stage: Stage) -> u8
     }
 }
 
+fn is_open(stage: Stage) -> bool
+    ensures { λ r. ⌜ r ≡ not (isOver stage) ⌝ }
+{
+    match stage {
+        Stage::Settings => true,
+        Stage::Records => true,
+        Stage::Done => false,
+        Stage::Refused => false,
+    }
+}
+
 // More records than are read count as the most.
 fn records_of(number: u64) -> u32
     ensures { λ r. ⌜ r ≡ min number mostRecords ⌝ }
@@ -88,16 +114,28 @@ fn records_of(number: u64) -> u32
     number as u32
 }
 
+// Too few bytes: settings refused, and nothing read.
+fn refused() -> Reading
+    ensures { λ r. ⌜ r ≡ refusedReading ⌝ }
+{
+    let fresh = Reading::new();
+    let report = fresh.report;
+    Reading {
+        stage: Stage::Refused,
+        report,
+    }
+}
+
 // The five counts in some bytes.
 fn read_tally(state: &[u8]) -> Tally
     ensures { λ r. ⌜ r ≡ tallyIn (now (state .entry)) ⌝ }
 {
     Tally {
-        delivered: number::be64(state, DELIVERED_AT),
-        old: number::be64(state, OLD_AT),
-        quiet: number::be64(state, QUIET_AT),
-        asked: number::be64(state, ASKED_AT),
-        refused: number::be64(state, REFUSED_AT),
+        delivered: little::get64(state, DELIVERED_AT),
+        old: little::get64(state, OLD_AT),
+        quiet: little::get64(state, QUIET_AT),
+        asked: little::get64(state, ASKED_AT),
+        refused: little::get64(state, REFUSED_AT),
     }
 }
 
@@ -105,11 +143,18 @@ fn read_tally(state: &[u8]) -> Tally
 pub fn read(state: &[u8]) -> Reading
     ensures { λ r. ⌜ r ≡ readingIn (now (state .entry)) ⌝ }
 {
+    if state.len() < SIZE {
+        return refused();
+    }
+    let receiver_at = RECEIVER_AT.0;
     Reading {
-        stage: stage_of(parts::byte(state, STAGE_AT)),
+        stage: stage_of(
+            host_states::is_open(state, READING),
+            parts::byte(state, STAGE_AT),
+        ),
         report: Report {
-            receiver: host_receiver::read(state),
-            records: records_of(number::be64(state, RECORDS_AT)),
+            receiver: host_receiver::read(&state[receiver_at..]),
+            records: records_of(little::get64(state, RECORDS_AT)),
             tally: read_tally(state),
         },
     }
@@ -117,17 +162,26 @@ pub fn read(state: &[u8]) -> Reading
 
 // Lays a count at a place, where there is room for it.
 fn put_count(state: &mut [u8], at: ByteOffset, count: u64)
-    ensures { λ _. ⌜ now (state .exit) ≡ put (now (state .entry)) (at .0) (bytes tallySize count) ⌝ }
+    ensures { λ _. ⌜ now (state .exit) ≡ put (now (state .entry)) (at .0) (littleBytes tallySize count) ⌝ }
 {
-    output::put64(state, at, count);
+    little::put64(state, at, count);
 }
 
-// Lays the five counts, where there is room for them.
-fn put_tally(state: &mut [u8], delivered: u64, old: u64, quiet: u64, asked: u64, refused: u64)
+// Lays the records and the five counts, where there is room for them.
+fn put_counts(
+    state: &mut [u8],
+    records: u64,
+    delivered: u64,
+    old: u64,
+    quiet: u64,
+    asked: u64,
+    refused: u64,
+)
     requires { ⌜ readingSize ≤ length (now state) ⌝ }
-    ensures { λ _. ⌜ now (state .exit) ≡ put (now (state .entry)) deliveredAt
-        (tallyBytes (tally delivered old quiet asked refused)) ⌝ }
+    ensures { λ _. ⌜ now (state .exit) ≡ put (now (state .entry)) recordsAt
+        (countBytes records (tally delivered old quiet asked refused)) ⌝ }
 {
+    put_count(state, RECORDS_AT, records);
     put_count(state, DELIVERED_AT, delivered);
     put_count(state, OLD_AT, old);
     put_count(state, QUIET_AT, quiet);
@@ -135,10 +189,28 @@ fn put_tally(state: &mut [u8], delivered: u64, old: u64, quiet: u64, asked: u64,
     put_count(state, REFUSED_AT, refused);
 }
 
-// Lays what follows the receiver, where there is room for it.
-fn put_rest(
+// Lays the code and the stage, where there is room for a reading.
+fn put_head(state: &mut [u8], first: u8, stage: u8)
+    requires { ⌜ readingSize ≤ length (now state) ⌝ }
+    ensures { λ _. ⌜ now (state .exit) ≡ put (now (state .entry)) 0 (first ∷ stage ∷ []) ⌝ }
+{
+    output::put_bytes(state, CODE_AT, &[first, stage]);
+}
+
+// Lays the receiver, where there is room for a reading.
+fn put_receiver(state: &mut [u8], receiver: Receiver)
+    requires { ⌜ readingSize ≤ length (now state) ⌝ }
+    ensures { λ _. ⌜ now (state .exit) ≡ put (now (state .entry)) receiverAt (receiverBytes receiver) ⌝ }
+{
+    let at = RECEIVER_AT.0;
+    host_receiver::write(&mut state[at..], 0, receiver);
+}
+
+// Lays all fields of a reading where there is room for them.
+fn put_fields(
     state: &mut [u8],
-    stage: u8,
+    stage: Stage,
+    receiver: Receiver,
     records: u32,
     delivered: u64,
     old: u64,
@@ -147,56 +219,40 @@ fn put_rest(
     refused: u64,
 )
     requires { ⌜ readingSize ≤ length (now state) ⌝ }
-    ensures { λ _. ⌜ RestLaid (now (state .entry)) (now (state .exit)) stage records
-        (tally delivered old quiet asked refused) ⌝ }
+    ensures { λ _. ⌜ Lays (now (state .entry)) (now (state .exit)) readingIn
+        (readingBytes (reading stage (report receiver records (tally delivered old quiet asked refused))))
+        (reading stage (report receiver records (tally delivered old quiet asked refused))) ⌝ }
 {
-    output::put_bytes(state, STAGE_AT, &[stage]);
-    put_count(state, RECORDS_AT, records as u64);
-    put_tally(state, delivered, old, quiet, asked, refused);
+    let first = host_states::open_byte(READING, is_open(stage));
+    put_head(state, first, stage_byte(stage));
+    put_receiver(state, receiver);
+    put_counts(state, records as u64, delivered, old, quiet, asked, refused);
 }
 
-// The code, or 41 where there is no room for a reading.
-fn code_for(code: u32, size: usize) -> u32
-    ensures { λ r. ⌜ r ≡ codeOf (ltb size readingSize) code ⌝ }
+// Lays a reading, where the code is 0 and there is room: else the code, or 41.
+pub fn write(state: &mut [u8], code: u32, reading: Reading) -> u32
+    ensures { λ r. ⌜ r ≡ orElse code (short (ltb (length (now (state .entry))) readingSize)) ⌝ }
+    ensures keeps { λ r. ⌜ KeepsReading (onCode r) (now (state .entry)) (now (state .exit)) reading ⌝ }
+    ensures promises { λ _. ⌜ StatePromises KeepsReading readingSize readingBytes ⌝ }
 {
-    if size < SIZE {
-        return host_answers::SHORT;
+    let kept = host_states::with_room(code, state.len(), SIZE);
+    if kept != 0 {
+        return kept;
     }
-    code
-}
-
-// Lays what follows the receiver, where the code is 0.
-fn lay_rest(state: &mut [u8], code: u32, stage: u8, records: u32, tally: Tally)
-    ensures { λ _. ⌜ RestKept code (now (state .entry)) (now (state .exit)) stage records tally ⌝ }
-{
-    if code != 0 {
-        return;
-    }
-    if state.len() < SIZE {
-        return;
-    }
-    put_rest(
+    let stage = reading.stage;
+    let report = reading.report;
+    let receiver = report.receiver;
+    let tally = report.tally;
+    put_fields(
         state,
         stage,
-        records,
+        receiver,
+        report.records,
         tally.delivered,
         tally.old,
         tally.quiet,
         tally.asked,
         tally.refused,
     );
-}
-
-// Lays a reading, where the code is 0.
-pub fn write(state: &mut [u8], code: u32, reading: Reading)
-    ensures { λ _. ⌜ KeepsReading code (now (state .entry)) (now (state .exit)) reading ⌝ }
-    ensures promises { λ _. ⌜ StatePromises KeepsReading readingSize readingBytes ⌝ }
-{
-    let stage = reading.stage;
-    let report = reading.report;
-    let receiver = report.receiver;
-    let tally = report.tally;
-    let kept = code_for(code, state.len());
-    host_receiver::write(state, kept, receiver);
-    lay_rest(state, kept, stage_byte(stage), report.records, tally);
+    kept
 }

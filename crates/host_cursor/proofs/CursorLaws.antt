@@ -1,47 +1,85 @@
 -- A cursor laid, and read back.
 use Prim.Native.Nat.{ℕ, _+_, _^_, _≤_, _<_}
-use mathlib.Core.List.{List, _++_, append-assoc}
-use mathlib.Core.Path.{_≡_, _∙_}
+use mathlib.Core.List.{List, [], _∷_, _++_, append-assoc}
+use mathlib.Core.Bool.{Bool, true, false}
+use mathlib.Core.Path.{_≡_, refl, ap, _∙_}
 use native.Mathlib.Omega.{arith}
 use lib.ListN.{length, drop, length-append}
-use Rattle.wire.specs.Bytes.{number, bytes}
+use lib.Dec.{ltb}
+use borrow.Author.Tests.{lt-ltb, le-ltb}
 use Rattle.wire.specs.Output.{put}
-use Rattle.wire.proofs.Numbers.{length-bytes}
+use Rattle.wire.proofs.Outputs.{length-put}
 use Rattle.moldudp64_messages.specs.declared.cursor.Cursor.{Cursor}
 use Rattle.moldudp64_messages.specs.Cursor.{cursor}
-use Rattle.host_answers.specs.States.{Keeps, StatePromises}
-use Rattle.host_cursor.specs.Cursor.{cursorSize, cursorBytes, cursorIn, KeepsCursor}
-use Rattle.host_answers.proofs.StateLaws.{put-next, keeps-refused, keeps-short, keeps-laid, laid-front, number-past-field, number-in-front, state-promises}
+use Rattle.host_states.specs.Little.{little, littleBytes}
+use Rattle.host_states.specs.States.{cursorCode, isOpen, openByte, Keeps, Lays, onCode, StatePromises}
+use Rattle.host_states.proofs.LittleLaws.{length-little}
+use Rattle.host_states.proofs.StateLaws.{open-back, put-next, keeps-not, keeps-laid, laid-front, little-past-field, little-in-front, state-promises}
+use Rattle.host_cursor.specs.Cursor.{cursorSize, cursorBytes, cursorIn, noMessages, KeepsCursor}
 
-module _ (code : ℕ) (l : List ℕ) (at left : ℕ) where
-  length-cursor : length (cursorBytes (cursor at left)) ≡ cursorSize
-  unfolding cursorBytes
-  length-cursor = omega (arith, length-append (bytes 8 at) (bytes 2 left), length-bytes 8 at, length-bytes 2 left)
+-- ---- read
 
-  pub cursor-refused : (code ≡ 0 → ⊥) → Keeps code l l cursorSize cursorIn (cursorBytes (cursor at left)) (cursor at left)
-  cursor-refused z = keeps-refused code l cursorSize cursorIn _ _ length-cursor z
-
-  pub cursor-short : length l < cursorSize → Keeps code l l cursorSize cursorIn (cursorBytes (cursor at left)) (cursor at left)
-  cursor-short h = keeps-short code l cursorSize cursorIn _ _ length-cursor h
-
-  pub cursor-laid : (l₁ l₂ : List ℕ) → code ≡ 0 → cursorSize ≤ length l → l₁ ≡ put l 0 (bytes 8 at) → l₂ ≡ put l₁ 8 (bytes 2 left)
-      → at < 2 ^ 64 → left < 2 ^ 16 → Keeps code l l₂ cursorSize cursorIn (cursorBytes (cursor at left)) (cursor at left)
-  unfolding cursorIn cursorBytes
-  cursor-laid l₁ l₂ z h p q a b =
-      let laid = put-next l l₁ l₂ (bytes 8 at) (bytes 2 left) 8 (length-bytes 8 at) (omega (arith, length-bytes 2 left)) p q in
-      let front : l₂ ≡ bytes 8 at ++ (bytes 2 left ++ drop (length (cursorBytes (cursor at left))) l) =
-      laid ∙ laid-front l _ (omega (arith, length-cursor)) ∙ append-assoc (bytes 8 at) (bytes 2 left) _ in
-      let back : cursorIn l₂ ≡ cursor at left =
-      rw (front, number-in-front 8 at _ a, number-past-field (bytes 8 at) _ 8 (length-bytes 8 at) 0 2, number-in-front 2 left _ b) in
-      keeps-laid code l cursorSize cursorIn _ _ length-cursor l₂ z (record { laid = laid; back = back })
-
-pub cursor-read : (l : List ℕ) (at left : ℕ) → at ≡ number l 0 8 → left ≡ number l 8 2 → cursor at left ≡ cursorIn l
+pub cursor-short : (l : List ℕ) → length l < cursorSize → noMessages ≡ cursorIn l
 unfolding cursorIn
-cursor-read l at left a b = rw (a, b)
+cursor-short l h = rw (lt-ltb (length l) cursorSize h)
+
+pub cursor-closed : (l : List ℕ) (b : Bool) → cursorSize ≤ length l → b ≡ isOpen cursorCode l → b ≡ false → noMessages ≡ cursorIn l
+unfolding cursorIn
+cursor-closed l b h e f = rw (le-ltb (length l) cursorSize h, ← e, f)
+
+pub cursor-read : (l : List ℕ) (b : Bool) (at left : ℕ) → cursorSize ≤ length l → b ≡ isOpen cursorCode l → b ≡ true → at ≡ little l 1 8 → left ≡ little l 9 2
+    → cursor at left ≡ cursorIn l
+unfolding cursorIn
+cursor-read l b at left h e f p q = rw (le-ltb (length l) cursorSize h, ← e, f, p, q)
+
+-- ---- laid
+
+pub length-cursor : (c : Cursor) → length (cursorBytes c) ≡ cursorSize
+unfolding cursorBytes
+length-cursor c =
+    omega (arith, length-append (littleBytes 8 (c .at .0)) (littleBytes 2 (c .left .0)), length-little 8 (c .at .0), length-little 2 (c .left .0))
+
+module _ (at left : ℕ) where
+  -- its fields, one behind the other
+  cursor-fields : (b : List ℕ) → cursorBytes (cursor at left) ++ b ≡ (cursorCode ∷ []) ++ (littleBytes 8 at ++ (littleBytes 2 left ++ b))
+  unfolding cursorBytes
+  cursor-fields b = simp append-assoc
+
+  cursor-open : (b : List ℕ) → isOpen cursorCode ((cursorCode ∷ []) ++ b) ≡ true
+  unfolding openByte
+  cursor-open b = open-back cursorCode true b (omega arith)
+
+  -- it is read from them, whatever follows
+  cursor-back : (l m : List ℕ) → cursorSize ≤ length m → m ≡ cursorBytes (cursor at left) ++ l → at < 2 ^ 64 → left < 2 ^ 16 → cursorIn m ≡ cursor at left
+  unfolding cursorIn
+  cursor-back l m h e a b =
+      rw (le-ltb (length m) cursorSize h, e, cursor-fields l, cursor-open (littleBytes 8 at ++ (littleBytes 2 left ++ l)))
+      (rw (
+        little-past-field (cursorCode ∷ []) _ 1 refl 0 8,
+        little-in-front 8 at _ a,
+        little-past-field (cursorCode ∷ []) _ 1 refl 8 2,
+        little-past-field (littleBytes 8 at) _ 8 (length-little 8 at) 0 2,
+        little-in-front 2 left _ b,
+      ))
+
+  pub cursor-lays : (l l₀ l₁ l₂ : List ℕ) → cursorSize ≤ length l → l₀ ≡ put l 0 (cursorCode ∷ []) → l₁ ≡ put l₀ 1 (littleBytes 8 at)
+      → l₂ ≡ put l₁ 9 (littleBytes 2 left)
+      → at < 2 ^ 64 → left < 2 ^ 16 → Lays l l₂ cursorIn (cursorBytes (cursor at left)) (cursor at left)
+  unfolding cursorBytes
+  cursor-lays l l₀ l₁ l₂ h o p q a b =
+      let a₁ = put-next l l₀ l₁ (cursorCode ∷ []) (littleBytes 8 at) 1 refl (omega (arith, length-little 8 at)) o p in
+      let a₂ = put-next l l₁ l₂ (cursorCode ∷ littleBytes 8 at) (littleBytes 2 left) 9 (omega (arith, length-little 8 at)) (omega (arith, length-little 2 left)) a₁ q in
+      let k : length l₂ ≡ length l = ap length a₂ ∙ length-put l 0 _ in
+      record { laid = a₂; back = cursor-back _ l₂ (omega arith) (a₂ ∙ laid-front l _ (omega (arith, length-cursor (cursor at left)))) a b }
+
+-- ---- kept
+
+module _ (c : Cursor) (l : List ℕ) (r : ℕ) where
+  pub cursor-not : (r ≡ 0 → ⊥) → KeepsCursor (onCode r) l l c
+  cursor-not z = keeps-not l cursorSize cursorIn _ _ (length-cursor c) r z
+
+  pub cursor-laid : (m : List ℕ) → r ≡ 0 → Lays l m cursorIn (cursorBytes c) c → KeepsCursor (onCode r) l m c
+  cursor-laid m z p = keeps-laid l cursorSize cursorIn _ _ (length-cursor c) r m z p
 
 pub cursor-promises : StatePromises KeepsCursor cursorSize cursorBytes
 cursor-promises = state-promises cursorSize cursorIn cursorBytes
-
--- the cursor that is kept, under another name
-pub cursor-kept : (x y : Cursor) (r : ℕ) (l m : List ℕ) → x ≡ y → KeepsCursor r l m x → KeepsCursor r l m y
-cursor-kept x y r l m e k = rw (← e) k

@@ -1,2 +1,4 @@
 pub mod CursorLaws
+pub mod DatagramLaws
+pub mod CallLaws
 pub mod Rules

@@ -1,5 +1,7 @@
 -- The laws that the functions' proofs need, for `search`.
 use borrow.Author.Needs.{needs}
-use Rattle.host_receiver.proofs.ReceiverLaws.{receiver-refused, receiver-short, receiver-laid, receiver-lays, receiver-read, receiver-promises}
+use mathlib.Core.Path.{refl}
+use Rattle.host_answers.proofs.AnswerLaws.{has-room}
+use Rattle.host_receiver.proofs.ReceiverLaws.{receiver-short, receiver-read, name-within, receiver-lays, receiver-not, receiver-laid, receiver-promises}
 
-pub ruleset receivers = (receiver-refused, receiver-short, receiver-laid, receiver-lays, receiver-read, receiver-promises, needs)
+pub ruleset receivers = (receiver-short, receiver-read, name-within, receiver-lays, receiver-not, receiver-laid, has-room, receiver-promises, refl, needs)

@@ -1,32 +1,35 @@
--- A receiver as bytes: its session's name, its number, its asking limit, and whether it has ended.
+-- A receiver as bytes: its code while it isn't ended, its session's name, its number, and its asking limit.
 use Prim.Native.Nat.{ℕ, _+_}
-use mathlib.Core.List.{List, [], _∷_, _++_}
-use lib.ListN.{getD}
+use mathlib.Core.List.{List, _++_}
+use mathlib.Core.Bool.{Bool, not}
+use lib.ListN.{length, drop}
+use lib.Dec.{ltb}
+use Rattle.wire.specs.Choice.{if_then_else_}
 use Rattle.wire.specs.Bounds.{sessionSize, numberSize, countSize}
-use Rattle.wire.specs.Bytes.{number, bytes}
 use Rattle.wire.specs.Parts.{firstBytes}
 use Rattle.receiver.specs.declared.receiver.Receiver as declared
-use Rattle.receiver.specs.Receiver.{receiver}
-use Rattle.host_answers.specs.Answers.{flag}
-use Rattle.host_answers.specs.States.{Keeps, frontBytes, frontNumberAt, frontSize, flagOf, flagSize}
+use Rattle.receiver.specs.Receiver.{receiver, refusedReceiver}
+use Rattle.host_states.specs.Little.{little, littleBytes}
+use Rattle.host_states.specs.States.{receiverCode, isOpen, openByte, Keeps, nameAt, numberAt, frontSize, frontBytes}
 
 abbrev pub limitAt : ℕ
 limitAt = frontSize
 
-abbrev pub endedAt : ℕ
-endedAt = limitAt + countSize
-
 abbrev pub receiverSize : ℕ
-receiverSize = endedAt + flagSize
+receiverSize = limitAt + countSize
 
 unfoldable pub receiverBytes : declared.Receiver → List ℕ
-receiverBytes r = frontBytes (r .session) (r .next .0) ++ bytes countSize (r .limit .0) ++ (flag (r .ended) ∷ [])
+receiverBytes r =
+    frontBytes (openByte receiverCode (not (r .ended))) (r .session) (r .next .0)
+    ++ littleBytes countSize (r .limit .0)
 
--- any bytes are one
+-- any bytes are one: too few are the receiver of a refused start, and what isn't open is ended
 unfoldable pub receiverIn : List ℕ → declared.Receiver
 receiverIn l =
-    receiver (firstBytes sessionSize l) (number l frontNumberAt numberSize) (number l limitAt countSize)
-    (flagOf (getD l endedAt 0))
+    if ltb (length l) receiverSize then refusedReceiver
+    else receiver (firstBytes sessionSize (drop nameAt l)) (little l numberAt numberSize)
+    (little l limitAt countSize)
+    (not (isOpen receiverCode l))
 
-abbrev pub KeepsReceiver : ℕ → List ℕ → List ℕ → declared.Receiver → Type 0
-KeepsReceiver code l m r = Keeps code l m receiverSize receiverIn (receiverBytes r) r
+abbrev pub KeepsReceiver : Bool → List ℕ → List ℕ → declared.Receiver → Type 0
+KeepsReceiver lays l m r = Keeps lays l m receiverSize receiverIn (receiverBytes r) r

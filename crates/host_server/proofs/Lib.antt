@@ -1,2 +1,3 @@
 pub mod ServerLaws
+pub mod StepLaws
 pub mod Rules

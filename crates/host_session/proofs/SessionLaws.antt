@@ -1,60 +1,70 @@
 -- A SoupBinTCP session laid, and read back.
-use Prim.Native.Nat.{ℕ, _+_, _^_, _≤_, _<_}
+use Prim.Native.Nat.{ℕ, _^_, _≤_, _<_}
 use mathlib.Core.List.{List, [], _∷_, _++_, append-assoc}
-use mathlib.Core.Path.{_≡_, ap, _∙_}
+use mathlib.Core.Bool.{Bool, true}
+use mathlib.Core.Path.{_≡_, refl, ap, sym, _∙_}
 use native.Mathlib.Omega.{arith}
 use lib.ListN.{length, length-append}
 use Rattle.wire.specs.Bounds.{sessionSize}
-use Rattle.wire.specs.Bytes.{bytes}
 use Rattle.wire.specs.Output.{put}
-use Rattle.wire.proofs.Numbers.{length-bytes}
-use Rattle.host_answers.specs.States.{Keeps, Lays, frontBytes}
-use Rattle.host_session.specs.Session.{sessionStateSize, SessionFields, sessionFields, sessionStateBytes, sessionStateIn}
-use Rattle.host_answers.proofs.StateLaws.{front-put, put-next, length-front, keeps-refused, keeps-short, keeps-laid, laid-front, number-past-field, byte-past-field, number-in-front, name-in-front}
+use Rattle.wire.proofs.Outputs.{length-put}
+use Rattle.host_states.specs.Little.{littleBytes}
+use Rattle.host_states.specs.States.{Keeps, Lays, onCode, frontBytes}
+use Rattle.host_states.proofs.LittleLaws.{length-little}
+use Rattle.host_states.proofs.StateLaws.{put-next, length-front, keeps-not, keeps-laid, laid-front, past-field, little-past-field, byte-past-field, little-in-front, name-in-front}
+use Rattle.host_session.specs.Session.{phaseAt, sessionStateSize, SessionFields, sessionFields, sessionStateBytes, sessionStateIn}
 
-module _ (name : List ℕ) (n b : ℕ) (ten : length name ≡ sessionSize) where
-  length-session : length (sessionStateBytes (sessionFields name n b)) ≡ sessionStateSize
+module _ (first : ℕ) (name : List ℕ) (n b : ℕ) (ten : length name ≡ sessionSize) where
+  pub length-session : length (sessionStateBytes (sessionFields first name n b)) ≡ sessionStateSize
   unfolding sessionStateBytes
-  length-session = omega (arith, length-front name n ten, length-append (frontBytes name n) (b ∷ []))
+  length-session = omega (arith, length-front first name n ten, length-append (frontBytes first name n) (b ∷ []))
 
-  session-parts : (m : List ℕ) → sessionStateBytes (sessionFields name n b) ++ m ≡ name ++ (bytes 8 n ++ (b ∷ m))
+  session-parts : (m : List ℕ) → sessionStateBytes (sessionFields first name n b) ++ m ≡ first ∷ (name ++ (littleBytes 8 n ++ (b ∷ m)))
   unfolding sessionStateBytes frontBytes
   session-parts m = simp append-assoc
 
-  pub session-lays : (l l₀ l₁ l₂ : List ℕ) → sessionStateSize ≤ length l → l₀ ≡ put l 0 name → l₁ ≡ put l₀ 10 (bytes 8 n)
-      → l₂ ≡ put l₁ 18 (b ∷ []) → n < 2 ^ 64
-      → Lays l l₂ sessionStateIn (sessionStateBytes (sessionFields name n b)) (sessionFields name n b)
-  unfolding sessionStateBytes sessionStateIn
-  session-lays l l₀ l₁ l₂ h o p′ q u =
-      let p = front-put l l₀ l₁ name n (omega arith) ten o p′ in
-      let laid = put-next l l₁ l₂ (frontBytes name n) (b ∷ []) 18 (length-front name n ten) (omega arith) p q in
+  -- the fields are read from them, whatever follows
+  session-back : (m : List ℕ) → n < 256 ^ 8 → sessionStateIn (first ∷ (name ++ (littleBytes 8 n ++ (b ∷ m)))) ≡ sessionFields first name n b
+  unfolding sessionStateIn
+  session-back m u =
+      rw (
+        past-field (first ∷ []) (name ++ (littleBytes 8 n ++ (b ∷ m))) 1 refl,
+        name-in-front sessionSize name (littleBytes 8 n ++ (b ∷ m)) ten,
+        little-past-field (first ∷ []) (name ++ (littleBytes 8 n ++ (b ∷ m))) 1 refl 10 8,
+        little-past-field name (littleBytes 8 n ++ (b ∷ m)) 10 ten 0 8,
+        little-in-front 8 n (b ∷ m) u,
+        byte-past-field (first ∷ []) (name ++ (littleBytes 8 n ++ (b ∷ m))) 1 refl 18,
+        byte-past-field name (littleBytes 8 n ++ (b ∷ m)) 10 ten 8,
+        byte-past-field (littleBytes 8 n) (b ∷ m) 8 (length-little 8 n) 0,
+      )
+
+  pub session-lays : (l l₁ l₂ : List ℕ) → sessionStateSize ≤ length l → l₁ ≡ put l 0 (frontBytes first name n) → l₂ ≡ put l₁ phaseAt (b ∷ []) → n < 2 ^ 64
+      → Lays l l₂ sessionStateIn (sessionStateBytes (sessionFields first name n b)) (sessionFields first name n b)
+  unfolding sessionStateBytes
+  session-lays l l₁ l₂ h p r u =
+      let laid = put-next l l₁ l₂ (frontBytes first name n) (b ∷ []) 19 (length-front first name n ten) (omega arith) p r in
       let front = laid ∙ laid-front l _ (omega (arith, length-session)) ∙ session-parts _ in
-      record {
-        laid = laid;
-        back = rw (
-          front,
-          name-in-front sessionSize name _ ten,
-          number-past-field name _ 10 ten 0 8,
-          number-in-front 8 n _ u,
-          byte-past-field name _ 10 ten 8,
-          byte-past-field (bytes 8 n) _ 8 (length-bytes 8 n) 0,
-        );
-      }
+      record { laid = laid; back = rw front (session-back _ u) }
 
   module _ (code : ℕ) (l : List ℕ) where
-    pub session-refused : (code ≡ 0 → ⊥) → Keeps code l l sessionStateSize sessionStateIn (sessionStateBytes (sessionFields name n b)) (sessionFields name n b)
-    session-refused z = keeps-refused code l sessionStateSize sessionStateIn _ _ length-session z
+    pub session-not : (code ≡ 0 → ⊥) → Keeps (onCode code) l l sessionStateSize sessionStateIn (sessionStateBytes (sessionFields first name n b)) (sessionFields first name n b)
+    session-not z = keeps-not l sessionStateSize sessionStateIn _ _ length-session code z
 
-    pub session-short : length l < sessionStateSize → Keeps code l l sessionStateSize sessionStateIn (sessionStateBytes (sessionFields name n b)) (sessionFields name n b)
-    session-short h = keeps-short code l sessionStateSize sessionStateIn _ _ length-session h
+    pub session-laid : (m : List ℕ) → code ≡ 0 → Lays l m sessionStateIn (sessionStateBytes (sessionFields first name n b)) (sessionFields first name n b)
+        → Keeps (onCode code) l m sessionStateSize sessionStateIn (sessionStateBytes (sessionFields first name n b)) (sessionFields first name n b)
+    session-laid m z p = keeps-laid l sessionStateSize sessionStateIn _ _ length-session code m z p
 
-    pub session-laid : (m : List ℕ) → code ≡ 0 → Lays l m sessionStateIn (sessionStateBytes (sessionFields name n b)) (sessionFields name n b)
-        → Keeps code l m sessionStateSize sessionStateIn (sessionStateBytes (sessionFields name n b)) (sessionFields name n b)
-    session-laid m z p = keeps-laid code l sessionStateSize sessionStateIn _ _ length-session m z p
-
--- a session of either end, which its three fields make
-pub end-kept : {S : Type 0} (code : ℕ) (l m : List ℕ) (reads : List ℕ → S) (made : SessionFields → S) (f : SessionFields) (x : S)
-    → ((n : List ℕ) → reads n ≡ made (sessionStateIn n)) → made f ≡ x → Keeps code l m sessionStateSize sessionStateIn (sessionStateBytes f) f
-    → Keeps code l m sessionStateSize reads (sessionStateBytes f) x
-end-kept code l m reads made f x r e k =
-    record { fits = k .fits; leaves = k .leaves; reads-back = λ z h. r m ∙ ap made (k .reads-back z h) ∙ e }
+-- a session of either end, which its four fields make where there are enough bytes
+pub end-kept : {S : Type 0} (lays : Bool) (l m : List ℕ) (reads : List ℕ → S) (made : SessionFields → S) (f : SessionFields) (x : S)
+    → ((n : List ℕ) → sessionStateSize ≤ length n → reads n ≡ made (sessionStateIn n)) → made f ≡ x
+    → Keeps lays l m sessionStateSize sessionStateIn (sessionStateBytes f) f
+    → Keeps lays l m sessionStateSize reads (sessionStateBytes f) x
+end-kept lays l m reads made f x r e k =
+    record {
+      fits = k .fits;
+      leaves = k .leaves;
+      reads-back = λ z h. r m (rw (as-long z) h) ∙ ap made (k .reads-back z h) ∙ e;
+    }
+  where
+    as-long : lays ≡ true → length m ≡ length l
+    as-long z = ap length (k .leaves) ∙ rw z (length-put l 0 (sessionStateBytes f))

@@ -1,31 +1,34 @@
--- A SoupBinTCP session as bytes, at either end: its session's name, its number, and its phase.
+-- A SoupBinTCP session as bytes, at either end: its code while it is open, its session's name, its number, its phase.
 use Prim.Native.Nat.{ℕ, _+_}
 use mathlib.Core.List.{List, [], _∷_, _++_}
-use lib.ListN.{getD}
+use lib.ListN.{getD, drop}
 use Rattle.wire.specs.Bounds.{sessionSize, numberSize}
-use Rattle.wire.specs.Bytes.{number}
 use Rattle.wire.specs.Parts.{firstBytes}
-use Rattle.host_answers.specs.States.{frontBytes, frontNumberAt, frontSize, flagSize}
+use Rattle.host_states.specs.Little.{little}
+use Rattle.host_states.specs.States.{nameAt, numberAt, frontSize, frontBytes, phaseSize}
 
 -- where its phase stands, and the bytes of the whole
 abbrev pub phaseAt : ℕ
 phaseAt = frontSize
 
 abbrev pub sessionStateSize : ℕ
-sessionStateSize = phaseAt + flagSize
+sessionStateSize = phaseAt + phaseSize
 
--- the three fields
+-- the four fields
 pub record SessionFields : Type 0 where
+  pub first : ℕ
   pub name : List ℕ
   pub num : ℕ
   pub phase : ℕ
 
-abbrev pub sessionFields : List ℕ → ℕ → ℕ → SessionFields
-sessionFields name n b = record { name = name; num = n; phase = b }
+abbrev pub sessionFields : ℕ → List ℕ → ℕ → ℕ → SessionFields
+sessionFields first name n b = record { first = first; name = name; num = n; phase = b }
 
 unfoldable pub sessionStateBytes : SessionFields → List ℕ
-sessionStateBytes s = frontBytes (s .name) (s .num) ++ (s .phase ∷ [])
+sessionStateBytes s = frontBytes (s .first) (s .name) (s .num) ++ (s .phase ∷ [])
 
 -- any bytes have them
 unfoldable pub sessionStateIn : List ℕ → SessionFields
-sessionStateIn l = sessionFields (firstBytes sessionSize l) (number l frontNumberAt numberSize) (getD l phaseAt 0)
+sessionStateIn l =
+    sessionFields (getD l 0 0) (firstBytes sessionSize (drop nameAt l)) (little l numberAt numberSize)
+    (getD l phaseAt 0)

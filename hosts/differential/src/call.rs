@@ -99,7 +99,14 @@ pub enum Call<'a> {
         session: &'a [u8],
         last: u64,
     },
+    ServerSetLast {
+        last: u64,
+    },
     ServerStep {
+        accounts: &'a [u8],
+        stream: &'a [u8],
+    },
+    ServerReply {
         accounts: &'a [u8],
         stream: &'a [u8],
     },
@@ -161,7 +168,9 @@ impl<'a> Call<'a> {
             SoupWriteClientHeartbeat => "soup_write_client_heartbeat",
             SoupWriteLogout => "soup_write_logout",
             ServerStart { .. } => "server_start",
+            ServerSetLast { .. } => "server_set_last",
             ServerStep { .. } => "server_step",
+            ServerReply { .. } => "server_reply",
             ClientStart { .. } => "client_start",
             ClientStep { .. } => "client_step",
             CaptureStart => "capture_start",
@@ -251,7 +260,8 @@ impl<'a> Call<'a> {
             ServerStart { session, last } => {
                 vec![("session", Bytes(session)), ("last", Number(last))]
             }
-            ServerStep { accounts, stream } => {
+            ServerSetLast { last } => vec![("last", Number(last))],
+            ServerStep { accounts, stream } | ServerReply { accounts, stream } => {
                 vec![("accounts", Bytes(accounts)), ("stream", Bytes(stream))]
             }
             ClientStep { stream } => vec![("stream", Bytes(stream))],

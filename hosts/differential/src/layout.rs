@@ -7,12 +7,33 @@ use crate::reference::receiver::Receiver;
 use crate::reference::session::{Client, ClientState, Server, ServerState};
 use crate::reference::Name;
 
-pub const CURSOR: usize = 10;
+pub const CURSOR: usize = 11;
 pub const RECEIVER: usize = 21;
-pub const SERVER: usize = 19;
-pub const CLIENT: usize = 19;
-pub const CAPTURE: usize = 70;
+pub const SERVER: usize = 20;
+pub const CLIENT: usize = 20;
+pub const CAPTURE: usize = 71;
 pub const ACCOUNT: usize = 16;
+
+/// The first byte of each kind's state while it is open. No two are the same, and none is 0.
+pub const CURSOR_CODE: u8 = 0xE1;
+pub const RECEIVER_CODE: u8 = 0xE2;
+pub const SERVER_CODE: u8 = 0xE3;
+pub const CLIENT_CODE: u8 = 0xE4;
+pub const CAPTURE_CODE: u8 = 0xE5;
+pub const CODES: [u8; 5] = [
+    CURSOR_CODE,
+    RECEIVER_CODE,
+    SERVER_CODE,
+    CLIENT_CODE,
+    CAPTURE_CODE,
+];
+
+/// Where the parts stand that are made by hand: a session's phase, a reading's stage, its receiver, and how many
+/// records it read.
+pub const PHASE: usize = 19;
+pub const STAGE: usize = 1;
+pub const CAPTURE_RECEIVER: usize = 2;
+pub const RECORDS: usize = 23;
 
 /// A place in a datagram, and how many messages are left from there.
 #[derive(Clone, Copy, Debug, PartialEq, Eq)]
@@ -31,125 +52,162 @@ impl Cursor {
     }
 }
 
-fn name(bytes: &[u8]) -> Name {
-    bytes[..10].try_into().expect("ten bytes")
+/// As many bytes as a state has. One that lacks some is refused, but what it lacks is looked at first: then it is all
+/// zeros, which is never open.
+fn whole<const N: usize>(bytes: &[u8]) -> [u8; N] {
+    bytes.get(..N).map_or([0; N], |bytes| array(bytes, 0))
+}
+
+fn array<const N: usize>(bytes: &[u8], at: usize) -> [u8; N] {
+    bytes[at..at + N].try_into().expect("so many bytes")
 }
 
 fn number64(bytes: &[u8], at: usize) -> u64 {
-    u64::from_be_bytes(bytes[at..at + 8].try_into().expect("eight bytes"))
+    u64::from_le_bytes(array(bytes, at))
 }
 
 fn number16(bytes: &[u8], at: usize) -> u16 {
-    u16::from_be_bytes([bytes[at], bytes[at + 1]])
+    u16::from_le_bytes(array(bytes, at))
 }
 
-pub fn cursor(bytes: &[u8]) -> Cursor {
-    Cursor {
-        place: number64(bytes, 0),
-        left: number16(bytes, 8),
+/// The first byte that is laid: 0 for a state that isn't open.
+fn code(code: u8, open: bool) -> u8 {
+    if open {
+        code
+    } else {
+        0
     }
+}
+
+/// What isn't open has no place, and no messages left.
+pub fn cursor(bytes: &[u8]) -> Option<Cursor> {
+    let bytes = whole::<CURSOR>(bytes);
+    (bytes[0] == CURSOR_CODE).then(|| Cursor {
+        place: number64(&bytes, 1),
+        left: number16(&bytes, 9),
+    })
 }
 
 pub fn cursor_bytes(cursor: Cursor) -> Vec<u8> {
     [
-        &cursor.place.to_be_bytes()[..],
-        &cursor.left.to_be_bytes()[..],
+        &[CURSOR_CODE][..],
+        &cursor.place.to_le_bytes(),
+        &cursor.left.to_le_bytes(),
     ]
     .concat()
 }
 
+/// What isn't open is ended; its session and its numbers still count.
 pub fn receiver(bytes: &[u8]) -> Receiver {
+    let bytes = whole::<RECEIVER>(bytes);
     Receiver {
-        session: name(bytes),
-        next: number64(bytes, 10),
-        limit: number16(bytes, 18),
-        ended: bytes[20] != 0,
+        session: array(&bytes, 1),
+        next: number64(&bytes, 11),
+        limit: number16(&bytes, 19),
+        ended: bytes[0] != RECEIVER_CODE,
     }
 }
 
 pub fn receiver_bytes(receiver: &Receiver) -> Vec<u8> {
-    let mut bytes = receiver.session.to_vec();
-    bytes.extend_from_slice(&receiver.next.to_be_bytes());
-    bytes.extend_from_slice(&receiver.limit.to_be_bytes());
-    bytes.push(u8::from(receiver.ended));
-    bytes
+    [
+        &[code(RECEIVER_CODE, !receiver.ended)][..],
+        &receiver.session,
+        &receiver.next.to_le_bytes(),
+        &receiver.limit.to_le_bytes(),
+    ]
+    .concat()
 }
 
+/// What is open is in by phase 2, and waiting by every other one.
 pub fn server(bytes: &[u8]) -> Server {
+    let bytes = whole::<SERVER>(bytes);
     Server {
-        session: name(bytes),
-        last: number64(bytes, 10),
-        state: match bytes[18] {
-            1 => ServerState::Waiting,
-            2 => ServerState::In,
-            _ => ServerState::Closed,
+        session: array(&bytes, 1),
+        last: number64(&bytes, 11),
+        state: match (bytes[0] == SERVER_CODE, bytes[PHASE]) {
+            (true, 2) => ServerState::In,
+            (true, _) => ServerState::Waiting,
+            (false, _) => ServerState::Closed,
         },
     }
 }
 
 pub fn server_bytes(server: &Server) -> Vec<u8> {
-    let mut bytes = server.session.to_vec();
-    bytes.extend_from_slice(&server.last.to_be_bytes());
-    bytes.push(match server.state {
+    let phase = match server.state {
         ServerState::Waiting => 1,
         ServerState::In => 2,
         ServerState::Closed => 0,
-    });
-    bytes
+    };
+    let first = code(SERVER_CODE, server.state != ServerState::Closed);
+    session_bytes(first, &server.session, server.last, phase)
 }
 
+/// What both ends of a session have.
+fn session_bytes(first: u8, session: &Name, number: u64, phase: u8) -> Vec<u8> {
+    [&[first][..], session, &number.to_le_bytes(), &[phase]].concat()
+}
+
+/// What is open is in by phase 2, and has asked by every other one; what isn't is ended by phase 3, and else closed.
 pub fn client(bytes: &[u8]) -> Client {
+    let bytes = whole::<CLIENT>(bytes);
     Client {
-        session: name(bytes),
-        number: number64(bytes, 10),
-        state: match bytes[18] {
-            1 => ClientState::Asked,
-            2 => ClientState::In,
-            3 => ClientState::Ended,
-            _ => ClientState::Closed,
+        session: array(&bytes, 1),
+        number: number64(&bytes, 11),
+        state: match (bytes[0] == CLIENT_CODE, bytes[PHASE]) {
+            (true, 2) => ClientState::In,
+            (true, _) => ClientState::Asked,
+            (false, 3) => ClientState::Ended,
+            (false, _) => ClientState::Closed,
         },
     }
 }
 
 pub fn client_bytes(client: &Client) -> Vec<u8> {
-    let mut bytes = client.session.to_vec();
-    bytes.extend_from_slice(&client.number.to_be_bytes());
-    bytes.push(match client.state {
-        ClientState::Asked => 1,
-        ClientState::In => 2,
-        ClientState::Ended => 3,
-        ClientState::Closed => 0,
-    });
-    bytes
+    let (open, phase) = match client.state {
+        ClientState::Asked => (true, 1),
+        ClientState::In => (true, 2),
+        ClientState::Ended => (false, 3),
+        ClientState::Closed => (false, 0),
+    };
+    session_bytes(
+        code(CLIENT_CODE, open),
+        &client.session,
+        client.number,
+        phase,
+    )
 }
 
+/// What is open takes records by stage 2, and settings by every other one; what isn't is done by stage 3, and else its
+/// settings are refused.
 pub fn capture(bytes: &[u8]) -> Capture {
-    let records = number64(bytes, 22).min(u64::from(MOST_RECORDS));
+    let bytes = whole::<CAPTURE>(bytes);
+    let records = number64(&bytes, RECORDS).min(u64::from(MOST_RECORDS));
     Capture {
-        receiver: receiver(bytes),
-        stage: match bytes[21] {
-            1 => Stage::Settings,
-            2 => Stage::Records,
-            3 => Stage::Done,
-            _ => Stage::SettingsRefused,
+        receiver: receiver(&bytes[CAPTURE_RECEIVER..]),
+        stage: match (bytes[0] == CAPTURE_CODE, bytes[STAGE]) {
+            (true, 2) => Stage::Records,
+            (true, _) => Stage::Settings,
+            (false, 3) => Stage::Done,
+            (false, _) => Stage::SettingsRefused,
         },
         records: records as u32,
-        delivered: number64(bytes, 30),
-        old: number64(bytes, 38),
-        quiet: number64(bytes, 46),
-        asked: number64(bytes, 54),
-        refused: number64(bytes, 62),
+        delivered: number64(&bytes, 31),
+        old: number64(&bytes, 39),
+        quiet: number64(&bytes, 47),
+        asked: number64(&bytes, 55),
+        refused: number64(&bytes, 63),
     }
 }
 
 pub fn capture_bytes(capture: &Capture) -> Vec<u8> {
-    let mut bytes = receiver_bytes(&capture.receiver);
-    bytes.push(match capture.stage {
-        Stage::Settings => 1,
-        Stage::Records => 2,
-        Stage::Done => 3,
-        Stage::SettingsRefused => 0,
-    });
+    let (open, stage) = match capture.stage {
+        Stage::Settings => (true, 1),
+        Stage::Records => (true, 2),
+        Stage::Done => (false, 3),
+        Stage::SettingsRefused => (false, 0),
+    };
+    let mut bytes = vec![code(CAPTURE_CODE, open), stage];
+    bytes.extend(receiver_bytes(&capture.receiver));
     let numbers = [
         u64::from(capture.records),
         capture.delivered,
@@ -159,7 +217,7 @@ pub fn capture_bytes(capture: &Capture) -> Vec<u8> {
         capture.refused,
     ];
     for number in numbers {
-        bytes.extend_from_slice(&number.to_be_bytes());
+        bytes.extend_from_slice(&number.to_le_bytes());
     }
     bytes
 }

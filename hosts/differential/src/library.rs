@@ -130,7 +130,11 @@ fn exported(call: &Call, words: &mut [u64], out: &mut [u8], state: &mut [u8]) ->
         Call::SoupWriteClientHeartbeat => raw::soup_write_client_heartbeat(out, words),
         Call::SoupWriteLogout => raw::soup_write_logout(out, words),
         Call::ServerStart { session, last } => raw::server_start(session, last, state),
+        Call::ServerSetLast { last } => raw::server_set_last(state, last),
         Call::ServerStep { accounts, stream } => raw::server_step(state, accounts, stream, words),
+        Call::ServerReply { accounts, stream } => {
+            raw::server_reply(state, accounts, stream, out, words)
+        }
         Call::ClientStart { session, number } => raw::client_start(session, number, state),
         Call::ClientStep { stream } => raw::client_step(state, stream, words),
         Call::CaptureStart => raw::capture_start(state),

@@ -68,6 +68,8 @@ impl<'l> Run<'l> {
         let code = self.library.call(call, lent);
         self.inputs += 1;
         self.coverage.note(call.function(), expected.outcome);
+        let grounds = compare::grounds::of(call, &before);
+        self.coverage.note_grounds(call.function(), &grounds);
         let difference = compare::difference(call, &copy, &expected, &before, code, lent);
         if let Some(difference) = difference {
             self.fail(&difference);

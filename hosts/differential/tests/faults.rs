@@ -50,6 +50,34 @@ const HANDLING: &[(&str, Fault)] = &[
         }
     }),
     (
+        "a step that needs more tidies the state",
+        |call, _, code, after| {
+            let stepped = matches!(call, Call::ClientStep { .. }) && *code == 0;
+            if stepped && after.words[0] == 0 && after.state[0] != 0xE4 {
+                after.state[0] = 0;
+            }
+        },
+    ),
+    (
+        "a feed of nothing tidies the state",
+        |call, _, code, after| {
+            let fed = matches!(call, Call::CaptureFeed { .. }) && *code == 0;
+            if fed && after.words[..2] == [0, 0] {
+                let stage = if after.state[1] == 2 { 2 } else { 1 };
+                after.state[1] = stage;
+            }
+        },
+    ),
+    (
+        "a cursor is laid where no message is there",
+        |call, _, code, after| {
+            let moved = matches!(call, Call::MoldNext { .. }) && *code == 0;
+            if moved && after.words[0] == 0 && after.state[0] != 0xE1 {
+                after.state[..11].copy_from_slice(&[0xE1, 0, 0, 0, 0, 0, 0, 0, 0, 0, 0]);
+            }
+        },
+    ),
+    (
         "a refused start closes the state",
         |call, _, code, after| {
             if *code == 19 && call.function().ends_with("start") {
@@ -82,8 +110,8 @@ const HANDLING: &[(&str, Fault)] = &[
 
 /// How far a datagram lies ahead of a receiver.
 fn ahead(datagram: &[u8], state: &[u8]) -> u64 {
-    let number = |bytes: &[u8]| u64::from_be_bytes(bytes[10..18].try_into().expect("eight bytes"));
-    number(datagram) - number(state)
+    let next = u64::from_le_bytes(state[11..19].try_into().expect("eight bytes"));
+    u64::from_be_bytes(datagram[10..18].try_into().expect("eight bytes")) - next
 }
 
 /// Takes back an answer, and gives a refusal instead.
@@ -149,7 +177,7 @@ const RULES: &[(&str, Fault)] = &[
         if let Call::ReceiverTake { datagram } = call {
             if *code == 0 && after.words[0] == 4 && datagram[18..20] == [0xFF; 2] {
                 after.words[..4].copy_from_slice(&[5, 0, 0, 0]);
-                after.state[20] = 1;
+                after.state[0] = 0;
             }
         }
     }),
@@ -199,7 +227,7 @@ const RULES: &[(&str, Fault)] = &[
         "a full account table is refused",
         |call, before, code, after| {
             if let Call::ServerStep { accounts, .. } = call {
-                if *code != 41 && accounts.len() / 16 == 1_024 {
+                if accounts.len() / 16 == 1_024 {
                     refuse(19, before, code, after);
                 }
             }
@@ -215,6 +243,79 @@ const RULES: &[(&str, Fault)] = &[
             }
         },
     ),
+    (
+        "too few words come before every other ground",
+        |call, before, code, after| {
+            if before.words.len() < fixed_sizes(call).0 {
+                refuse(41, before, code, after);
+            }
+        },
+    ),
+    (
+        "a short state comes before a bad datagram",
+        |call, before, code, after| {
+            let taken = matches!(call, Call::ReceiverTake { .. });
+            if taken && before.state.len() < fixed_sizes(call).1 {
+                refuse(41, before, code, after);
+            }
+        },
+    ),
+    (
+        "a short server comes before a number too high",
+        |call, before, code, after| {
+            let moved = matches!(call, Call::ServerSetLast { .. });
+            if moved && before.state.len() < fixed_sizes(call).1 {
+                refuse(41, before, code, after);
+            }
+        },
+    ),
+    (
+        "a name that is too long is cut",
+        |call, before, code, after| {
+            if let Call::ServerStart { session, last } = *call {
+                let session = session.get(..10).unwrap_or(session);
+                after.clone_from(before);
+                *code = StandIn.call(&Call::ServerStart { session, last }, after);
+            }
+        },
+    ),
+    (
+        "a server of any first byte is open",
+        |call, before, code, after| {
+            if let Call::ServerStep { .. } = call {
+                let mut open = before.clone();
+                if let (Some(first), Some(1 | 2)) = (open.state.first_mut(), before.state.get(19)) {
+                    *first = 0xE3;
+                }
+                *code = StandIn.call(call, &mut open);
+                if *code != 0 {
+                    open.clone_from(before);
+                }
+                after.clone_from(&open);
+            }
+        },
+    ),
+    (
+        "a reply that has no room is a step all the same",
+        |call, before, code, after| {
+            if let Call::ServerReply { accounts, stream } = *call {
+                if *code == 41 && before.state.len() >= 20 {
+                    let mut stepped = before.clone();
+                    StandIn.call(&Call::ServerStep { accounts, stream }, &mut stepped);
+                    after.state = stepped.state;
+                }
+            }
+        },
+    ),
+    ("a last number falls", |call, before, code, after| {
+        if let Call::ServerSetLast { last } = call {
+            if *code == 19 && *last < u64::MAX {
+                *code = 0;
+                after.clone_from(before);
+                after.state[11..19].copy_from_slice(&last.to_le_bytes());
+            }
+        }
+    }),
 ];
 
 fn is_caught(fault: Fault) -> bool {
@@ -232,11 +333,13 @@ fn every_fault_is_caught() {
     // A fault that is caught is no failure: its panic isn't to be printed.
     let hook = take_hook();
     set_hook(Box::new(|_| {}));
+    let without = is_caught(|_, _, _, _| {});
     let all = HANDLING.iter().chain(RULES);
     let missed: Vec<&str> = all
         .filter(|(_, fault)| !is_caught(*fault))
         .map(|(name, _)| *name)
         .collect();
     set_hook(hook);
+    assert!(!without, "a stand-in without a fault is caught");
     assert_eq!(missed, Vec::<&str>::new());
 }

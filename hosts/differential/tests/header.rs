@@ -1,47 +1,43 @@
-//! The list of outcomes against the header: it has the functions that are declared there, and of each the refusals in their order.
+//! The list of outcomes against the header: it has the functions that are declared there, and of each the refusals in
+//! their order.
 
+use differential::compare::grounds::number;
 use differential::coverage;
 
 const HEADER: &str = include_str!("../../../include/eiderwagon.h");
 
-/// The functions of the header, each with the numbers behind "refusals:" in the comment before it.
+/// The functions of the header that refuse something, each with the numbers behind "refusals:" in the comment before
+/// it.
 fn declared() -> Vec<(&'static str, Vec<u32>)> {
     let declarations = HEADER.split("uint32_t eiderwagon_");
     let comments = declarations.clone().map(refusals_of);
     let names = declarations
         .skip(1)
         .map(|text| text.split('(').next().expect("a name"));
-    names.zip(comments).collect()
-}
-
-/// The numbers of the last list of refusals in a text.
-fn refusals_of(text: &str) -> Vec<u32> {
-    let list = text.rsplit("refusals:").next().expect("a list");
-    let sentence = list.split(['.', '*']).next().expect("its numbers");
-    sentence
-        .split(',')
-        .map(|number| number.trim().parse().expect("a refusal's number"))
-        .collect()
-}
-
-/// The refusals among a function's outcomes: those that begin with a number, each number once where it stands for finer kinds.
-fn listed(outcomes: &[&str]) -> Vec<u32> {
-    let mut names: Vec<&str> = outcomes
-        .iter()
-        .filter(|outcome| outcome.starts_with(|first: char| first.is_ascii_digit()))
-        .copied()
-        .collect();
-    names.dedup_by_key(|name| {
-        if name.starts_with("41") {
-            *name
-        } else {
-            &name[..2]
-        }
-    });
     names
-        .iter()
-        .map(|name| name[..2].parse().expect("a refusal's number"))
+        .zip(comments)
+        .filter_map(|(name, refusals)| Some((name, refusals?)))
         .collect()
+}
+
+/// The numbers of the last list of refusals in a text, if it has one.
+fn refusals_of(text: &str) -> Option<Vec<u32>> {
+    let (_, list) = text.rsplit_once("refusals:")?;
+    let sentence = list.split(['.', '*']).next().expect("its numbers");
+    let numbers = sentence
+        .split(',')
+        .map(|number| number.trim().parse().expect("a refusal's number"));
+    Some(numbers.collect())
+}
+
+/// The refusals among a function's outcomes, each number once where it stands for finer kinds.
+fn listed(outcomes: &[&str]) -> Vec<u32> {
+    let refusals = outcomes
+        .iter()
+        .filter(|outcome| coverage::is_refusal(outcome));
+    let mut numbers: Vec<u32> = refusals.map(|name| number(name)).collect();
+    numbers.dedup();
+    numbers
 }
 
 #[test]
@@ -49,6 +45,14 @@ fn list_has_what_the_header_names() {
     let list: Vec<(&str, Vec<u32>)> = coverage::functions()
         .map(|(function, outcomes)| (function, listed(&outcomes)))
         .collect();
-    assert_eq!(list.len(), 33);
+    assert_eq!(list.len(), 35);
     assert_eq!(list, declared());
+}
+
+/// The version refuses nothing, and so has no list.
+#[test]
+fn the_version_is_the_only_other_function() {
+    let all = HEADER.matches("uint32_t eiderwagon_").count();
+    assert_eq!(all, declared().len() + 1);
+    assert!(HEADER.contains("uint32_t eiderwagon_version(void);"));
 }

@@ -63,6 +63,16 @@ pub(crate) fn field<const N: usize>(bytes: &[u8], at: usize) -> [u8; N] {
     bytes[at..at + N].try_into().expect("a slice of N bytes")
 }
 
+/// The number of 64 bits at a place of a state, where numbers are little-endian.
+pub(crate) fn number(state: &[u8], at: usize) -> u64 {
+    u64::from_le_bytes(field(state, at))
+}
+
+/// The number of 16 bits at a place of a state.
+pub(crate) fn small_number(state: &[u8], at: usize) -> u16 {
+    u16::from_le_bytes(field(state, at))
+}
+
 /// Ends the program where the archive isn't the one that the header describes.
 pub(crate) fn unknown(word: u64) -> ! {
     panic!("libeiderwagon.a answers {word}, which this crate doesn't know: build both anew")

@@ -37,8 +37,8 @@
 //! # Ok::<(), eiderwagon::Refusal>(())
 //! ```
 
-use crate::call::{check, sure, words, written};
-use crate::{raw, Refusal};
+use crate::call::{check, field, number, small_number, sure, words, written};
+use crate::{raw, Refusal, Session};
 
 /// The report of a whole capture: eight lines, or `settings=refused` alone.
 pub fn report(capture: &[u8]) -> String {
@@ -63,6 +63,7 @@ pub fn report(capture: &[u8]) -> String {
 /// }
 /// reading.finish(&kept);
 /// assert_eq!(reading.report(), capture::report(file));
+/// assert_eq!((reading.next(), reading.counts().refused), (1, 1));
 /// ```
 #[derive(Debug, PartialEq, Eq)]
 pub struct Reading {
@@ -79,6 +80,36 @@ pub struct Fed {
     /// Whether the reading is over, so that nothing that follows changes the report. While the
     /// settings are due, fewer than 57 bytes are too few to tell.
     pub over: bool,
+}
+
+/// How far a reading is.
+#[derive(Clone, Copy, Debug, PartialEq, Eq)]
+pub enum Stage {
+    /// The settings come next.
+    Settings,
+    /// Records come next.
+    Records,
+    /// It is finished.
+    Done,
+    /// The settings were bad.
+    SettingsRefused,
+}
+
+/// What a reading has counted so far.
+#[derive(Clone, Copy, Debug, Default, PartialEq, Eq)]
+pub struct Counts {
+    /// Records read, at most 2^32 - 1.
+    pub records: u32,
+    /// Messages delivered.
+    pub delivered: u64,
+    /// Answers old.
+    pub old: u64,
+    /// Answers quiet.
+    pub quiet: u64,
+    /// Answers that ask.
+    pub asked: u64,
+    /// Refusals.
+    pub refused: u64,
 }
 
 impl Reading {
@@ -108,6 +139,55 @@ impl Reading {
     /// Writes the report, and hands back the part of `out` that it takes; 256 bytes are enough.
     pub fn write<'o>(&self, out: &'o mut [u8]) -> Result<&'o [u8], Refusal> {
         written(out, |out, words| raw::capture_write(&self.state, out, words))
+    }
+
+    /// How far it is.
+    pub fn stage(&self) -> Stage {
+        let open = self.state[raw::CAPTURE_CODE_AT] == raw::CAPTURE_OPEN;
+        match (open, self.state[raw::CAPTURE_STAGE_AT]) {
+            (true, raw::CAPTURE_RECORDS) => Stage::Records,
+            (true, _) => Stage::Settings,
+            (false, raw::CAPTURE_DONE) => Stage::Done,
+            (false, _) => Stage::SettingsRefused,
+        }
+    }
+
+    /// What it has counted so far.
+    pub fn counts(&self) -> Counts {
+        let records = number(&self.state, raw::CAPTURE_RECORDS_AT);
+        Counts {
+            records: u32::try_from(records).unwrap_or(u32::MAX),
+            delivered: number(&self.state, raw::CAPTURE_DELIVERED_AT),
+            old: number(&self.state, raw::CAPTURE_OLD_AT),
+            quiet: number(&self.state, raw::CAPTURE_QUIET_AT),
+            asked: number(&self.state, raw::CAPTURE_ASKED_AT),
+            refused: number(&self.state, raw::CAPTURE_REFUSED_AT),
+        }
+    }
+
+    /// The session that is followed; ten spaces while no settings were read.
+    pub fn session(&self) -> Session {
+        field(self.receiver(), raw::RECEIVER_SESSION_AT)
+    }
+
+    /// The number of the next message; 1 while no settings were read.
+    pub fn next(&self) -> u64 {
+        number(self.receiver(), raw::RECEIVER_NEXT_AT)
+    }
+
+    /// The most messages that are asked for at once; 1 while no settings were read.
+    pub fn limit(&self) -> u16 {
+        small_number(self.receiver(), raw::RECEIVER_LIMIT_AT)
+    }
+
+    /// Whether the session is over, or no settings were read.
+    pub fn is_ended(&self) -> bool {
+        self.receiver()[raw::RECEIVER_CODE_AT] != raw::RECEIVER_OPEN
+    }
+
+    /// The bytes of the receiver that it has.
+    fn receiver(&self) -> &[u8] {
+        &self.state[raw::CAPTURE_RECEIVER_AT..][..raw::RECEIVER_SIZE]
     }
 
     /// The state's bytes, as `include/eiderwagon.h` lays them out.

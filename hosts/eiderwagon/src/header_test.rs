@@ -18,7 +18,11 @@ fn header() -> String {
 fn constants(header: &str) -> Vec<(String, u64)> {
     let constant = |item: &str| {
         let (name, value) = item.trim().strip_prefix("EIDERWAGON_")?.split_once('=')?;
-        Some((name.trim().to_string(), value.trim().parse().expect("a number")))
+        let number = match value.trim().strip_prefix("0x") {
+            Some(digits) => u64::from_str_radix(digits, 16),
+            None => value.trim().parse(),
+        };
+        Some((name.trim().to_string(), number.expect("a number")))
     };
     header.split([',', '{', '}']).filter_map(constant).collect()
 }
@@ -36,7 +40,7 @@ fn functions(header: &str) -> Vec<(String, String)> {
 /// Parameters of C in Rust: a pointer and the size behind it are a slice.
 fn in_rust(parameters: &str) -> String {
     let mut rust = Vec::new();
-    let mut rest = parameters.split(',').map(str::trim);
+    let mut rest = parameters.split(',').map(str::trim).filter(|parameter| *parameter != "void");
     while let Some(parameter) = rest.next() {
         let (kind, name) = parameter.rsplit_once(' ').expect("a type and a name");
         let Some(name) = name.strip_prefix('*') else {
@@ -81,7 +85,7 @@ fn the_functions_are_the_headers() {
     let ours: Vec<_> = raw::SIGNATURES.iter().copied().map(tight).collect();
     let theirs: Vec<_> = functions(&header()).iter().map(|(n, p)| tight((n, p))).collect();
     assert_same(&ours, &theirs);
-    assert_eq!(ours.len(), 33);
+    assert_eq!(ours.len(), 36);
 }
 
 #[test]
@@ -110,6 +114,14 @@ fn the_grounds_are_the_headers() {
     };
     let ours: Vec<_> = Ground::ALL.iter().map(|g| (name(g), g.words().to_string())).collect();
     assert_same(&ours, &theirs);
+}
+
+#[test]
+fn the_version_is_the_headers_and_the_packages() {
+    let defined = format!("#define EIDERWAGON_VERSION 0x{:06x}u\n", raw::VERSION);
+    assert!(header().contains(&defined));
+    let [_, major, minor, patch] = raw::VERSION.to_be_bytes();
+    assert_eq!(format!("{major}.{minor}.{patch}"), env!("CARGO_PKG_VERSION"));
 }
 
 #[test]

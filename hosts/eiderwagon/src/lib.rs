@@ -19,6 +19,9 @@
 //! that the call before left, as the proofs want it. To go on after a restart, keep a receiver's
 //! [`next`](receiver::Receiver::next) number, and start a new one there.
 //!
+//! The archive has to be of this crate's version, [`raw::VERSION`]: the first call says so where it
+//! isn't, and panics.
+//!
 //! An enum to which later rules may add is `#[non_exhaustive]`: a `match` needs an arm for the rest.
 //!
 //! A receiver over three datagrams, of which the second is lost at first:
@@ -85,7 +88,7 @@ pub type Session = [u8; raw::SESSION_SIZE];
 /// ```
 ///
 /// ```compile_fail
-/// eiderwagon::session::Server::from_bytes([0; 19]);
+/// eiderwagon::session::Server::from_bytes([0; 20]);
 /// ```
 ///
 /// ```compile_fail

@@ -18,7 +18,9 @@
 //! # Ok::<(), eiderwagon::Refusal>(())
 //! ```
 
-use crate::call::{check, count, field, pointed, received, sure, unknown, words, written};
+use crate::call::{
+    check, count, field, pointed, received, small_number, sure, unknown, words, written,
+};
 use crate::{raw, Refusal, Session};
 use std::fmt;
 use std::iter::FusedIterator;
@@ -122,7 +124,7 @@ impl<'a> Iterator for Messages<'a> {
     }
 
     fn size_hint(&self) -> (usize, Option<usize>) {
-        let left = u16::from_be_bytes(field(&self.cursor, raw::CURSOR_LEFT_AT)).into();
+        let left = small_number(&self.cursor, raw::CURSOR_LEFT_AT).into();
         (left, Some(left))
     }
 }

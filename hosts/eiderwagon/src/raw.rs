@@ -5,6 +5,9 @@
 //! refusal, whose number [`number`] gives. A pointer with its size is one slice here, and the
 //! constants lose their prefix. The modules beside this one are the same functions with types.
 //!
+//! The first call panics where the archive is of another version than [`VERSION`]; only [`version`]
+//! itself answers any.
+//!
 //! ```
 //! use eiderwagon::raw;
 //!
@@ -14,7 +17,38 @@
 //! assert_eq!(words[raw::MOLD_READ_NUMBER], 6);
 //! let code = raw::mold_read(b"READROOM01", &mut words);
 //! assert_eq!(raw::number(code), raw::REFUSED_DATAGRAM_SHORT);
+//! assert_eq!(raw::version(), raw::VERSION);
 //! ```
+
+use std::sync::atomic::{AtomicBool, Ordering};
+
+/// The version of the library that this crate is for, 0.1.0: a byte each for the three numbers.
+pub const VERSION: u32 = 0x000100;
+
+/// Ends the program where the archive is of another version: each call goes through here, and the
+/// first one asks.
+#[inline]
+fn meet_the_version() {
+    static MET: AtomicBool = AtomicBool::new(false);
+    if !MET.load(Ordering::Relaxed) {
+        refuse_another(version());
+        MET.store(true, Ordering::Relaxed);
+    }
+}
+
+/// Its functions, words and layouts may be others.
+#[cold]
+fn refuse_another(version: u32) {
+    let text = |version: u32| {
+        let [_, major, minor, patch] = version.to_be_bytes();
+        format!("{major}.{minor}.{patch}")
+    };
+    let (theirs, ours) = (text(version), text(VERSION));
+    assert!(
+        version == VERSION,
+        "libeiderwagon.a is of version {theirs}, and this crate is for {ours}: build both anew"
+    );
+}
 
 /// Makes the constants, and for `header_test.rs` their list.
 macro_rules! constants {
@@ -49,9 +83,22 @@ macro_rules! exported {
     (@ $name:tt $all:tt {$($c:tt)*} {$($lent:tt)*} $number:ident: $of:ty, $($rest:tt)*) => {
         exported!(@ $name $all {$($c)* _: $of,} {$($lent)* $number,} $($rest)*);
     };
+    // What is lent nothing is the version itself, which is asked before any other call.
+    (@ [$(#[$doc:meta])* $name:ident] [] {} {} ,) => {
+        $(#[$doc])*
+        pub fn $name() -> u32 {
+            extern "C" {
+                #[link_name = concat!("eiderwagon_", stringify!($name))]
+                fn exported() -> u32;
+            }
+            // SAFETY: it is lent nothing, and answers a number.
+            unsafe { exported() }
+        }
+    };
     (@ [$(#[$doc:meta])* $name:ident] [$($parameters:tt)*] {$($c:tt)*} {$($lent:tt)*}) => {
         $(#[$doc])*
         pub fn $name($($parameters)*) -> u32 {
+            meet_the_version();
             extern "C" {
                 #[link_name = concat!("eiderwagon_", stringify!($name))]
                 fn exported($($c)*) -> u32;
@@ -133,78 +180,100 @@ constants! {
     LARGEST_DATAGRAM: usize = 65507;
     /// The largest SoupBinTCP packet, in bytes.
     LARGEST_PACKET: usize = 4099;
+    /// The largest reply to a login, in bytes.
+    LARGEST_REPLY: usize = 33;
     /// A buffer that every capture's report fits, in bytes.
     LARGEST_REPORT: usize = 256;
 
+    /// Offset in a cursor: its code, or no messages are left (1).
+    CURSOR_CODE_AT: usize = 0;
     /// Offset in a cursor: place in the datagram (8).
-    CURSOR_PLACE_AT: usize = 0;
+    CURSOR_PLACE_AT: usize = 1;
     /// Offset in a cursor: messages left (2).
-    CURSOR_LEFT_AT: usize = 8;
+    CURSOR_LEFT_AT: usize = 9;
     /// A cursor, in bytes.
-    CURSOR_SIZE: usize = 10;
+    CURSOR_SIZE: usize = 11;
+    /// The code of a cursor.
+    CURSOR_OPEN: u8 = 0xE1;
 
+    /// Offset in a receiver: its code, or it is ended (1).
+    RECEIVER_CODE_AT: usize = 0;
     /// Offset in a receiver: session (10).
-    RECEIVER_SESSION_AT: usize = 0;
+    RECEIVER_SESSION_AT: usize = 1;
     /// Offset in a receiver: number of the next message (8).
-    RECEIVER_NEXT_AT: usize = 10;
+    RECEIVER_NEXT_AT: usize = 11;
     /// Offset in a receiver: asking limit (2).
-    RECEIVER_LIMIT_AT: usize = 18;
-    /// Offset in a receiver: ended, if not 0 (1).
-    RECEIVER_ENDED_AT: usize = 20;
+    RECEIVER_LIMIT_AT: usize = 19;
     /// A receiver, in bytes.
     RECEIVER_SIZE: usize = 21;
+    /// The code of a receiver that isn't ended.
+    RECEIVER_OPEN: u8 = 0xE2;
 
+    /// Offset in a server: its code, or it is closed (1).
+    SERVER_CODE_AT: usize = 0;
     /// Offset in a server: session (10).
-    SERVER_SESSION_AT: usize = 0;
+    SERVER_SESSION_AT: usize = 1;
     /// Offset in a server: number of the last message, 0 if there is none (8).
-    SERVER_LAST_AT: usize = 10;
-    /// Offset in a server: its state (1); every byte that isn't below is closed too.
-    SERVER_STATE_AT: usize = 18;
+    SERVER_LAST_AT: usize = 11;
+    /// Offset in a server: its phase (1); with the code every other byte is waiting, without it
+    /// closed.
+    SERVER_PHASE_AT: usize = 19;
     /// A server, in bytes.
-    SERVER_SIZE: usize = 19;
-    /// A server's state: takes no packet any more.
+    SERVER_SIZE: usize = 20;
+    /// The code of a server that isn't closed.
+    SERVER_OPEN: u8 = 0xE3;
+    /// A server's phase: takes no packet any more.
     SERVER_CLOSED: u8 = 0;
-    /// A server's state: waits for a login.
+    /// A server's phase: waits for a login.
     SERVER_WAITING: u8 = 1;
-    /// A server's state: the client is in.
+    /// A server's phase: the client is in.
     SERVER_IN: u8 = 2;
 
+    /// Offset in a client: its code, or it is ended or closed (1).
+    CLIENT_CODE_AT: usize = 0;
     /// Offset in a client: session (10).
-    CLIENT_SESSION_AT: usize = 0;
+    CLIENT_SESSION_AT: usize = 1;
     /// Offset in a client: number asked for, and then that of the next message (8).
-    CLIENT_NUMBER_AT: usize = 10;
-    /// Offset in a client: its state (1); every byte that isn't below is closed too.
-    CLIENT_STATE_AT: usize = 18;
+    CLIENT_NUMBER_AT: usize = 11;
+    /// Offset in a client: its phase (1); with the code only 2 is in and every other byte asked,
+    /// without it only 3 is ended and every other closed.
+    CLIENT_PHASE_AT: usize = 19;
     /// A client, in bytes.
-    CLIENT_SIZE: usize = 19;
-    /// A client's state: takes no packet any more.
+    CLIENT_SIZE: usize = 20;
+    /// The code of a client that is neither ended nor closed.
+    CLIENT_OPEN: u8 = 0xE4;
+    /// A client's phase: takes no packet any more.
     CLIENT_CLOSED: u8 = 0;
-    /// A client's state: has asked, and waits for the answer.
+    /// A client's phase: has asked, and waits for the answer.
     CLIENT_ASKED: u8 = 1;
-    /// A client's state: is in.
+    /// A client's phase: is in.
     CLIENT_IN: u8 = 2;
-    /// A client's state: the server has ended the session.
+    /// A client's phase: the server has ended the session.
     CLIENT_ENDED: u8 = 3;
 
+    /// Offset in the reading of a capture: its code, or it is over (1).
+    CAPTURE_CODE_AT: usize = 0;
+    /// Offset in the reading of a capture: its stage (1); with the code only 2 is records and every
+    /// other byte settings, without it only 3 is done and every other settings refused.
+    CAPTURE_STAGE_AT: usize = 1;
     /// Offset in the reading of a capture: a receiver.
-    CAPTURE_RECEIVER_AT: usize = 0;
-    /// Offset in the reading of a capture: its stage (1); every byte that isn't below is settings
-    /// refused too.
-    CAPTURE_STAGE_AT: usize = 21;
+    CAPTURE_RECEIVER_AT: usize = 2;
     /// Offset in the reading of a capture: records read (8; above 2^32 - 1 counts as that).
-    CAPTURE_RECORDS_AT: usize = 22;
+    CAPTURE_RECORDS_AT: usize = 23;
     /// Offset in the reading of a capture: messages delivered (8).
-    CAPTURE_DELIVERED_AT: usize = 30;
+    CAPTURE_DELIVERED_AT: usize = 31;
     /// Offset in the reading of a capture: answers old (8).
-    CAPTURE_OLD_AT: usize = 38;
+    CAPTURE_OLD_AT: usize = 39;
     /// Offset in the reading of a capture: answers quiet (8).
-    CAPTURE_QUIET_AT: usize = 46;
+    CAPTURE_QUIET_AT: usize = 47;
     /// Offset in the reading of a capture: answers asked (8).
-    CAPTURE_ASKED_AT: usize = 54;
+    CAPTURE_ASKED_AT: usize = 55;
     /// Offset in the reading of a capture: refusals (8).
-    CAPTURE_REFUSED_AT: usize = 62;
+    CAPTURE_REFUSED_AT: usize = 63;
     /// The reading of a capture, in bytes.
-    CAPTURE_SIZE: usize = 70;
+    CAPTURE_SIZE: usize = 71;
+    /// The code of a reading that isn't over.
+    CAPTURE_OPEN: u8 = 0xE5;
     /// A capture's stage: settings refused.
     CAPTURE_BAD: u8 = 0;
     /// A capture's stage: settings come next.
@@ -311,9 +380,9 @@ constants! {
 
     /// A session answers: no whole packet yet; read on.
     SESSION_NEED_MORE: u64 = 0;
-    /// A session answers: a login is accepted; the server writes 'A', its session and this number.
+    /// A session answers: a login is accepted; the server sends 'A', its session and this number.
     SESSION_ACCEPTED: u64 = 1;
-    /// A session answers: a login is rejected; the server writes 'J' and this reason; it is closed.
+    /// A session answers: a login is rejected; the server sends 'J' and this reason; it is closed.
     SESSION_REJECTED: u64 = 2;
     /// A session answers: a message for the client's program.
     SESSION_SEQUENCED: u64 = 3;
@@ -343,6 +412,23 @@ constants! {
     SERVER_STEP_LENGTH: usize = 3;
     /// How many words [`server_step`] has; the last one is 0.
     SERVER_STEP_WORDS: usize = 5;
+
+    /// Word of [`server_reply`]: what it answers.
+    SERVER_REPLY_ANSWER: usize = 0;
+    /// Word of [`server_reply`]: how many bytes it took, 0 where more are needed.
+    SERVER_REPLY_SIZE: usize = 1;
+    /// Word of [`server_reply`]: of accepted, the number in 'A'.
+    SERVER_REPLY_NUMBER: usize = 2;
+    /// Word of [`server_reply`]: of rejected, the reason in 'J'.
+    SERVER_REPLY_REASON: usize = 2;
+    /// Word of [`server_reply`]: of unsequenced, the offset of the message in the stream.
+    SERVER_REPLY_OFFSET: usize = 2;
+    /// Word of [`server_reply`]: of unsequenced, its length.
+    SERVER_REPLY_LENGTH: usize = 3;
+    /// Word of [`server_reply`]: how many bytes of the output were written, the reply to send.
+    SERVER_REPLY_WRITTEN: usize = 5;
+    /// How many words [`server_reply`] has; the fifth one is 0.
+    SERVER_REPLY_WORDS: usize = 6;
 
     /// Word of [`client_step`]: what it answers.
     CLIENT_STEP_ANSWER: usize = 0;
@@ -375,13 +461,17 @@ pub const fn number(code: u32) -> u32 {
 }
 
 exported! {
+    /// The version of the library, to compare with [`VERSION`].
+    version();
+
     /// Reads a datagram. Words: what it is, its number, how many messages.
     mold_read(datagram: &[u8], words: &mut [u64]);
     /// Finds a message by its place. Words: 1 or 0, its offset, its length.
     mold_locate(datagram: &[u8], place: u16, words: &mut [u64]);
     /// Sets a cursor to a datagram's first message.
     mold_walk(datagram: &[u8], cursor: &mut [u8]);
-    /// Answers the message at a cursor and moves on. Words: 1 or 0, its offset, its length.
+    /// Answers the message at a cursor and moves on; where none is there the cursor stays as it is.
+    /// Words: 1 or 0, its offset, its length.
     mold_next(cursor: &mut [u8], datagram: &[u8], words: &mut [u64]);
     /// Writes data. Words: how many bytes.
     mold_write_data(session: &[u8], first: u64, lengths: &[u16], joined: &[u8], out: &mut [u8],
@@ -432,8 +522,14 @@ exported! {
 
     /// Starts a server's end of a connection.
     server_start(session: &[u8], last: u64, state: &mut [u8]);
+    /// Moves a server's last number.
+    server_set_last(state: &mut [u8], last: u64);
     /// Takes a client's packet. Words: the answer, the bytes taken, and up to three values.
     server_step(state: &mut [u8], accounts: &[u8], stream: &[u8], words: &mut [u64]);
+    /// Takes a client's packet, and writes the reply. Words: those of [`server_step`], and how many
+    /// bytes were written.
+    server_reply(state: &mut [u8], accounts: &[u8], stream: &[u8], out: &mut [u8],
+        words: &mut [u64]);
     /// Starts a client's end of a connection.
     client_start(session: &[u8], number: u64, state: &mut [u8]);
     /// Takes a server's packet. Words: the answer, the bytes taken, and up to three values.
@@ -449,4 +545,21 @@ exported! {
     capture_write(state: &[u8], out: &mut [u8], words: &mut [u64]);
     /// Writes the report of a whole capture. Words: how many bytes.
     capture_report(capture: &[u8], out: &mut [u8], words: &mut [u64]);
+}
+
+#[cfg(test)]
+mod tests {
+    use super::*;
+
+    #[test]
+    fn the_archive_is_of_this_crates_version() {
+        assert_eq!(version(), VERSION);
+        refuse_another(VERSION);
+    }
+
+    #[test]
+    #[should_panic(expected = "libeiderwagon.a is of version 0.2.3, and this crate is for 0.1.0")]
+    fn an_archive_of_another_version_is_refused() {
+        refuse_another(0x000203);
+    }
 }

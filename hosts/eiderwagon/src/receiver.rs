@@ -44,7 +44,7 @@ mod requests;
 
 pub use requests::Requests;
 
-use crate::call::{check, count, field, received, unknown};
+use crate::call::{check, count, field, number, received, small_number, unknown};
 use crate::mold::{Messages, Request};
 use crate::{raw, Refusal, Session};
 use std::fmt;
@@ -113,17 +113,17 @@ impl Receiver {
 
     /// The number of the next message.
     pub fn next(&self) -> u64 {
-        u64::from_be_bytes(field(&self.state, raw::RECEIVER_NEXT_AT))
+        number(&self.state, raw::RECEIVER_NEXT_AT)
     }
 
     /// The most messages that it asks for at once.
     pub fn limit(&self) -> u16 {
-        u16::from_be_bytes(field(&self.state, raw::RECEIVER_LIMIT_AT))
+        small_number(&self.state, raw::RECEIVER_LIMIT_AT)
     }
 
     /// Whether the session is over.
     pub fn is_ended(&self) -> bool {
-        self.state[raw::RECEIVER_ENDED_AT] != 0
+        self.state[raw::RECEIVER_CODE_AT] != raw::RECEIVER_OPEN
     }
 
     /// The state's bytes, as `include/eiderwagon.h` lays them out.

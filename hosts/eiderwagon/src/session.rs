@@ -1,8 +1,9 @@
 //! SoupBinTCP sessions: the server's end of one connection, with its login, and the client's.
 //!
 //! An end is a state that takes the packets of the other one, one at a time, off the front of what
-//! came in. It sends nothing itself. A step that is refused leaves the end as it was, and the same
-//! bytes would be refused again: hang up.
+//! came in. It sends nothing itself; a server writes its reply to a login, for the host to send.
+//! A step that is refused leaves the end as it was, and the same bytes would be refused again: hang
+//! up.
 //!
 //! ```
 //! use eiderwagon::session::{Accounts, Client, ClientAnswer, Server, ServerAnswer};
@@ -10,7 +11,8 @@
 //! # fn main() -> Result<(), Box<dyn std::error::Error>> {
 //!
 //! let accounts = Accounts::new([("reader", "opensesame"), ("clerk", "desk5")])?;
-//! let mut server = Server::start(b"READROOM01", 2)?; // messages 1 and 2 are there
+//! let mut server = Server::start(b"READROOM01", 1)?; // message 1 is there
+//! server.set_last(2)?; // and then 2
 //!
 //! // The client asks for any session, from number 1 on.
 //! let login = Login::new("Reader", "openSesame", "", 1)?;
@@ -18,12 +20,11 @@
 //! let mut up = [0; 64];
 //! let to_server = Packet::LoginRequest(login).write(&mut up)?;
 //!
-//! // The server takes the login, and has a packet to send back.
-//! let step = server.step(&accounts, to_server)?;
-//! assert_eq!(step.answer, ServerAnswer::Accepted { number: 1 });
-//! let reply = server.reply(&step.answer).expect("a login is replied to");
+//! // The server takes the login, and has written a packet to send back.
 //! let mut down = [0; 64];
-//! let mut size = reply.write(&mut down)?.len();
+//! let replied = server.reply(&accounts, to_server, &mut down)?;
+//! assert_eq!(replied.step.answer, ServerAnswer::Accepted { number: 1 });
+//! let mut size = replied.reply.len();
 //!
 //! // From the number accepted on, it sends its messages.
 //! for message in [b"one", b"two"] {
@@ -58,7 +59,7 @@ mod server;
 
 pub use accounts::{Accounts, BadAccount};
 pub use client::{Client, ClientAnswer, ClientState};
-pub use server::{Server, ServerAnswer, ServerState};
+pub use server::{Replied, Server, ServerAnswer, ServerState};
 
 /// One step of a session: what it answers to the front of a stream.
 #[derive(Clone, Copy, Debug, PartialEq, Eq)]

@@ -190,8 +190,8 @@ fn packet(letter: u64, payload: &[u8], value: u64) -> Packet<'_> {
         Ok(b'Z') => Packet::EndOfSession,
         Ok(b'L') => Packet::LoginRequest(Login {
             username: field(payload, 0),
-            password: field(payload, 6),
-            session: field(payload, 16),
+            password: field(payload, raw::USERNAME_SIZE),
+            session: field(payload, raw::USERNAME_SIZE + raw::PASSWORD_SIZE),
             number: value,
         }),
         Ok(b'U') => Packet::UnsequencedData(payload),

@@ -1,6 +1,6 @@
 //! Captures, whole and in pieces.
 
-use eiderwagon::capture::{self, Fed, Reading};
+use eiderwagon::capture::{self, Counts, Fed, Reading, Stage};
 use eiderwagon::{mold, Ground};
 
 const SETTINGS: &[u8] = b"session=READROOM01\nnext=1\nlimit=100\n";
@@ -57,6 +57,26 @@ fn pieces_of_every_size_give_the_same_report() {
 }
 
 #[test]
+fn a_reading_tells_what_it_has_counted() {
+    let file = sample();
+    let mut reading = Reading::start();
+    assert_eq!((reading.stage(), reading.counts()), (Stage::Settings, Counts::default()));
+    assert_eq!((reading.session(), reading.next(), reading.limit()), (*b"          ", 1, 1));
+    assert!(reading.is_ended());
+
+    // all but the last record
+    let fed = reading.feed(&file[..file.len() - 1]);
+    let counts = Counts { records: 2, delivered: 2, refused: 1, ..Counts::default() };
+    assert_eq!((reading.stage(), reading.counts()), (Stage::Records, counts));
+    assert_eq!((reading.session(), reading.next(), reading.limit()), (*b"READROOM01", 3, 100));
+    assert!(!reading.is_ended());
+
+    reading.finish(&file[fed.used..]);
+    assert_eq!((reading.stage(), reading.counts().records), (Stage::Done, 3));
+    assert!(reading.is_ended());
+}
+
+#[test]
 fn bad_settings_are_reported_alone() {
     for bad in ["", "session=READROOM01\nnext=1\nlimit=100", "session=READROOM01\nnext=01\n"] {
         assert_eq!(capture::report(bad.as_bytes()), REFUSED);
@@ -68,6 +88,7 @@ fn bad_settings_are_reported_alone() {
 fn bad_settings_are_over() {
     let mut reading = Reading::start();
     assert_eq!(reading.feed(&[b'x'; 60]), Fed { used: 60, over: true });
+    assert_eq!(reading.stage(), Stage::SettingsRefused);
     assert_eq!(reading.report(), REFUSED);
 }
 

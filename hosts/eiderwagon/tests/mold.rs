@@ -1,7 +1,7 @@
 //! Datagrams and requests.
 
 use eiderwagon::mold::{self, Datagram, Kind, Request};
-use eiderwagon::{Ground, Refusal};
+use eiderwagon::{raw, Ground, Refusal};
 
 const NAME: &[u8; 10] = b"READROOM01";
 
@@ -60,6 +60,23 @@ fn messages_are_walked_over() {
     assert_eq!(messages.by_ref().count(), 2);
     assert_eq!(messages.next(), None);
     assert_eq!(messages.next(), None);
+}
+
+#[test]
+fn a_cursor_stays_as_it_is_where_no_message_is_there() {
+    let bytes = datagram(1, 1, b"\0\x01a");
+    let mut messages = Datagram::read(&bytes).unwrap().messages();
+    assert_eq!(messages.next(), Some(&b"a"[..]));
+    let end = messages.clone();
+    assert_eq!(messages.next(), None);
+    assert_eq!(messages, end);
+
+    // Nor is a receiver changed that is lent for a cursor.
+    let mut state = [0; raw::RECEIVER_SIZE];
+    assert_eq!(raw::receiver_start(NAME, 1, 100, &mut state), raw::OK);
+    let (before, mut words) = (state, [9; raw::NEXT_WORDS]);
+    assert_eq!(raw::mold_next(&mut state, &bytes, &mut words), raw::OK);
+    assert_eq!((words, state), ([0; raw::NEXT_WORDS], before));
 }
 
 #[test]

@@ -1,10 +1,10 @@
 //! SoupBinTCP sessions: each answer of either end, and what is refused.
 
 use eiderwagon::session::{
-    Accounts, Client, ClientAnswer, ClientState, Server, ServerAnswer, ServerState, Step,
+    Accounts, Client, ClientAnswer, ClientState, Replied, Server, ServerAnswer, ServerState, Step,
 };
 use eiderwagon::soup::{Login, Packet, Reason};
-use eiderwagon::Ground;
+use eiderwagon::{raw, Fault, Ground};
 
 const NAME: &[u8; 10] = b"READROOM01";
 const BLANK: &[u8; 10] = b"          ";
@@ -29,6 +29,15 @@ fn after(login: &[u8]) -> (Server, ServerAnswer<'_>) {
     (server, step.answer)
 }
 
+/// The same, by the step that writes its reply: with that.
+fn replied(login: &[u8]) -> (Server, ServerAnswer<'_>, Vec<u8>) {
+    let mut server = Server::start(NAME, 2).unwrap();
+    let mut out = [0; raw::LARGEST_REPLY];
+    let Replied { step, reply } = server.reply(&accounts(), login, &mut out).unwrap();
+    assert_eq!(step.size, 49);
+    (server, step.answer, reply.to_vec())
+}
+
 /// A server with its client logged in.
 fn server_in() -> Server {
     after(&login("clerk", "desk5", "", 1)).0
@@ -48,8 +57,8 @@ fn a_login_is_accepted() {
         let (server, answer) = after(&request);
         assert_eq!(answer, ServerAnswer::Accepted { number: granted });
         assert_eq!(server.state(), ServerState::In);
-        let reply = bytes(Packet::LoginAccepted { session: *NAME, number: granted });
-        assert_eq!(server.reply(&answer).map(bytes), Some(reply));
+        let packet = bytes(Packet::LoginAccepted { session: *NAME, number: granted });
+        assert_eq!(replied(&request), (server, answer, packet));
     }
 }
 
@@ -74,8 +83,38 @@ fn a_login_is_rejected() {
         let (server, answer) = after(&request);
         assert_eq!(answer, ServerAnswer::Rejected(reason));
         assert_eq!(server.state(), ServerState::Closed);
-        assert_eq!(server.reply(&answer).map(bytes), Some(bytes(Packet::LoginRejected(reason))));
+        let packet = bytes(Packet::LoginRejected(reason));
+        assert_eq!(replied(&request), (server, answer, packet));
     }
+}
+
+#[test]
+fn a_reply_that_has_no_room_leaves_the_login_in_front() {
+    let request = login("clerk", "desk5", "", 1);
+    let mut server = Server::start(NAME, 2).unwrap();
+    let mut out = [9; raw::LARGEST_REPLY];
+    let short = &mut out[..raw::LARGEST_REPLY - 1];
+    let refusal = server.reply(&accounts(), &request, short).unwrap_err();
+    assert_eq!((refusal.ground(), refusal.fault()), (Ground::OutputShort, Fault::Caller));
+    assert_eq!(server, Server::start(NAME, 2).unwrap());
+    assert_eq!(out, [9; raw::LARGEST_REPLY]);
+    assert!(server.reply(&accounts(), &request, &mut out).is_ok());
+}
+
+#[test]
+fn a_servers_last_number_rises() {
+    let mut server = Server::start(NAME, 2).unwrap();
+    server.set_last(7).unwrap();
+    server.set_last(7).unwrap();
+    for bad in [6, u64::MAX] {
+        assert_eq!(server.set_last(bad).unwrap_err().ground(), Ground::BadSetting);
+        assert_eq!(server.last(), 7);
+    }
+    let request = login("clerk", "desk5", "", 0);
+    let step = server.step(&accounts(), &request).unwrap();
+    assert_eq!(step.answer, ServerAnswer::Accepted { number: 7 });
+    server.set_last(u64::MAX - 1).unwrap();
+    assert_eq!((server.last(), server.state()), (u64::MAX - 1, ServerState::In));
 }
 
 #[test]
@@ -102,7 +141,8 @@ fn a_server_hands_up_what_a_client_sends() {
         let stream = bytes(packet);
         let size = stream.len();
         assert_eq!(server.step(&accounts(), &stream), Ok(Step { answer, size }));
-        assert!(server.reply(&answer).is_none());
+        let with_reply = Replied { step: Step { answer, size }, reply: b"" };
+        assert_eq!(server.reply(&accounts(), &stream, &mut []), Ok(with_reply));
         assert_eq!(server, server_in());
     }
     let step = server.step(&accounts(), b"\0\x01O").unwrap();

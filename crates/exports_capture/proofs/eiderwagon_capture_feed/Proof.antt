@@ -1,5 +1,5 @@
--- How much was used is answered, and the reading kept.
-use Rattle.exports_capture.proofs.Rules.{readings}
+-- What was used and whether it is over, and the next reading kept where it moved.
+use Rattle.exports_capture.proofs.Rules.{feeds}
 use Rattle.exports_capture.proofs.eiderwagon_capture_feed.Statement.{statement}
 use Rattle.exports_capture.proofs.eiderwagon_capture_feed.Tie as tie
 
@@ -7,15 +7,18 @@ pub eiderwagon-capture-feed-spec : {M : Type 1} → statement M
 eiderwagon-capture-feed-spec =
     tie.close
     (tie.spec
-    (λ c κs. search readings)  -- read-requires
-    (λ c κs. search readings)  -- feed-requires
-    (λ c κs. search readings)  -- is-over-requires
-    (λ c κs. search readings)  -- flag-requires
-    (λ c. search readings)  -- cast-t14
-    (λ c. search readings)  -- slice-aggregate-answer
-    (λ c κs. search readings)  -- answer-requires
-    (λ c κs. search readings)  -- write-requires
-    (λ c. search readings)  -- same-length
-    (λ c. search readings)  -- same-length-2
-    (λ c. search readings)  -- returns
+    (λ c. search feeds)  -- returns
+    (λ c. search feeds)  -- read-requires
+    (λ c. search feeds)  -- feed-requires
+    (λ c. search feeds)  -- is-over-requires
+    (λ c. search feeds)  -- flag-requires
+    (λ c. search feeds)  -- slice-aggregate-answer
+    (λ c. search feeds)  -- answer-requires
+    (λ c. search feeds)  -- write-requires
+    (λ c. search feeds)  -- same-length
+    (λ c. search feeds)  -- same-length-2
+    (λ c. search feeds)  -- returns-2
+    (λ c. search feeds)  -- same-length-3
+    (λ c. search feeds)  -- same-length-4
+    (λ c. search feeds)  -- returns-3
     )

@@ -7,10 +7,10 @@ pub eiderwagon-capture-finish-spec : {M : Type 1} → statement M
 eiderwagon-capture-finish-spec =
     tie.close
     (tie.spec
-    (λ c κs. search readings)  -- code-requires
-    (λ c κs. search readings)  -- read-requires
-    (λ c κs. search readings)  -- finish-requires
-    (λ c κs. search readings)  -- write-requires
-    (λ c. search readings)  -- same-length
     (λ c. search readings)  -- returns
+    (λ c. search readings)  -- read-requires
+    (λ c. search readings)  -- finish-requires
+    (λ c. search readings)  -- write-requires
+    (λ c. search readings)  -- same-length
+    (λ c. search readings)  -- returns-2
     )

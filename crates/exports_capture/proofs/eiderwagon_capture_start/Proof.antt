@@ -1,4 +1,4 @@
--- The fresh reading is kept.
+-- A fresh reading is kept.
 use Rattle.exports_capture.proofs.Rules.{readings}
 use Rattle.exports_capture.proofs.eiderwagon_capture_start.Statement.{statement}
 use Rattle.exports_capture.proofs.eiderwagon_capture_start.Tie as tie
@@ -7,9 +7,8 @@ pub eiderwagon-capture-start-spec : {M : Type 1} → statement M
 eiderwagon-capture-start-spec =
     tie.close
     (tie.spec
-    (λ c κs. search readings)  -- code-requires
-    (λ c κs. search readings)  -- new-requires
-    (λ c κs. search readings)  -- write-requires
+    (λ c. search readings)  -- new-requires
+    (λ c. search readings)  -- write-requires
     (λ c. search readings)  -- same-length
     (λ c. search readings)  -- returns
     )

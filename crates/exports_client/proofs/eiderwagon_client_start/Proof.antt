@@ -1,5 +1,6 @@
 -- The fresh client is kept, and none on a refusal.
 use Rattle.exports_client.proofs.Rules.{clients}
+use Rattle.exports_client.proofs.ClientLaws.{start-promised}
 use Rattle.exports_client.proofs.eiderwagon_client_start.Statement.{statement}
 use Rattle.exports_client.proofs.eiderwagon_client_start.Tie as tie
 
@@ -7,10 +8,11 @@ pub eiderwagon-client-start-spec : {M : Type 1} → statement M
 eiderwagon-client-start-spec =
     tie.close
     (tie.spec
-    (λ c κs. search clients)  -- ten-requires
-    (λ c κs. search clients)  -- new-requires
-    (λ c κs. search clients)  -- code-requires
-    (λ c κs. search clients)  -- write-requires
+    (λ c. search clients)  -- ten-requires
+    (λ c. search clients)  -- new-requires
+    (λ c. search clients)  -- unless-sized-requires
+    (λ c. search clients)  -- cast-write
+    (λ c. search clients)  -- write-requires
     (λ c. search clients)  -- same-length
-    (λ c. search clients)  -- returns
+    (λ c. start-promised (search clients))  -- returns
     )

@@ -7,9 +7,8 @@ pub eiderwagon-receiver-walk-spec : {M : Type 1} → statement M
 eiderwagon-receiver-walk-spec =
     tie.close
     (tie.spec
-    (λ c κs. search cursors)  -- code-requires
-    (λ c κs. search cursors)  -- start-requires
-    (λ c κs. search cursors)  -- write-requires
+    (λ c. search cursors)  -- start-requires
+    (λ c. search cursors)  -- write-requires
     (λ c. search cursors)  -- same-length
     (λ c. search cursors)  -- returns
     )

@@ -7,7 +7,8 @@ pub answer-spec : {M : Type 1} → statement M
 answer-spec =
     tie.close
     (tie.spec
-    (λ c κs. search answers)  -- code-requires
+    (λ c. search answers)  -- or-short-requires
+    (λ c. search answers)  -- cast-code
     (λ c κs. search answers)  -- lay-requires
     (λ c. search answers)  -- same-length
     (λ c. search answers)  -- returns

@@ -1,4 +1,4 @@
--- The receiver in front, and each field behind it.
+-- By its size, and then its fields.
 use Rattle.host_capture.proofs.Rules.{readings}
 use Rattle.host_capture.proofs.read.Statement.{statement}
 use Rattle.host_capture.proofs.read.Tie as tie
@@ -7,11 +7,17 @@ pub read-spec : {M : Type 1} → statement M
 read-spec =
     tie.close
     (tie.spec
-    (λ c κs. search readings)  -- byte-requires
-    (λ c κs. search readings)  -- stage-of-requires
-    (λ c κs. search readings)  -- read-requires
-    (λ c κs. search readings)  -- be64-requires
-    (λ c κs. search readings)  -- records-of-requires
-    (λ c κs. search readings)  -- read-tally-requires
+    (λ c. search readings)  -- refused-requires
     (λ c. search readings)  -- returns
+    (λ c. search readings)  -- is-open-requires
+    (λ c. search readings)  -- byte-requires
+    (λ c. search readings)  -- stage-of-requires
+    (λ c. search readings)  -- sub-read
+    (λ c. search readings)  -- part-read-start
+    (λ c. search readings)  -- part-read-end
+    (λ c. search readings)  -- read-requires
+    (λ c. search readings)  -- get64-requires
+    (λ c. search readings)  -- records-of-requires
+    (λ c. search readings)  -- read-tally-requires
+    (λ c. search readings)  -- returns-2
     )

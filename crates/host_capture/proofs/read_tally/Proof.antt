@@ -7,10 +7,10 @@ pub read-tally-spec : {M : Type 1} → statement M
 read-tally-spec =
     tie.close
     (tie.spec
-    (λ c κs. search readings)  -- be64-requires
-    (λ c κs. search readings)  -- be64-requires-2
-    (λ c κs. search readings)  -- be64-requires-3
-    (λ c κs. search readings)  -- be64-requires-4
-    (λ c κs. search readings)  -- be64-requires-5
+    (λ c. search readings)  -- get64-requires
+    (λ c. search readings)  -- get64-requires-2
+    (λ c. search readings)  -- get64-requires-3
+    (λ c. search readings)  -- get64-requires-4
+    (λ c. search readings)  -- get64-requires-5
     (λ c. search readings)  -- returns
     )

@@ -1,4 +1,4 @@
--- One law for each case.
+-- By whether it is open, and by its stage.
 use Rattle.host_capture.proofs.Rules.{stages}
 use Rattle.host_capture.proofs.stage_of.Statement.{statement}
 use Rattle.host_capture.proofs.stage_of.Tie as tie

@@ -1,4 +1,4 @@
--- Adjacent writes are one, and each field is read back.
+-- Four fields, one behind the other.
 use Rattle.host_receiver.proofs.Rules.{receivers}
 use Rattle.host_receiver.proofs.put_fields.Statement.{statement}
 use Rattle.host_receiver.proofs.put_fields.Tie as tie
@@ -7,13 +7,9 @@ pub put-fields-spec : {M : Type 1} → statement M
 put-fields-spec =
     tie.close
     (tie.spec
-    (λ c. search receivers)  -- slice-aggregate-put-bytes
-    (λ c κs. search receivers)  -- put-bytes-requires
-    (λ c κs. search receivers)  -- put64-requires
-    (λ c κs. search receivers)  -- put16-requires
-    (λ c κs. search receivers)  -- flag-requires
-    (λ c. search receivers)  -- slice-aggregate-put-bytes
-    (λ c κs. search receivers)  -- put-bytes-requires
+    (λ c. search receivers)  -- open-byte-requires
+    (λ c. search receivers)  -- put-front-requires
+    (λ c. search receivers)  -- put16-requires
     (λ c. search receivers)  -- same-length
     (λ c. search receivers)  -- returns
     )

@@ -1,8 +1,15 @@
--- The four fields of the receiver are laid.
+-- Where the code is 0 there is room.
 use Rattle.host_receiver.proofs.Rules.{receivers}
 use Rattle.host_receiver.proofs.write.Statement.{statement}
 use Rattle.host_receiver.proofs.write.Tie as tie
 
 pub write-spec : {M : Type 1} → statement M
 write-spec =
-    tie.close (tie.spec (λ c κs. search receivers) (λ c. search receivers) (λ c. search receivers))
+    tie.close
+    (tie.spec
+    (λ c. search receivers)  -- with-room-requires
+    (λ c. search receivers)  -- returns
+    (λ c κs. search receivers)  -- put-fields-requires
+    (λ c. search receivers)  -- same-length
+    (λ c. search receivers)  -- returns-2
+    )

@@ -5,4 +5,9 @@ use Rattle.host_server.proofs.state_of.Tie as tie
 
 pub state-of-spec : {M : Type 1} → statement M
 state-of-spec =
-    tie.close (tie.spec (λ c. search servers) (λ c. search servers) (λ c. search servers))
+    tie.close
+    (tie.spec
+    (λ c. search servers)  -- returns
+    (λ c. search servers)  -- returns-2
+    (λ c. search servers)  -- returns-3
+    )

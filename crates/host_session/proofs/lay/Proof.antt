@@ -7,9 +7,9 @@ pub lay-spec : {M : Type 1} → statement M
 lay-spec =
     tie.close
     (tie.spec
+    (λ c. search sessions)  -- with-room-requires
     (λ c. search sessions)  -- returns
-    (λ c. search sessions)  -- returns-2
     (λ c κs. search sessions)  -- put-fields-requires
     (λ c. search sessions)  -- same-length
-    (λ c. search sessions)  -- returns-3
+    (λ c. search sessions)  -- returns-2
     )

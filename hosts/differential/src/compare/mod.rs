@@ -1,6 +1,7 @@
 //! What the header promises for each call, worked out by the reference; and the comparison with what the library did.
 
 mod capture;
+pub mod grounds;
 mod mold;
 mod receiver;
 mod session;
@@ -8,7 +9,7 @@ mod soup;
 pub mod typed;
 
 use crate::call::{Call, Input, Lent};
-use crate::layout::CURSOR;
+use crate::layout::{CURSOR, CURSOR_CODE};
 use crate::reference::{Name, Refusal};
 use std::hint::black_box;
 
@@ -24,8 +25,8 @@ pub struct Expected {
     pub out: Vec<u8>,
     /// The state or cursor afterwards; none where it stays.
     pub state: Option<Vec<u8>>,
-    /// Whether the header leaves open what the cursor becomes: then only what stands behind it is compared.
-    pub cursor_is_open: bool,
+    /// Whether it is left open where the cursor stands: then its code and what stands behind it are compared.
+    pub cursor_anywhere: bool,
 }
 
 impl Expected {
@@ -36,19 +37,13 @@ impl Expected {
             words: vec![],
             out: vec![],
             state: None,
-            cursor_is_open: false,
+            cursor_anywhere: false,
         }
     }
 
     fn refusal(code: Refusal) -> Expected {
         let mut refusal = Expected::answer(refusal_name(code));
         refusal.code = code;
-        refusal
-    }
-
-    fn short(outcome: &'static str) -> Expected {
-        let mut refusal = Expected::refusal(41);
-        refusal.outcome = outcome;
         refusal
     }
 
@@ -116,11 +111,6 @@ pub fn refusal_name(code: Refusal) -> &'static str {
     }
 }
 
-/// A buffer of a fixed size is too short: refused before every other ground.
-pub const SHORT_LENT: &str = "41 first";
-/// The output is too short: refused after every other ground.
-pub const SHORT_OUTPUT: &str = "41 last";
-
 /// How many words and how many bytes of a state or cursor a function has.
 pub fn fixed_sizes(call: &Call) -> (usize, usize) {
     use crate::layout::{CAPTURE, CLIENT, CURSOR, RECEIVER, SERVER};
@@ -132,8 +122,9 @@ pub fn fixed_sizes(call: &Call) -> (usize, usize) {
         MoldNext { .. } => (3, CURSOR),
         ReceiverStart { .. } => (0, RECEIVER),
         ReceiverTake { .. } => (4, RECEIVER),
-        ServerStart { .. } => (0, SERVER),
+        ServerStart { .. } | ServerSetLast { .. } => (0, SERVER),
         ServerStep { .. } => (5, SERVER),
+        ServerReply { .. } => (6, SERVER),
         ClientStart { .. } => (0, CLIENT),
         ClientStep { .. } => (5, CLIENT),
         CaptureStart | CaptureFinish { .. } => (0, CAPTURE),
@@ -143,48 +134,24 @@ pub fn fixed_sizes(call: &Call) -> (usize, usize) {
     }
 }
 
-fn lends_too_little(call: &Call, lent: &Lent) -> bool {
-    let (words, state) = fixed_sizes(call);
-    let name_is_short = |(name, input): (&str, Input)| {
-        let needed = match name {
-            "session" | "password" => 10,
-            "username" => 6,
-            _ => 0,
-        };
-        matches!(input, Input::Bytes(bytes) if bytes.len() < needed)
-    };
-    lent.words.len() < words
-        || lent.state.len() < state
-        || call.inputs().into_iter().any(name_is_short)
-}
-
-/// What the call has to do with these buffers.
+/// What the call has to do with these buffers: the first of the grounds that apply, or its answer.
 pub fn expect(call: &Call, lent: &Lent) -> Expected {
-    if lends_too_little(call, lent) {
-        return Expected::short(SHORT_LENT);
+    let Some(&first) = grounds::of(call, lent).first() else {
+        return answer(call, &lent.state);
+    };
+    let number = grounds::number(first);
+    if grounds::is_of_what_is_lent(first) {
+        let mut refusal = Expected::refusal(number);
+        refusal.outcome = first;
+        return refusal;
     }
-    let expected = answer(call, &lent.state);
-    if expected.out.len() > lent.out.len() {
-        return Expected::short(SHORT_OUTPUT);
-    }
-    expected
-}
-
-/// How many bytes the call writes to its output, where it comes so far as to write.
-pub fn output_size(call: &Call, lent: &Lent) -> Option<usize> {
-    if !has_output(call) {
-        return Some(0);
-    }
-    if lends_too_little(call, lent) {
-        return None;
-    }
-    let expected = answer(call, &lent.state);
-    (expected.code == 0).then_some(expected.out.len())
-}
-
-fn has_output(call: &Call) -> bool {
-    let function = call.function();
-    function.contains("_write") || function == "capture_report"
+    // The rules, taken step by step, end at the ground that is the first of all those looked at one by one.
+    let refusal = answer(call, &lent.state);
+    assert_eq!(
+        refusal.code, number,
+        "the reference's steps and its grounds: {call}"
+    );
+    refusal
 }
 
 /// What the call has to do where every buffer has room.
@@ -197,9 +164,13 @@ pub fn answer(call: &Call, state: &[u8]) -> Expected {
         .expect("every function belongs to one of these")
 }
 
-/// The first ten bytes of a lent name: of a longer one only these are used.
+/// A lent name. One of another size is refused, but some grounds come before that, and look at none of its bytes.
 fn name(lent: &[u8]) -> Name {
-    lent[..10].try_into().expect("ten bytes")
+    fixed(lent)
+}
+
+fn fixed<const N: usize>(lent: &[u8]) -> [u8; N] {
+    lent.try_into().unwrap_or([0; N])
 }
 
 /// A copy of all that the call only reads.
@@ -217,7 +188,8 @@ pub fn copy_of_inputs(call: &Call) -> Vec<u8> {
     copy
 }
 
-/// What differs between what was promised and what was done, if anything does. `after` is `before` as the library left it.
+/// What differs between what was promised and what was done, if anything does. `after` is `before` as the library left
+/// it.
 pub fn difference(
     call: &Call,
     copy: &[u8],
@@ -228,8 +200,9 @@ pub fn difference(
 ) -> Option<String> {
     let mut wanted = before.clone();
     let wanted_code = expected.apply(&mut wanted);
-    if expected.cursor_is_open {
+    if expected.cursor_anywhere {
         wanted.state[..CURSOR].copy_from_slice(&after.state[..CURSOR]);
+        wanted.state[0] = CURSOR_CODE;
     }
     // The compiler takes what is only lent for reading as unchanged; it is to be looked at all the same.
     let untouched = copy == copy_of_inputs(black_box(call));

@@ -95,7 +95,11 @@ fn walk(datagram: &[u8]) -> Expected {
     Expected::answer(outcome).state(layout::cursor_bytes(cursor))
 }
 
-fn next(cursor: Cursor, datagram: &[u8]) -> Expected {
+/// Where no message is there no byte of the cursor changes, whatever it was made of.
+fn next(cursor: Option<Cursor>, datagram: &[u8]) -> Expected {
+    let Some(cursor) = cursor else {
+        return message(None, "none, not open");
+    };
     if cursor.left == 0 {
         return message(None, "none left");
     }

@@ -76,8 +76,8 @@ fn outcome(answer: &Answer, receiver: &Receiver, datagram: &[u8]) -> &'static st
 }
 
 /// A walk over the messages that a deliver answer delivers: `count` of them, behind `skipped` others. Two that add up
-/// to more than a count can be leave none. For other numbers than such an answer's the header doesn't give the cursor; what it says of
-/// their walk is looked at where one is drawn.
+/// to more than a count can be leave none. For other numbers than such an answer's the header doesn't give the cursor;
+/// what it says of their walk is looked at where one is drawn.
 fn walk(datagram: &[u8], count: u16, skipped: u16) -> Expected {
     let messages = mold::read(datagram).map_or(vec![], |read| read.messages);
     let skipped = usize::from(skipped);
@@ -87,9 +87,10 @@ fn walk(datagram: &[u8], count: u16, skipped: u16) -> Expected {
     }
     let delivers = count > 0 && skipped + usize::from(count) == messages.len();
     if !delivers {
-        let mut open = Expected::answer("not of this datagram");
-        open.cursor_is_open = true;
-        return open;
+        let somewhere = layout::cursor_bytes(Cursor::first(0));
+        let mut anywhere = Expected::answer("not of this datagram").state(somewhere);
+        anywhere.cursor_anywhere = true;
+        return anywhere;
     }
     let place = messages[skipped].offset as u64 - 2;
     let cursor = Cursor { place, left: count };

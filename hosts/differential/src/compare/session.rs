@@ -1,7 +1,7 @@
 //! The functions of both ends of a SoupBinTCP session.
 
 use super::soup::bad_field;
-use super::{name, refusal_name, Expected};
+use super::{grounds, name, refusal_name, Expected};
 use crate::call::Call;
 use crate::layout;
 use crate::reference::login::Verdict;
@@ -13,7 +13,9 @@ pub fn answer(call: &Call, state: &[u8]) -> Option<Expected> {
             Ok(server) => Expected::answer("started").state(layout::server_bytes(&server)),
             Err(refusal) => Expected::refusal(refusal),
         },
+        Call::ServerSetLast { last } => set_last(state, last),
         Call::ServerStep { accounts, stream } => server_step(state, accounts, stream),
+        Call::ServerReply { accounts, stream } => server_reply(state, accounts, stream),
         Call::ClientStart { session, number } => match Client::start(name(session), number) {
             Ok(client) => Expected::answer("started").state(layout::client_bytes(&client)),
             Err(refusal) => Expected::refusal(refusal),
@@ -21,6 +23,21 @@ pub fn answer(call: &Call, state: &[u8]) -> Option<Expected> {
         Call::ClientStep { stream } => client_step(state, stream),
         _ => return None,
     })
+}
+
+fn set_last(state: &[u8], last: u64) -> Expected {
+    let mut server = layout::server(state);
+    let falls = last < server.last;
+    let Err(refusal) = server.set_last(last) else {
+        return Expected::answer("moved").state(layout::server_bytes(&server));
+    };
+    let mut refused = Expected::refusal(refusal);
+    refused.outcome = if falls {
+        grounds::LAST_FALLS
+    } else {
+        grounds::LAST_TOO_HIGH
+    };
+    refused
 }
 
 fn server_step(state: &[u8], accounts: &[u8], stream: &[u8]) -> Expected {
@@ -31,6 +48,25 @@ fn server_step(state: &[u8], accounts: &[u8], stream: &[u8]) -> Expected {
     step_answer(step, outcome, layout::server_bytes(&server))
 }
 
+/// A step, its reply, and how many bytes that has.
+fn server_reply(state: &[u8], accounts: &[u8], stream: &[u8]) -> Expected {
+    let mut server = layout::server(state);
+    let from = server.state;
+    let replied = server.reply(&layout::accounts(accounts), stream, usize::MAX);
+    let (step, reply) = match replied {
+        Ok((step, reply)) => (Ok(step), reply),
+        Err(refusal) => (Err(refusal), vec![]),
+    };
+    let outcome = server_outcome(from, &step, stream);
+    let refused = step.is_err();
+    let mut expected = step_answer(step, outcome, layout::server_bytes(&server));
+    if !refused {
+        expected.words.push(reply.len() as u64);
+        expected.out = reply;
+    }
+    expected
+}
+
 fn client_step(state: &[u8], stream: &[u8]) -> Expected {
     let mut client = layout::client(state);
     let from = client.state;
@@ -39,8 +75,8 @@ fn client_step(state: &[u8], stream: &[u8]) -> Expected {
     step_answer(step, outcome, layout::client_bytes(&client))
 }
 
-/// A step's words and its state afterwards, in the one form that the header gives: also where more is needed. There the state itself
-/// doesn't change, but a closed one that was made by hand with another byte than 0 gets that byte.
+/// A step's words, and its state afterwards in the one form that the header gives. Where more is needed no byte
+/// changes, also of a state that was made by hand.
 fn step_answer(step: Result<Step, u32>, outcome: &'static str, state: Vec<u8>) -> Expected {
     let step = match step {
         Ok(step) => step,
@@ -66,7 +102,11 @@ fn step_answer(step: Result<Step, u32>, outcome: &'static str, state: Vec<u8>) -
         Answer::SessionOver => (8, [0; 3]),
     };
     let words = [kind, step.taken as u64, values[0], values[1], values[2]];
-    Expected::answer(outcome).words(&words).state(state)
+    let answer = Expected::answer(outcome).words(&words);
+    if step.answer == Answer::NeedMore {
+        return answer;
+    }
+    answer.state(state)
 }
 
 /// The cell of the table of states and packets that a step met, or what came before the table.

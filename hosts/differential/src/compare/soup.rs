@@ -1,6 +1,6 @@
 //! The SoupBinTCP packets' functions.
 
-use super::{name, Expected};
+use super::{fixed, name, Expected};
 use crate::call::Call;
 use crate::reference::soup::{self, Front, Login, Packet, Sender};
 use crate::reference::text;
@@ -30,8 +30,8 @@ pub fn answer(call: &Call) -> Option<Expected> {
             session,
             number,
         } => Expected::writer(soup::write_login(&Login {
-            username: username[..6].try_into().expect("six bytes"),
-            password: password[..10].try_into().expect("ten bytes"),
+            username: fixed(username),
+            password: fixed(password),
             session: name(session),
             number,
         })),

@@ -1,5 +1,6 @@
 //! Numbers, names and damage that several kinds of input share.
 
+use crate::layout::CODES;
 use crate::random::Random;
 
 /// Numbers at which something changes: the ends of 64 bits, of 32 and of 16, and small ones.
@@ -86,6 +87,21 @@ fn damage_once(random: &mut Random, bytes: &mut Vec<u8>) {
         6 => bytes[at] = bytes[at].wrapping_sub(1),
         7 => bytes[at] ^= 1 << random.below(8),
         _ => bytes[at] = put_in,
+    }
+}
+
+/// A state with its first byte, or the one of its phase or stage, made by hand: now and then it is another kind's.
+pub fn by_hand(random: &mut Random, state: &mut [u8], phase: Option<usize>) {
+    let any = random.byte();
+    match random.below(24) {
+        0 => state[0] = random.pick(&CODES),
+        1 => state[0] = random.pick(&[0, 1, 0xE0, 0xE6, any]),
+        2 => state[phase.unwrap_or(0)] = random.pick(&[0, 1, 2, 3, 4, 255, any]),
+        3 => {
+            state[0] = random.pick(&CODES);
+            state[phase.unwrap_or(0)] = random.pick(&[0, 1, 2, 3, 9]);
+        }
+        _ => {}
     }
 }
 

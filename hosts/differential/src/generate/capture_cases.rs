@@ -28,7 +28,7 @@ pub fn single(run: &mut Run, random: &mut Random) {
 }
 
 /// The state of a reading in any stage, its counts at their ends now and then.
-fn by_hand(random: &mut Random, feed: &Feed) -> Vec<u8> {
+pub fn by_hand(random: &mut Random, feed: &Feed) -> Vec<u8> {
     let receiver = Receiver {
         session: feed.name,
         next: feed.first,
@@ -55,10 +55,13 @@ fn by_hand(random: &mut Random, feed: &Feed) -> Vec<u8> {
         refused: line(random),
     };
     let mut state = layout::capture_bytes(&capture);
+    bytes::by_hand(random, &mut state, Some(layout::STAGE));
     match random.below(16) {
-        0 => state[21] = random.byte(),
-        1 => state[20] = random.byte(),
-        2 => state[22..30].copy_from_slice(&bytes::number(random).to_be_bytes()),
+        0 => bytes::by_hand(random, &mut state[layout::CAPTURE_RECEIVER..], None),
+        1 => {
+            let records = bytes::number(random).to_le_bytes();
+            state[layout::RECORDS..][..8].copy_from_slice(&records);
+        }
         _ => {}
     }
     state

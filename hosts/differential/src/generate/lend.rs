@@ -1,11 +1,14 @@
 //! The buffers that a call may write, filled with random bytes: exact, longer than needed, and too short.
 
 use crate::call::{Call, Lent};
-use crate::compare;
+use crate::compare::{self, grounds};
 use crate::random::Random;
 use crate::run::Run;
 
 use super::bytes;
+
+/// The largest output that is lent: what needs more is refused for its size.
+const MOST_ROOM: usize = 65_600;
 
 fn words(random: &mut Random, size: usize) -> Vec<u64> {
     (0..size).map(|_| random.word()).collect()
@@ -46,13 +49,35 @@ pub fn any(random: &mut Random, call: &Call, state: Option<&[u8]>) -> Lent {
         out: vec![],
         state: state_of_size(random, state, state_size),
     };
-    let needed = compare::output_size(call, &lent);
-    let out_size = match needed {
-        Some(needed) => bytes::size_near(random, needed),
-        None => random.below(60),
-    };
+    let needed = grounds::output_needed(call, &lent.state).min(MOST_ROOM);
+    let out_size = bytes::size_near(random, needed);
     lent.out = random.bytes(out_size);
     lent
+}
+
+/// Buffers of which each lacks something every third time, so that several do at once.
+pub fn lacking(random: &mut Random, call: &Call, state: Option<&[u8]>) -> Lent {
+    let (words_size, state_size) = compare::fixed_sizes(call);
+    let words_size = lacking_size(random, words_size);
+    let state_size = lacking_size(random, state_size);
+    let mut lent = Lent {
+        words: words(random, words_size),
+        out: vec![],
+        state: state_of_size(random, state, state_size),
+    };
+    let needed = grounds::output_needed(call, &lent.state).min(MOST_ROOM);
+    let out_size = lacking_size(random, needed);
+    lent.out = random.bytes(out_size);
+    lent
+}
+
+fn lacking_size(random: &mut Random, size: usize) -> usize {
+    match random.below(6) {
+        0 => size.saturating_sub(1),
+        1 => random.below(size.max(1)),
+        2 => size + random.between(1, 4),
+        _ => size,
+    }
 }
 
 /// Buffers that are large enough.
@@ -65,7 +90,7 @@ pub fn roomy(random: &mut Random, call: &Call, state: &[u8]) -> Lent {
         out: vec![],
         state: state_of_size(random, Some(state), state_size),
     };
-    let needed = compare::output_size(call, &lent).unwrap_or(60);
+    let needed = grounds::output_needed(call, &lent.state).min(MOST_ROOM);
     let out_size = roomy_size(random, needed);
     lent.out = random.bytes(out_size);
     lent
@@ -77,8 +102,8 @@ pub fn single(run: &mut Run, random: &mut Random, call: &Call, state: Option<&[u
     run.check(call, &mut lent);
 }
 
-/// A call in a chain: now and then it is tried with buffers of any size before, on a copy of the state. Then it is made with
-/// buffers that are large enough, and the state is handed on.
+/// A call in a chain: now and then it is tried with buffers of any size before, on a copy of the state. Then it is made
+/// with buffers that are large enough, and the state is handed on.
 pub fn chained(
     run: &mut Run,
     random: &mut Random,

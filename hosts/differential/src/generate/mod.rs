@@ -8,6 +8,7 @@ mod feed;
 mod lend;
 mod mold;
 mod mold_cases;
+mod pairs;
 mod session_cases;
 mod soup;
 mod soup_cases;
@@ -20,14 +21,15 @@ use crate::run::Run;
 /// One case: a kind of input, and some calls with it.
 pub fn case(run: &mut Run, random: &mut Random) {
     match random.below(100) {
-        0..15 => mold_cases::read(run, random),
-        15..28 => mold_cases::write(run, random),
-        28..40 => mold_cases::receive(run, random),
-        40..44 => feed::case(run, random),
-        44..56 => soup_cases::read(run, random),
-        56..66 => soup_cases::write(run, random),
-        66..76 => session_cases::server(run, random),
-        76..86 => session_cases::client(run, random),
+        0..13 => mold_cases::read(run, random),
+        13..24 => mold_cases::write(run, random),
+        24..34 => mold_cases::receive(run, random),
+        34..38 => feed::case(run, random),
+        38..48 => soup_cases::read(run, random),
+        48..56 => soup_cases::write(run, random),
+        56..66 => session_cases::server(run, random),
+        66..75 => session_cases::client(run, random),
+        75..86 => pairs::case(run, random),
         86..90 => talk::case(run, random),
         90..96 => capture_cases::single(run, random),
         _ => capture_cases::pieces(run, random),

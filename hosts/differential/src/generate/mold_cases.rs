@@ -66,7 +66,8 @@ fn next_anywhere(run: &mut Run, random: &mut Random, datagram: &[u8]) {
         _ => random.below(datagram.len() + 3) as u64,
     };
     let left = bytes::count(random);
-    let cursor = layout::cursor_bytes(Cursor { place, left });
+    let mut cursor = layout::cursor_bytes(Cursor { place, left });
+    bytes::by_hand(random, &mut cursor, None);
     let cursor = (!random.one_in(8)).then_some(cursor.as_slice());
     lend::single(run, random, &Call::MoldNext { datagram }, cursor);
 }
@@ -208,9 +209,7 @@ pub fn receive(run: &mut Run, random: &mut Random) {
         let datagram = mold::any(random, &sent, number);
         let datagram = datagram.as_slice();
         let mut state = state.clone();
-        if random.one_in(16) {
-            state[20] = random.byte();
-        }
+        bytes::by_hand(random, &mut state, None);
         let state = (!random.one_in(20)).then_some(state.as_slice());
         lend::single(run, random, &Call::ReceiverTake { datagram }, state);
     }

@@ -18,8 +18,14 @@ pub fn server(run: &mut Run, random: &mut Random) {
     };
     lend::single(run, random, &call, None);
     for _ in 0..6 {
+        // A session that no start takes is one of a state made by hand.
+        let session = if random.one_in(12) {
+            soup::session(random)
+        } else {
+            soup::good_session(random)
+        };
         let server = Server {
-            session: soup::good_session(random),
+            session,
             last,
             state: random.pick(&[
                 ServerState::Waiting,
@@ -41,11 +47,76 @@ fn server_step(run: &mut Run, random: &mut Random, server: &Server) {
         soup::any_stream(random, true)
     };
     let state = by_hand(random, layout::server_bytes(server));
-    let call = Call::ServerStep {
-        accounts: &accounts,
-        stream: &stream,
+    let (accounts, stream) = (accounts.as_slice(), stream.as_slice());
+    let step = Call::ServerStep { accounts, stream };
+    lend::single(run, random, &step, state.as_deref());
+    let reply = Call::ServerReply { accounts, stream };
+    lend::single(run, random, &reply, state.as_deref());
+    if let Some(state) = state {
+        set_last(run, random, &state);
+        reply_is_a_step_and_a_writer(run, random, &state, accounts, stream);
+    }
+}
+
+fn set_last(run: &mut Run, random: &mut Random, state: &[u8]) {
+    let last = match random.below(4) {
+        0 => bytes::number(random),
+        _ => bytes::near(random, layout::server(state).last),
     };
-    lend::single(run, random, &call, state.as_deref());
+    lend::single(run, random, &Call::ServerSetLast { last }, Some(state));
+}
+
+/// The step that writes its reply answers as the step alone does, and leaves the same state; what it writes is what the
+/// writer does.
+fn reply_is_a_step_and_a_writer(
+    run: &mut Run,
+    random: &mut Random,
+    state: &[u8],
+    accounts: &[u8],
+    stream: &[u8],
+) {
+    let (mut by_step, mut by_reply) = (state.to_vec(), state.to_vec());
+    let step = Call::ServerStep { accounts, stream };
+    let (code, stepped) = lend::chained(run, random, &step, &mut by_step);
+    let reply = Call::ServerReply { accounts, stream };
+    let (reply_code, replied) = lend::chained(run, random, &reply, &mut by_reply);
+    if code != 0 {
+        if reply_code != code {
+            run.fail("a reply is refused on another ground than its step");
+        }
+        return;
+    }
+    let session = layout::server(state).session;
+    let writer = match stepped.words[0] {
+        1 => Call::SoupWriteAccepted {
+            session: &session,
+            number: stepped.words[2],
+        },
+        2 => Call::SoupWriteRejected {
+            reason: stepped.words[2] as u8,
+        },
+        _ => {
+            let alike = reply_code == 0 && by_reply == by_step && replied.words[5] == 0;
+            if !alike || replied.words[..5] != stepped.words[..5] {
+                run.fail("a reply to no login is another step");
+            }
+            return;
+        }
+    };
+    let (written, lent) = lend::chained(run, random, &writer, &mut vec![]);
+    let alike = match reply_code {
+        0 => {
+            let size = replied.words[5] as usize;
+            written == 0
+                && by_reply == by_step
+                && replied.words[..5] == stepped.words[..5]
+                && replied.out[..size] == lent.out[..lent.words[0] as usize]
+        }
+        refused => written == refused && by_reply == state,
+    };
+    if !alike {
+        run.fail("a reply isn't its step and what the writer writes");
+    }
 }
 
 /// A login that comes close to being accepted at this server.
@@ -65,15 +136,10 @@ pub fn login_at(random: &mut Random, accounts: &[u8], server: &Server) -> Vec<u8
     soup::login(random, &entry, &session, number)
 }
 
-/// A state as it is, with another last byte, or none: then random bytes stand for it.
+/// A state as it is, or with bytes made by hand, or none: then random bytes stand for it.
 fn by_hand(random: &mut Random, mut state: Vec<u8>) -> Option<Vec<u8>> {
-    match random.below(24) {
-        0 => return None,
-        1 => *state.last_mut().expect("a state has bytes") = random.byte(),
-        2 => *state.last_mut().expect("a state has bytes") = random.pick(&[3, 4, 5, 255]),
-        _ => {}
-    }
-    Some(state)
+    bytes::by_hand(random, &mut state, Some(layout::PHASE));
+    (!random.one_in(24)).then_some(state)
 }
 
 pub fn client(run: &mut Run, random: &mut Random) {

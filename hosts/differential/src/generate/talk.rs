@@ -134,12 +134,18 @@ impl Talk {
     }
 
     fn server_takes(&mut self, run: &mut Run, random: &mut Random) {
+        if random.one_in(8) {
+            self.add_messages(run, random);
+        }
         let there = self.server.stream.len();
         let size = if random.one_in(3) {
             random.below(there + 1)
         } else {
             there
         };
+        if random.one_in(2) {
+            return self.server_replies(run, random, size);
+        }
         let call = Call::ServerStep {
             accounts: &self.accounts,
             stream: &self.server.stream[..size],
@@ -165,6 +171,30 @@ impl Talk {
             run.fail("a server answered what can't be written");
         }
         self.client.stream.extend(answer);
+    }
+
+    /// The same by the step that writes its reply.
+    fn server_replies(&mut self, run: &mut Run, random: &mut Random, size: usize) {
+        let call = Call::ServerReply {
+            accounts: &self.accounts,
+            stream: &self.server.stream[..size],
+        };
+        let (code, lent) = lend::chained(run, random, &call, &mut self.server.state);
+        if code != 0 {
+            self.server.stream.clear();
+            return;
+        }
+        self.server.stream.drain(..lent.words[1] as usize);
+        let reply = &lent.out[..lent.words[5] as usize];
+        self.client.stream.extend(reply);
+    }
+
+    /// The server's last number rises, also while its client is in.
+    fn add_messages(&mut self, run: &mut Run, random: &mut Random) {
+        let last = layout::server(&self.server.state).last;
+        let last = bytes::near(random, last);
+        let call = Call::ServerSetLast { last };
+        lend::chained(run, random, &call, &mut self.server.state);
     }
 
     fn client_takes(&mut self, run: &mut Run, random: &mut Random) {

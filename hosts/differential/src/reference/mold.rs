@@ -80,7 +80,7 @@ pub fn read(datagram: &[u8]) -> Result<Datagram, Refusal> {
     })
 }
 
-fn kind_of(count: u16) -> Kind {
+pub fn kind_of(count: u16) -> Kind {
     match count {
         0 => Kind::Heartbeat,
         END => Kind::EndOfSession,
@@ -89,7 +89,7 @@ fn kind_of(count: u16) -> Kind {
 }
 
 /// The three fields of the first 20 bytes, of a datagram or of a request.
-fn header(bytes: &[u8]) -> (Name, u64, u16) {
+pub fn header(bytes: &[u8]) -> (Name, u64, u16) {
     let session = bytes[..10].try_into().expect("ten bytes");
     let number = u64::from_be_bytes(bytes[10..18].try_into().expect("eight bytes"));
     let count = u16::from_be_bytes([bytes[18], bytes[19]]);

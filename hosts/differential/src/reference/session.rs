@@ -107,6 +107,37 @@ impl Server {
         }
     }
 
+    /// Moves the highest message number: it never falls, and is as a start takes it.
+    pub fn set_last(&mut self, last: u64) -> Result<(), Refusal> {
+        if last < self.last || last > u64::MAX - 1 {
+            return Err(19);
+        }
+        self.last = last;
+        Ok(())
+    }
+
+    /// A step with the packet that its answer has the server send, if there is room for it. Where it can't be written
+    /// the step isn't taken either.
+    pub fn reply(
+        &mut self,
+        accounts: &[Account],
+        stream: &[u8],
+        room: usize,
+    ) -> Result<(Step, Vec<u8>), Refusal> {
+        let mut after = self.clone();
+        let step = after.step(accounts, stream)?;
+        let reply = match step.answer {
+            Answer::Accepted { number } => soup::write_accepted(&self.session, number)?,
+            Answer::Rejected { reason } => soup::write_rejected(reason)?,
+            _ => vec![],
+        };
+        if reply.len() > room {
+            return Err(41);
+        }
+        *self = after;
+        Ok((step, reply))
+    }
+
     fn answer_login(&mut self, verdict: Verdict, taken: usize) -> Step {
         let (state, answer) = match verdict.reply() {
             Reply::Accept(number) => (ServerState::In, Answer::Accepted { number }),

@@ -90,7 +90,7 @@ pub fn read(stream: &[u8], sender: Sender) -> Result<Front, Refusal> {
     Ok(Front::Packet { packet, size })
 }
 
-fn sends(sender: Sender, letter: u8) -> bool {
+pub fn sends(sender: Sender, letter: u8) -> bool {
     match sender {
         Sender::Server => b"+AJSHZ".contains(&letter),
         Sender::Client => b"+LURO".contains(&letter),
@@ -98,7 +98,7 @@ fn sends(sender: Sender, letter: u8) -> bool {
 }
 
 /// The length that a letter demands, if it demands one.
-fn fixed_length(letter: u8) -> Option<usize> {
+pub fn fixed_length(letter: u8) -> Option<usize> {
     match letter {
         b'A' => Some(31),
         b'J' => Some(2),
@@ -109,7 +109,7 @@ fn fixed_length(letter: u8) -> Option<usize> {
 }
 
 /// The packet of a known letter and a payload of the right length, if its fields are good.
-fn fields(letter: u8, payload: &[u8]) -> Option<Packet> {
+pub fn fields(letter: u8, payload: &[u8]) -> Option<Packet> {
     let length = payload.len();
     match letter {
         b'+' => Some(Packet::Debug { length }),
@@ -126,7 +126,7 @@ fn fields(letter: u8, payload: &[u8]) -> Option<Packet> {
     }
 }
 
-fn is_reason(reason: u8) -> bool {
+pub fn is_reason(reason: u8) -> bool {
     reason == b'A' || reason == b'S'
 }
 

@@ -8,7 +8,7 @@ pub fn server(last: u64) -> Vec<u8> {
         session: NAME,
         last,
     };
-    ask(&call, &[0; 19]).state
+    ask(&call, &[0; 20]).state
 }
 
 pub fn login(username: &[u8; 6], password: &[u8; 10], session: &[u8; 10], number: u64) -> Vec<u8> {
@@ -24,7 +24,7 @@ fn log_in(accounts: &[u8], last: u64, stream: &[u8]) -> ([u64; 3], u8) {
     let answer = ask(&Call::ServerStep { accounts, stream }, &server(last));
     let (code, words) = words(&answer);
     assert_eq!(code, 0);
-    (words, answer.state[18])
+    (words, answer.state[19])
 }
 
 pub const BLANK: &[u8; 10] = b"          ";

@@ -6,6 +6,7 @@ mod login;
 mod packets;
 mod receiver;
 mod sessions;
+mod states;
 
 use differential::call::{Call, Lent};
 use differential::library::{Archive, Library};
@@ -16,14 +17,14 @@ const TOP: u64 = u64::MAX;
 
 struct Answer {
     code: u32,
-    words: [u64; 5],
+    words: [u64; 6],
     out: Vec<u8>,
     state: Vec<u8>,
 }
 
 fn lent(state: &[u8]) -> Lent {
     Lent {
-        words: vec![0; 5],
+        words: vec![0; 6],
         out: vec![0; 70_000],
         state: state.to_vec(),
     }
@@ -31,8 +32,13 @@ fn lent(state: &[u8]) -> Lent {
 
 /// Asks both, who have to agree.
 fn ask(call: &Call, state: &[u8]) -> Answer {
-    let mut by_reference = lent(state);
-    let mut by_library = lent(state);
+    ask_with(call, lent(state))
+}
+
+/// The same with these buffers.
+fn ask_with(call: &Call, lent: Lent) -> Answer {
+    let mut by_reference = lent.clone();
+    let mut by_library = lent;
     let code = StandIn.call(call, &mut by_reference);
     let library_code = Archive.call(call, &mut by_library);
     let agree = library_code == code && by_library == by_reference;
@@ -42,7 +48,7 @@ fn ask(call: &Call, state: &[u8]) -> Answer {
     );
     Answer {
         code,
-        words: by_library.words.try_into().expect("five words"),
+        words: std::array::from_fn(|at| by_library.words.get(at).copied().unwrap_or(0)),
         out: by_library.out,
         state: by_library.state,
     }

@@ -15,7 +15,7 @@ fn receiver(next: u64, limit: u16) -> Vec<u8> {
 }
 
 fn next_of(state: &[u8]) -> u64 {
-    u64::from_be_bytes(state[10..18].try_into().expect("eight bytes"))
+    u64::from_le_bytes(state[11..19].try_into().expect("eight bytes"))
 }
 
 /// The answer's code and words, and the expected number afterwards.
@@ -79,7 +79,7 @@ fn empty_messages_are_delivered() {
         count: 1,
         skipped: 1,
     };
-    let cursor = ask(&walk, &[0; 10]).state;
+    let cursor = ask(&walk, &[0; 11]).state;
     let first = ask(&Call::MoldNext { datagram }, &cursor);
     assert_eq!(words(&first), (0, [1, 24, 0]));
     let behind = ask(&Call::MoldNext { datagram }, &first.state);

@@ -8,7 +8,10 @@ use differential::call::Call;
 fn server_states() {
     let step = |state: u8, stream: &[u8]| {
         let mut server = server(5);
-        server[18] = state;
+        server[19] = state;
+        if state == 9 {
+            server[0] = 0;
+        }
         let answer = ask(
             &Call::ServerStep {
                 accounts: &[],
@@ -20,7 +23,7 @@ fn server_states() {
             answer.code,
             answer.words[0],
             answer.words[1],
-            answer.state[18],
+            answer.state[19],
         )
     };
     let login = login(b"alice ", b"secret    ", BLANK, 1);
@@ -58,21 +61,31 @@ fn server_states() {
     }
 }
 
-/// Need more changes no state, at both ends. The header's form of a closed one is 0, whatever byte it was made with by hand.
+/// The bytes of an end in a state: its phase, and its code while it is open.
+fn end(code: u8, session: &[u8; 10], number: u64, phase: u8) -> Vec<u8> {
+    let first = if matches!(phase, 1 | 2) { code } else { 0 };
+    [&[first][..], session, &number.to_le_bytes(), &[phase]].concat()
+}
+
+fn client(session: &[u8; 10], number: u64, phase: u8) -> Vec<u8> {
+    end(0xE4, session, number, phase)
+}
+
+/// Need more changes no byte, at both ends, whatever a state was made of by hand.
 #[test]
 fn need_more_changes_no_state() {
-    let with = |byte: u8| [&NAME[..], &5u64.to_be_bytes(), &[byte]].concat();
-    for byte in 0..=255 {
-        for stream in [&[], &[0][..], &[0, 47], &[0, 1]] {
-            let at_server = Call::ServerStep {
-                accounts: &[],
-                stream,
-            };
-            for (call, open) in [(at_server, 2), (Call::ClientStep { stream }, 3)] {
-                let answer = ask(&call, &with(byte));
-                assert_eq!((answer.code, answer.words), (0, [0; 5]));
-                let formed = if byte <= open { byte } else { 0 };
-                assert_eq!(answer.state, with(formed));
+    for byte in 0..=255u8 {
+        for first in [0, 9, byte, 0xE3, 0xE4] {
+            let state = [&[first][..], NAME, &5u64.to_le_bytes(), &[byte]].concat();
+            for stream in [&[], &[0][..], &[0, 47], &[0, 1]] {
+                let accounts = &[];
+                let at_server = Call::ServerStep { accounts, stream };
+                let with_reply = Call::ServerReply { accounts, stream };
+                for call in [at_server, with_reply, Call::ClientStep { stream }] {
+                    let answer = ask(&call, &state);
+                    assert_eq!((answer.code, answer.words), (0, [0; 6]));
+                    assert_eq!(answer.state, state);
+                }
             }
         }
     }
@@ -81,13 +94,12 @@ fn need_more_changes_no_state() {
 #[test]
 fn client_states() {
     let step = |state: u8, stream: &[u8]| {
-        let client = [&NAME[..], &5u64.to_be_bytes(), &[state]].concat();
-        let answer = ask(&Call::ClientStep { stream }, &client);
+        let answer = ask(&Call::ClientStep { stream }, &client(NAME, 5, state));
         (
             answer.code,
             answer.words[0],
             answer.words[1],
-            answer.state[18],
+            answer.state[19],
         )
     };
     let accepted = accepted(NAME, "5");
@@ -109,9 +121,6 @@ fn client_states() {
 
 #[test]
 fn client_numbers() {
-    let client = |session: &[u8; 10], number: u64, state: u8| {
-        [&session[..], &number.to_be_bytes(), &[state]].concat()
-    };
     let step = |state: &[u8], stream: &[u8]| {
         let answer = ask(&Call::ClientStep { stream }, state);
         (answer.code, answer.words, answer.state)
@@ -119,13 +128,13 @@ fn client_numbers() {
     let seven = accepted(NAME, "07");
     for (session, number) in [(NAME, 7), (NAME, 0), (BLANK, 7), (BLANK, 0)] {
         let answer = step(&client(session, number, 1), &seven);
-        assert_eq!(answer, (0, [1, 33, 7, 0, 0], client(NAME, 7, 2)));
+        assert_eq!(answer, (0, [1, 33, 7, 0, 0, 0], client(NAME, 7, 2)));
     }
     assert_eq!(step(&client(NAME, 8, 1), &seven).0, 33);
     assert_eq!(step(&client(b"readroom01", 7, 1), &seven).0, 33);
     let message = packet(b'S', b"abc");
     let answer = step(&client(NAME, TOP - 1, 2), &message);
-    assert_eq!(answer, (0, [3, 6, TOP - 1, 3, 3], client(NAME, TOP, 2)));
+    assert_eq!(answer, (0, [3, 6, TOP - 1, 3, 3, 0], client(NAME, TOP, 2)));
     assert_eq!(step(&client(NAME, TOP, 2), &message).0, 34);
     assert_eq!(step(&client(NAME, TOP, 2), &packet(b'H', b"")).0, 0);
 }

@@ -1,8 +1,10 @@
-//! SoupBinTCP: a server and a client over two streams that come in odd pieces, from the login to the end of the session.
+//! SoupBinTCP: a server and a client over two streams that come in odd pieces, from the login to the end of the
+//! session.
 
 use differential::random::Random;
+use eiderwagon::raw::LARGEST_REPLY;
 use eiderwagon::session::{
-    Accounts, Client, ClientAnswer, ClientState, Server, ServerAnswer, ServerState,
+    Accounts, Client, ClientAnswer, ClientState, Replied, Server, ServerAnswer, ServerState,
 };
 use eiderwagon::soup::{Login, Packet};
 
@@ -113,11 +115,10 @@ impl Talk {
     /// The server takes what came, packet by packet.
     fn server_takes(&mut self) {
         while self.server.state() != ServerState::Closed {
-            let step = self.server.step(&self.accounts, &self.up.came);
-            let step = step.expect("nothing is damaged");
-            if let Some(reply) = self.server.reply(&step.answer) {
-                self.down.send(&reply);
-            }
+            let mut out = [0; LARGEST_REPLY];
+            let replied = self.server.reply(&self.accounts, &self.up.came, &mut out);
+            let Replied { step, reply } = replied.expect("nothing is damaged");
+            self.down.sent.extend(reply);
             match step.answer {
                 ServerAnswer::NeedMore => return,
                 ServerAnswer::Accepted { number } => self.sent = number as usize - 1,

@@ -1,5 +1,5 @@
 use super::Step;
-use crate::call::{check, field, pointed, received, unknown};
+use crate::call::{check, field, number, pointed, received, unknown};
 use crate::soup::Reason;
 use crate::{raw, Refusal, Session};
 use std::fmt;
@@ -81,11 +81,12 @@ impl Client {
 
     /// How far it is.
     pub fn state(&self) -> ClientState {
-        match self.state[raw::CLIENT_STATE_AT] {
-            raw::CLIENT_ASKED => ClientState::Asked,
-            raw::CLIENT_IN => ClientState::In,
-            raw::CLIENT_ENDED => ClientState::Ended,
-            _ => ClientState::Closed,
+        let open = self.state[raw::CLIENT_CODE_AT] == raw::CLIENT_OPEN;
+        match (open, self.state[raw::CLIENT_PHASE_AT]) {
+            (true, raw::CLIENT_IN) => ClientState::In,
+            (true, _) => ClientState::Asked,
+            (false, raw::CLIENT_ENDED) => ClientState::Ended,
+            (false, _) => ClientState::Closed,
         }
     }
 
@@ -96,7 +97,7 @@ impl Client {
 
     /// The number: the one asked for, and from an accepted login on that of the next message.
     pub fn number(&self) -> u64 {
-        u64::from_be_bytes(field(&self.state, raw::CLIENT_NUMBER_AT))
+        number(&self.state, raw::CLIENT_NUMBER_AT)
     }
 
     /// The state's bytes, as `include/eiderwagon.h` lays them out.

@@ -7,10 +7,10 @@ pub eiderwagon-mold-read-spec : {M : Type 1} → statement M
 eiderwagon-mold-read-spec =
     tie.close
     (tie.spec
-    (λ c κs. search reads)  -- read-requires
-    (λ c κs. search reads)  -- datagram-words-requires
+    (λ c. search reads)  -- read-requires
+    (λ c. search reads)  -- datagram-words-requires
     (λ c. search reads)  -- slice-aggregate-answer
-    (λ c κs. search reads)  -- answer-requires
+    (λ c. search reads)  -- answer-requires
     (λ c. search reads)  -- same-length
     (λ c. search reads)  -- returns
     )

@@ -1,4 +1,4 @@
--- The place that was found.
+-- What was found, by its words.
 use Rattle.exports_moldudp64.proofs.Rules.{messages}
 use Rattle.exports_moldudp64.proofs.messages.eiderwagon_mold_locate.Statement.{statement}
 use Rattle.exports_moldudp64.proofs.messages.eiderwagon_mold_locate.Tie as tie
@@ -7,10 +7,10 @@ pub eiderwagon-mold-locate-spec : {M : Type 1} → statement M
 eiderwagon-mold-locate-spec =
     tie.close
     (tie.spec
-    (λ c κs. search messages)  -- locate-requires
-    (λ c κs. search messages)  -- located-words-requires
+    (λ c. search messages)  -- locate-requires
+    (λ c. search messages)  -- located-words-requires
     (λ c. search messages)  -- slice-aggregate-answer
-    (λ c κs. search messages)  -- answer-requires
+    (λ c. search messages)  -- answer-requires
     (λ c. search messages)  -- same-length
     (λ c. search messages)  -- returns
     )

@@ -7,9 +7,8 @@ pub eiderwagon-mold-walk-spec : {M : Type 1} → statement M
 eiderwagon-mold-walk-spec =
     tie.close
     (tie.spec
-    (λ c κs. search messages)  -- code-requires
-    (λ c κs. search messages)  -- start-requires
-    (λ c κs. search messages)  -- write-requires
+    (λ c. search messages)  -- start-requires
+    (λ c. search messages)  -- write-requires
     (λ c. search messages)  -- same-length
     (λ c. search messages)  -- returns
     )

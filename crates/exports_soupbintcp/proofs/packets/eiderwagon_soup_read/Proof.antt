@@ -1,4 +1,4 @@
--- The front's answer, by its words.
+-- The reader's answer, by its words.
 use Rattle.exports_soupbintcp.proofs.Rules.{answers}
 use Rattle.exports_soupbintcp.proofs.packets.eiderwagon_soup_read.Statement.{statement}
 use Rattle.exports_soupbintcp.proofs.packets.eiderwagon_soup_read.Tie as tie
@@ -7,11 +7,11 @@ pub eiderwagon-soup-read-spec : {M : Type 1} → statement M
 eiderwagon-soup-read-spec =
     tie.close
     (tie.spec
-    (λ c κs. search answers)  -- sender-of-requires
-    (λ c κs. search answers)  -- read-requires
-    (λ c κs. search answers)  -- front-words-requires
+    (λ c. search answers)  -- sender-of-requires
+    (λ c. search answers)  -- read-requires
+    (λ c. search answers)  -- front-words-requires
     (λ c. search answers)  -- slice-aggregate-answer
-    (λ c κs. search answers)  -- answer-requires
+    (λ c. search answers)  -- answer-requires
     (λ c. search answers)  -- same-length
     (λ c. search answers)  -- returns
     )

@@ -7,11 +7,11 @@ pub eiderwagon-soup-scan-spec : {M : Type 1} → statement M
 eiderwagon-soup-scan-spec =
     tie.close
     (tie.spec
-    (λ c κs. search answers)  -- sender-of-requires
-    (λ c κs. search answers)  -- scan-requires
-    (λ c κs. search answers)  -- stop-number-requires
+    (λ c. search answers)  -- sender-of-requires
+    (λ c. search answers)  -- scan-requires
+    (λ c. search answers)  -- stop-number-requires
     (λ c. search answers)  -- slice-aggregate-answer
-    (λ c κs. search answers)  -- answer-requires
+    (λ c. search answers)  -- answer-requires
     (λ c. search answers)  -- same-length
     (λ c. search answers)  -- returns
     )

@@ -5,7 +5,8 @@ use crate::call::Call;
 use crate::compare::Expected;
 use crate::layout;
 use crate::reference::capture::{self as reference, Capture};
-use eiderwagon::capture::{self, Fed, Reading};
+use crate::reference::receiver::Receiver;
+use eiderwagon::capture::{self, Counts, Fed, Reading, Stage};
 
 pub fn difference(call: &Call, expected: &Expected, out: &mut [u8]) -> Option<String> {
     match *call {
@@ -22,8 +23,8 @@ pub fn difference(call: &Call, expected: &Expected, out: &mut [u8]) -> Option<St
     }
 }
 
-/// A reading is had from its start alone, so the other functions are compared along a whole capture: in three pieces, what isn't used
-/// being fed again.
+/// A reading is had from its start alone, so the other functions are compared along a whole capture: in three pieces,
+/// what isn't used being fed again.
 fn in_pieces(capture: &[u8], expected: &Expected, out: &mut [u8]) -> Option<String> {
     let mut reading = Reading::start();
     let mut wanted = Capture::start();
@@ -50,10 +51,43 @@ fn reference_feed(capture: &mut Capture, piece: &[u8]) -> Fed {
 }
 
 fn same_reading(reading: &Reading, wanted: &Capture) -> Option<String> {
-    same("report", reading.report(), text(&wanted.report())).or_else(|| {
-        let bytes = layout::capture_bytes(wanted);
-        same("reading", reading.as_bytes().as_slice(), bytes.as_slice())
-    })
+    same("report", reading.report(), text(&wanted.report()))
+        .or_else(|| same("reading", as_reference(reading), wanted.clone()))
+        .or_else(|| {
+            let bytes = layout::capture_bytes(wanted);
+            same("reading", reading.as_bytes().as_slice(), bytes.as_slice())
+        })
+}
+
+fn as_reference(reading: &Reading) -> Capture {
+    let Counts {
+        records,
+        delivered,
+        old,
+        quiet,
+        asked,
+        refused,
+    } = reading.counts();
+    Capture {
+        receiver: Receiver {
+            session: reading.session(),
+            next: reading.next(),
+            limit: reading.limit(),
+            ended: reading.is_ended(),
+        },
+        stage: match reading.stage() {
+            Stage::Settings => reference::Stage::Settings,
+            Stage::Records => reference::Stage::Records,
+            Stage::Done => reference::Stage::Done,
+            Stage::SettingsRefused => reference::Stage::SettingsRefused,
+        },
+        records,
+        delivered,
+        old,
+        quiet,
+        asked,
+        refused,
+    }
 }
 
 fn text(report: &[u8]) -> String {

@@ -1,6 +1,8 @@
-//! The wrapper's types above the exported functions: for each drawn input that they can be given, their answer is the reference's.
+//! The wrapper's types above the exported functions: for each drawn input that they can be given, their answer is the
+//! reference's.
 //!
-//! A drawn state may be of any bytes; the types have only those that a start and some steps lead to, and `reach` goes there.
+//! A drawn state may be of any bytes; the types have only those that a start and some steps lead to, and `reach` goes
+//! there.
 
 mod capture;
 mod mold;
@@ -8,22 +10,22 @@ mod reach;
 mod session;
 mod soup;
 
-use super::{expect, Expected, SHORT_LENT};
+use super::{expect, grounds, Expected};
 use crate::call::{Call, Lent};
 use eiderwagon::Refusal;
 use std::fmt::Debug;
 
 /// What differs between the typed answer and the reference's, if anything does. `lent` is as it was before the call.
 pub fn difference(call: &Call, lent: &Lent) -> Option<String> {
-    let expected = expect(call, lent);
-    if expected.outcome == SHORT_LENT {
-        // The types have no name, state or words of another size.
+    // The types have no name, state or words of another size.
+    if { grounds::of(call, lent).into_iter() }.any(grounds::has_no_type) {
         return None;
     }
+    let expected = expect(call, lent);
     let mut out = lent.out.clone();
     mold::difference(call, &lent.state, &expected, &mut out)
         .or_else(|| soup::difference(call, &expected, &mut out))
-        .or_else(|| session::difference(call, &lent.state, &expected))
+        .or_else(|| session::difference(call, &lent.state, &expected, &mut out))
         .or_else(|| capture::difference(call, &expected, &mut out))
 }
 

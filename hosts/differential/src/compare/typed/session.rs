@@ -7,13 +7,16 @@ use crate::compare::Expected;
 use crate::layout;
 use crate::reference::session as reference;
 use crate::reference::session::Answer;
-use crate::reference::soup::{write_accepted, write_rejected};
 use eiderwagon::session::{
-    Accounts, Client, ClientAnswer, ClientState, Server, ServerAnswer, ServerState, Step,
+    Accounts, Client, ClientAnswer, ClientState, Replied, Server, ServerAnswer, ServerState, Step,
 };
-use eiderwagon::soup::Packet;
 
-pub fn difference(call: &Call, state: &[u8], expected: &Expected) -> Option<String> {
+pub fn difference(
+    call: &Call,
+    state: &[u8],
+    expected: &Expected,
+    out: &mut [u8],
+) -> Option<String> {
     match *call {
         Call::ServerStart { session, last } => {
             let session = front(session);
@@ -21,8 +24,12 @@ pub fn difference(call: &Call, state: &[u8], expected: &Expected) -> Option<Stri
             let wanted = reference::Server::start(session, last);
             same("server", numbered(typed), wanted)
         }
+        Call::ServerSetLast { last } => set_last(&front(state), last, expected),
         Call::ServerStep { accounts, stream } => {
             server_step(&front(state), accounts, stream, expected)
+        }
+        Call::ServerReply { accounts, stream } => {
+            server_reply(&front(state), accounts, stream, expected, out)
         }
         Call::ClientStart { session, number } => {
             let session = front(session);
@@ -60,6 +67,18 @@ fn of_client(client: &Client) -> reference::Client {
     }
 }
 
+fn set_last(state: &[u8; layout::SERVER], last: u64, expected: &Expected) -> Option<String> {
+    let mut server = reach::server(state)?;
+    let mut wanted = layout::server(state);
+    same(
+        "last",
+        numbered(server.set_last(last)),
+        wanted.set_last(last),
+    )
+    .or_else(|| same("server", of_server(&server), wanted))
+    .or_else(|| same_state(expected, state, server.as_bytes()))
+}
+
 fn server_step(
     state: &[u8; layout::SERVER],
     accounts: &[u8],
@@ -70,31 +89,34 @@ fn server_step(
     let mut wanted = layout::server(state);
     let step = wanted.step(&layout::accounts(accounts), stream);
     let typed = numbered(server.step(&Accounts::from_bytes(accounts), stream));
-    let reply = typed
-        .as_ref()
-        .ok()
-        .and_then(|step| server.reply(&step.answer))
-        .map(written);
-    let wanted_reply = step.as_ref().ok().and_then(|step| match step.answer {
-        Answer::Accepted { number } => write_accepted(&wanted.session, number).ok(),
-        Answer::Rejected { reason } => write_rejected(reason).ok(),
-        _ => None,
-    });
-    let step = step.map(|step| Step {
-        answer: server_answer(&step.answer, stream),
-        size: step.taken,
-    });
-    same("step", typed, step)
-        .or_else(|| same("reply", reply, wanted_reply))
+    same("step", typed, step.map(|step| typed_step(&step, stream)))
         .or_else(|| same("server", of_server(&server), wanted))
         .or_else(|| same_state(expected, state, server.as_bytes()))
 }
 
-/// Packets don't compare, but what is written of them does.
-fn written(packet: Packet) -> Vec<u8> {
-    let mut out = [0; 64];
-    let written = packet.write(&mut out).expect("a reply can be written");
-    written.to_vec()
+fn server_reply(
+    state: &[u8; layout::SERVER],
+    accounts: &[u8],
+    stream: &[u8],
+    expected: &Expected,
+    out: &mut [u8],
+) -> Option<String> {
+    let mut server = reach::server(state)?;
+    let mut wanted = layout::server(state);
+    let replied = wanted.reply(&layout::accounts(accounts), stream, out.len());
+    let typed = server.reply(&Accounts::from_bytes(accounts), stream, out);
+    let typed = numbered(typed).map(|Replied { step, reply }| (step, reply.to_vec()));
+    let replied = replied.map(|(step, reply)| (typed_step(&step, stream), reply));
+    same("reply", typed, replied)
+        .or_else(|| same("server", of_server(&server), wanted))
+        .or_else(|| same_state(expected, state, server.as_bytes()))
+}
+
+fn typed_step<'a>(step: &reference::Step, stream: &'a [u8]) -> Step<ServerAnswer<'a>> {
+    Step {
+        answer: server_answer(&step.answer, stream),
+        size: step.taken,
+    }
 }
 
 fn server_answer<'a>(answer: &Answer, stream: &'a [u8]) -> ServerAnswer<'a> {

@@ -1,0 +1,35 @@
+-- The step's answer by its words, its reply in the output, and the next server kept where it took something.
+use Rattle.exports_reply.proofs.Rules.{replies}
+use Rattle.exports_reply.proofs.CallLaws.{reply-waits, reply-moves, reply-promised}
+use Rattle.exports_reply.proofs.eiderwagon_server_reply.Statement.{statement}
+use Rattle.exports_reply.proofs.eiderwagon_server_reply.Tie as tie
+
+pub eiderwagon-server-reply-spec : {M : Type 1} → statement M
+eiderwagon-server-reply-spec =
+    tie.close
+    (tie.spec
+    (λ c. search replies)  -- lent-from-requires
+    (λ c. search replies)  -- read-requires
+    (λ c. search replies)  -- sub-step
+    (λ c. search replies)  -- part-step-start
+    (λ c. search replies)  -- part-step-end
+    (λ c. search replies)  -- step-requires
+    (λ c. search replies)  -- answer-words-requires
+    (λ c. search replies)  -- behind-stateless-requires
+    (λ c. search replies)  -- array-read-t26
+    (λ c. search replies)  -- array-read-t29
+    (λ c. search replies)  -- array-read-t32
+    (λ c. search replies)  -- array-read-t35
+    (λ c. search replies)  -- array-read-t38
+    (λ c. search replies)  -- slice-aggregate-answer
+    (λ c. search replies)  -- answer-requires
+    (λ c. search replies)  -- same-length
+    (λ c. search replies)  -- same-length-2
+    (λ c. search replies)  -- same-length-3
+    (λ c. reply-promised (reply-waits _ _ _ _ _ _ _ _ _ _ _ _ _ _ (c .before .before .before .before .before .before .before .before .before .before .before .before .before .before .before .before .before .lent-from .ensures) (c .before .before .before .before .before .before .before .before .before .before .before .before .before .before .before .read .ensures) (c .before .before .before .before .before .before .before .before .before .before .before .before .before .step .ensures .0) (c .before .before .before .before .before .before .before .before .before .answer-words .ensures .0 .0) (c .before .before .before .before .before .before .before .before .before .answer-words .ensures .0 .1) (c .before .before .before .before .before .before .before .before .behind-stateless .ensures) (c .before .before .before .before .answer .ensures) (c .if1 .taken)))  -- returns
+    (λ c. search replies)  -- write-requires
+    (λ c. search replies)  -- same-length-4
+    (λ c. search replies)  -- same-length-5
+    (λ c. search replies)  -- same-length-6
+    (λ c. reply-promised (reply-moves _ _ _ _ _ _ _ _ _ _ _ _ _ _ (c .before .before .before .before .before .before .before .before .before .before .before .before .before .before .before .before .before .before .before .before .before .lent-from .ensures) (c .before .before .before .before .before .before .before .before .before .before .before .before .before .before .before .before .before .before .before .read .ensures) (c .before .before .before .before .before .before .before .before .before .before .before .before .before .before .before .before .before .step .ensures .0) (c .before .before .before .before .before .before .before .before .before .before .before .before .before .answer-words .ensures .0 .0) (c .before .before .before .before .before .before .before .before .before .before .before .before .before .answer-words .ensures .0 .1) (c .before .before .before .before .before .before .before .before .before .before .before .before .behind-stateless .ensures) (c .before .before .before .before .before .before .before .before .answer .ensures) _ _ (c .before .before .before .before .if1 .left) (c .before .before .write .ensures .0) (c .before .before .write .ensures .1 .0)))  -- returns-2
+    )

@@ -1,0 +1,12 @@
+-- The report of a fresh reading.
+use Rattle.host_capture.proofs.Rules.{readings}
+use Rattle.host_capture.proofs.refused.Statement.{statement}
+use Rattle.host_capture.proofs.refused.Tie as tie
+
+pub refused-spec : {M : Type 1} → statement M
+refused-spec =
+    tie.close
+    (tie.spec
+    (λ c. search readings)  -- new-requires
+    (λ c. search readings)  -- returns
+    )

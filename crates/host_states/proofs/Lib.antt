@@ -1,0 +1,3 @@
+pub mod LittleLaws
+pub mod StateLaws
+pub mod Rules

@@ -1,0 +1,227 @@
+"""Vectors to which two grounds of refusal apply at once, of every function that has several: the first of its ladder is
+given. A ladder is a good call, and its grounds in their order, each with what is to be changed for it to apply; two
+whose changes touch other fields are put together. The order is document 01's: what needs no state, 41 for the state,
+the state's own, and 41 for what is lent to write in."""
+import itertools
+
+from boundary import (
+    CAPTURE_SIZE,
+    CLIENT_SIZE,
+    CURSOR_SIZE,
+    RECEIVER_SIZE,
+    SERVER_SIZE,
+    client_bytes,
+    cursor_bytes,
+    lengths_bytes,
+    reading_bytes,
+    receiver_bytes,
+    server_bytes,
+)
+from capture_rules import START
+from captures import lines
+from datagrams import ROOM, TWO, data_of, end
+from lines import room
+from logins import LOGIN, READER, SOUND_RECORD
+from mold_rules import TOP, Receiver, header
+from session_rules import Client, Server
+from streams import BLANK, PASSWORD, USER, accepted, login, packet, raw
+
+OTHER = b"READROOM02"
+SHORT_NAME, LONG_NAME = ROOM[:9], ROOM + b"1"
+# one word fewer than a function sets
+FEW_WORDS = ("41 words", dict(spare=-1))
+LONG = b"m" * 4097  # a payload that no packet has
+
+
+def short(size):
+    """A state that lacks a byte."""
+    return ("41 state", dict(s=room(size - 1)))
+
+
+def output(size, key="s"):
+    """An output that lacks a byte."""
+    return ("41 output", {key: room(size - 1)})
+
+
+def named(number):
+    """A session's name of another size, shorter and longer."""
+    return [(f"{number} nine bytes", dict(a=SHORT_NAME)), (f"{number} eleven bytes", dict(a=LONG_NAME))]
+
+
+# of a datagram, and of a client's and a server's stream
+OF_DATAGRAM = [
+    ("11", dict(a=TWO[:19])),
+    ("12", dict(a=TWO + bytes(65507))),
+    ("13", dict(a=data_of(0, 1))),
+    ("14", dict(a=data_of(TOP, 1))),
+    ("15", dict(a=TWO[:-1])),
+    ("16", dict(a=TWO + b"\x00")),
+]
+
+
+def of_stream(key, letter, other, bad_field):
+    """21 to 25, in the field of the stream."""
+    streams = (raw(0, letter), raw(4098, letter), packet(other), raw(48, letter), bad_field)
+    return [(str(21 + at), {key: data}) for at, data in enumerate(streams)]
+
+
+FROM_CLIENT = of_stream("b", b"L", b"H", login(session=b"READ ROOM"))
+FROM_SERVER = of_stream("a", b"A", b"R", accepted(session=b"READ ROOM"))
+WAITING, ASKED, IN = (
+    server_bytes(Server(ROOM, 5, "waiting")),
+    client_bytes(Client(ROOM, 7, "asked")),
+    client_bytes(Client(ROOM, TOP, "in")),
+)
+OF_SERVER = [
+    ("19", dict(a=SOUND_RECORD * 1025)),
+    *FROM_CLIENT,
+    short(SERVER_SIZE),
+    ("32", dict(s=server_bytes(Server(ROOM, 5, "closed")))),
+    ("31", dict(s=server_bytes(Server(ROOM, 5, "in")))),
+]
+# any session is asked for, so that a server with a bad one accepts too
+STEP = dict(a=READER, b=login(BLANK, b"3", READER[:6], READER[6:]), s=WAITING)
+
+# of each function a good call, and its ladder
+LADDERS = [
+    ("mold_read", dict(a=TWO), [*OF_DATAGRAM, FEW_WORDS]),
+    ("mold_next", dict(a=TWO, s=cursor_bytes((20, 2))), [short(CURSOR_SIZE), FEW_WORDS]),
+    (
+        "mold_write_data",
+        dict(a=ROOM, n=1, b=lengths_bytes([3]), c=b"one", s=room(25)),
+        [
+            ("42", dict(b=lengths_bytes([0] * 65535), c=b"")),
+            ("44", dict(c=b"four")),
+            ("13", dict(n=0)),
+            ("14", dict(n=TOP)),
+            ("12", dict(b=lengths_bytes([65486]), c=b"a" * 65486)),
+            *named(41),
+            output(25),
+            FEW_WORDS,
+        ],
+    ),
+    *(
+        (name, dict(a=ROOM, n=6, s=room(20)), [("13", dict(n=0)), *named(41), output(20), FEW_WORDS])
+        for name in ("mold_write_heartbeat", "mold_write_end")
+    ),
+    (
+        "mold_read_request",
+        dict(a=header(ROOM, 3, 2)),
+        [("47", dict(a=b"")), ("13", dict(a=header(ROOM, 0, 2))), ("48", dict(a=header(ROOM, 3, 0))), FEW_WORDS],
+    ),
+    (
+        "mold_write_request",
+        dict(a=ROOM, n=3, m=2, s=room(20)),
+        [("13", dict(n=0)), ("48", dict(m=65535)), *named(41), output(20), FEW_WORDS],
+    ),
+    (
+        "receiver_start",
+        dict(a=ROOM, n=1, m=100, s=room(RECEIVER_SIZE)),
+        [*named(19), ("19 number", dict(n=0)), ("19 limit", dict(m=65535)), short(RECEIVER_SIZE)],
+    ),
+    (
+        "receiver_take",
+        dict(a=end(2), s=receiver_bytes(Receiver(ROOM, 2, 9, False))),
+        [
+            *OF_DATAGRAM,
+            short(RECEIVER_SIZE),
+            ("17", dict(s=receiver_bytes(Receiver(OTHER, 2, 9, False)))),
+            ("18", dict(s=receiver_bytes(Receiver(ROOM, 2, 9, True)))),
+            ("20", dict(s=receiver_bytes(Receiver(ROOM, 3, 9, False)))),
+            FEW_WORDS,
+        ],
+    ),
+    ("soup_read", dict(a=LOGIN, n=1), [(ground, dict(a=change["b"])) for ground, change in FROM_CLIENT] + [FEW_WORDS]),
+    *(
+        (f"soup_write_{name}", dict(a=b"note", s=room(7)), [("22", dict(a=LONG)), output(7), FEW_WORDS])
+        for name in ("debug", "sequenced", "unsequenced")
+    ),
+    (
+        "soup_write_accepted",
+        dict(a=ROOM, n=7, s=room(33)),
+        [*named(46), ("46 number", dict(n=0)), output(33), FEW_WORDS],
+    ),
+    ("soup_write_rejected", dict(n=ord("A"), s=room(4)), [("46", dict(n=0)), output(4), FEW_WORDS]),
+    (
+        "soup_write_login",
+        dict(a=USER, b=PASSWORD, c=ROOM, n=7, s=room(49)),
+        [
+            ("46 username of five bytes", dict(a=USER[:5])),
+            ("46 username of seven bytes", dict(a=USER + b" ")),
+            ("46 password of eleven bytes", dict(b=PASSWORD + b" ")),
+            ("46 session of nine bytes", dict(c=SHORT_NAME)),
+            ("46 session", dict(c=b"READ ROOM1")),
+            output(49),
+            FEW_WORDS,
+        ],
+    ),
+    *(
+        (f"soup_write_{name}", dict(s=room(3)), [output(3), FEW_WORDS])
+        for name in ("server_heartbeat", "end", "client_heartbeat", "logout")
+    ),
+    (
+        "server_start",
+        dict(a=ROOM, n=5, s=room(SERVER_SIZE)),
+        [*named(19), ("19 session", dict(a=BLANK)), ("19 last", dict(n=TOP)), short(SERVER_SIZE)],
+    ),
+    ("server_step", STEP, [*OF_SERVER, FEW_WORDS]),
+    ("server_set_last", dict(n=6, s=WAITING), [("19 top", dict(n=TOP)), short(SERVER_SIZE), ("19 falls", dict(n=4))]),
+    (
+        "server_reply",
+        dict(**STEP, c=room(33)),
+        [*OF_SERVER, ("46", dict(s=server_bytes(Server(BLANK, 5, "waiting")))), output(33, "c"), FEW_WORDS],
+    ),
+    (
+        "client_start",
+        dict(a=ROOM, n=7, s=room(CLIENT_SIZE)),
+        [*named(19), ("19 session", dict(a=bytes(10))), short(CLIENT_SIZE)],
+    ),
+    (
+        "client_step",
+        dict(a=accepted(), s=ASKED),
+        [
+            *FROM_SERVER,
+            short(CLIENT_SIZE),
+            ("32", dict(s=client_bytes(Client(ROOM, 7, "ended")))),
+            ("31", dict(s=client_bytes(Client(ROOM, 7, "in")))),
+            ("33", dict(s=client_bytes(Client(ROOM, 8, "asked")))),
+            FEW_WORDS,
+        ],
+    ),
+    ("client_step", dict(a=packet(b"H"), s=IN), [("34", dict(a=packet(b"S", b"x"))), FEW_WORDS]),
+    ("capture_feed", dict(a=lines() + bytes(40), s=reading_bytes(START)), [short(CAPTURE_SIZE), FEW_WORDS]),
+    (
+        "capture_write",
+        dict(a=reading_bytes(START), s=room(17)),
+        [("41 state", dict(a=room(CAPTURE_SIZE - 1))), output(17), FEW_WORDS],
+    ),
+    ("capture_report", dict(a=b"", s=room(17)), [output(17), FEW_WORDS]),
+]
+
+
+def pairs(v):
+    for name, good, ladder in LADDERS:
+        v.section(f"two grounds at once: {name}")
+        assert v.ask(name, **good).code == 0
+        for ground, change in ladder:
+            v.heading(ground)
+            v.ask(name, (int(ground[:2]),), **{**good, **change})
+        for (first, one), (second, other) in itertools.combinations(ladder, 2):
+            if not one.keys() & other.keys():
+                v.heading(f"{first} before {second}")
+                v.ask(name, (int(first[:2]),), **{**good, **one, **other})
+
+
+def needs_more(v):
+    v.section("more is needed: no ground but the lent memory's")
+    for name, fields in (
+        ("server_step", dict(a=READER, b=b"", s=WAITING)),
+        ("server_reply", dict(a=READER, b=LOGIN[:48], c=b"", s=WAITING)),
+        ("client_step", dict(a=b"\x00", s=ASKED)),
+    ):
+        v.ask(name, ("need more", 0), **fields)
+        v.ask(name, (41,), **{**fields, "s": fields["s"][:-1]})
+        v.ask(name, (41,), spare=-1, **fields)
+
+
+GROUPS = (pairs, needs_more)
