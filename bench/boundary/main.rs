@@ -43,11 +43,9 @@ impl Host {
 }
 
 #[inline(always)]
-fn walk(d: &[u8], words: [u64; 4]) -> [u8; CURSOR] {
-    let mut cursor = [0; CURSOR];
+fn walk(d: &[u8], words: [u64; 4], cursor: &mut [u8; CURSOR]) {
     let (count, skipped) = (words[2] as u16, words[3] as u16);
     unsafe { eiderwagon_receiver_walk(d.as_ptr(), d.len(), count, skipped, cursor.as_mut_ptr(), CURSOR) };
-    cursor
 }
 
 #[inline(always)]
@@ -74,8 +72,34 @@ fn header(number: u64, count: u64) -> Vec<u8> {
     [&NAME[..], &number.to_be_bytes(), &(count as u16).to_be_bytes()].concat()
 }
 
+/// Datagrams one behind the other, as a socket's ring has them.
+struct List {
+    bytes: Vec<u8>,
+    ends: Vec<usize>,
+}
+
+impl List {
+    fn of(datagrams: &[Vec<u8>]) -> List {
+        let mut list = List { bytes: vec![], ends: vec![] };
+        for d in datagrams {
+            list.bytes.extend_from_slice(d);
+            list.ends.push(list.bytes.len());
+        }
+        list
+    }
+
+    #[inline(always)]
+    fn each(&self, mut f: impl FnMut(&[u8])) {
+        let mut from = 0;
+        for &to in &self.ends {
+            f(&self.bytes[from..to]);
+            from = to;
+        }
+    }
+}
+
 /// 1 to 30 messages of 10 to 60 bytes, in order.
-fn in_order(n: usize) -> Vec<Vec<u8>> {
+fn in_order(n: usize) -> List {
     let (mut random, mut at, mut all) = (Random(88172645463325252), 1, vec![]);
     for _ in 0..n {
         let count = 1 + random.below(30);
@@ -88,7 +112,7 @@ fn in_order(n: usize) -> Vec<Vec<u8>> {
         at += count;
         all.push(d);
     }
-    all
+    List::of(&all)
 }
 
 // ---- what is timed
@@ -111,34 +135,40 @@ fn kind(answer: &Result<Answer, u8>) -> u64 {
     }
 }
 
-fn library_takes(list: &[Vec<u8>]) -> u64 {
-    let mut host = Host::new();
-    list.iter().map(|d| host.take(d)).map(|(code, words)| code as u64 + words[0]).sum()
+fn library_takes(list: &List) -> u64 {
+    let (mut host, mut sum) = (Host::new(), 0);
+    list.each(|d| {
+        let (code, words) = host.take(d);
+        sum += code as u64 + words[0];
+    });
+    sum
 }
 
-fn rust_takes(list: &[Vec<u8>]) -> u64 {
-    let mut receiver = Receiver::new(*NAME, 1, 100);
-    list.iter().map(|d| kind(&receiver.take(d))).sum()
+fn rust_takes(list: &List) -> u64 {
+    let (mut receiver, mut sum) = (Receiver::new(*NAME, 1, 100), 0);
+    list.each(|d| sum += kind(&receiver.take(d)));
+    sum
 }
 
-fn library_walks(list: &[Vec<u8>]) -> u64 {
+fn library_walks(list: &List) -> u64 {
     let (mut host, mut sum) = (Host::new(), 0u64);
-    for d in list {
+    list.each(|d| {
         let (code, words) = host.take(d);
         sum += code as u64 + words[0];
         if words[0] == 1 {
-            let mut cursor = walk(d, words);
+            let mut cursor = [0; CURSOR];
+            walk(d, words, &mut cursor);
             while let Some(message) = next(d, &mut cursor) {
                 sum = sum.wrapping_add(use_of(message));
             }
         }
-    }
+    });
     sum
 }
 
-fn rust_walks(list: &[Vec<u8>], mut step: impl FnMut(&mut Messages) -> Option<u64>) -> u64 {
+fn rust_walks(list: &List, step: impl Fn(&mut Messages) -> Option<u64>) -> u64 {
     let (mut receiver, mut sum) = (Receiver::new(*NAME, 1, 100), 0u64);
-    for d in list {
+    list.each(|d| {
         let answer = receiver.take(d);
         sum += kind(&answer);
         if let Ok(Answer::Deliver { count, skipped, .. }) = answer {
@@ -147,7 +177,7 @@ fn rust_walks(list: &[Vec<u8>], mut step: impl FnMut(&mut Messages) -> Option<u6
                 sum = sum.wrapping_add(used);
             }
         }
-    }
+    });
     sum
 }
 
@@ -157,23 +187,24 @@ fn called(all: &mut Messages) -> Option<u64> {
 }
 
 /// Equal answers, and the same messages, at each datagram.
-fn agree(list: &[Vec<u8>]) {
+fn agree(list: &List) {
     let (mut host, mut receiver) = (Host::new(), Receiver::new(*NAME, 1, 100));
-    for d in list {
+    list.each(|d| {
         let (code, words) = host.take(d);
         let answer = receiver.take(d);
         assert_eq!(code as u64 + words[0], kind(&answer));
         match answer {
             Ok(Answer::Deliver { first, count, skipped }) => {
                 assert_eq!(words[1..], [first, count as u64, skipped as u64]);
-                let mut cursor = walk(d, words);
+                let mut cursor = [0; CURSOR];
+                walk(d, words, &mut cursor);
                 delivered(d, count, skipped).for_each(|m| assert_eq!(next(d, &mut cursor), Some(m)));
                 assert_eq!(next(d, &mut cursor), None);
             }
             Ok(Answer::Ask { from, count }) => assert_eq!(words[1..3], [from, count as u64]),
             _ => {}
         }
-    }
+    });
 }
 
 /// Nanoseconds for a datagram, the least of all runs of each, and the ratio of these.
@@ -195,16 +226,16 @@ fn pair(name: &str, items: usize, runs: usize, mut library: impl FnMut() -> u64,
 fn main() {
     let runs = std::env::args().nth(1).map_or(31, |n| n.parse().expect("RUNS is a number"));
     let list = in_order(300);
-    let beats = vec![header(1, 0); 2000];
+    let beats = List::of(&vec![header(1, 0); 2000]);
     agree(&list);
     agree(&beats);
     let times = 50;
-    let repeat = |f: fn(&[Vec<u8>]) -> u64, l: &[Vec<u8>]| (0..times).map(|_| f(black_box(l))).sum::<u64>();
-    let items = list.len() * times;
+    let repeat = |f: fn(&List) -> u64, l: &List| (0..times).map(|_| f(black_box(l))).sum::<u64>();
+    let items = list.ends.len() * times;
     pair("take", items, runs, || repeat(library_takes, &list), || repeat(rust_takes, &list));
     pair(
         "take, heartbeats",
-        beats.len() * times,
+        beats.ends.len() * times,
         runs,
         || repeat(library_takes, &beats),
         || repeat(rust_takes, &beats),

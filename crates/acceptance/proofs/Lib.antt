@@ -1,4 +1,5 @@
 pub mod Same
 pub mod ExampleLaws
+pub mod LayoutLaws
 pub mod StateLaws
 pub mod ConditionLaws

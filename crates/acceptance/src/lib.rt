@@ -3,6 +3,7 @@
 ghost use Rattle.exports_receiver.specs.Run.{HostGetsTrue};
 ghost use Rattle.acceptance.specs.Conditions.{Condition1, Condition2, Condition3, Condition3IsMeant};
 ghost use Rattle.acceptance.specs.Examples.{EveryExample};
+ghost use Rattle.acceptance.specs.Layouts.{EveryLayout};
 
 // A refusal changes neither state nor one lent byte.
 pub fn condition_1()
@@ -25,4 +26,9 @@ pub fn condition_3()
 // Document 01's examples either side of the line.
 pub fn examples()
     ensures { λ _. ⌜ EveryExample ⌝ }
+{}
+
+// The published layouts, byte by byte.
+pub fn layouts()
+    ensures { λ _. ⌜ EveryLayout ⌝ }
 {}

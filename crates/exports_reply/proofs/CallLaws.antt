@@ -37,7 +37,7 @@ use Rattle.host_session.proofs.HandsLaws.{length-words}
 use Rattle.host_server.specs.Server.{serverBytes, serverIn, serverStateless, KeepsServer}
 use Rattle.host_server.proofs.ServerLaws.{length-server, server-ten, server-short}
 use Rattle.host_server.proofs.StepLaws.{HasSteps, server-steps, server-ground, closed-stays}
-use Rattle.exports_reply.specs.Calls.{replied, repliedWords, RepliesAtServer}
+use Rattle.exports_reply.specs.Calls.{replied, repliedWords, RepliesAtServer, RefusedReplyChangesNothing}
 use Rattle.exports_reply.proofs.ReplyLaws.{reply-steps, output-stays, short-same}
 
 abbrev replyGrounds : List ℕ
@@ -300,6 +300,19 @@ reply-only : (r : ℕ) (l m : List ℕ) (t : List Account) (d o o′ ws ws′ : 
 reply-only r l m t d o o′ ws ws′ q =
     answers-only r _ ws ws′ _ replyGrounds (q .answers) (ladder-only (replied-steps l t d o) (ltb (length l) sessionStateSize) has-41) has-41
 
+on-refusal : (r k : ℕ) → (r ≡ 0 → ⊥) → onStep r k ≡ false
+unfolding onStep
+on-refusal r k z = rw (ne-eqb r 0 z)
+
+refused-reply : RefusedReplyChangesNothing
+unfolding RefusedReplyChangesNothing
+refused-reply r l m t d o o′ ws ws′ q z =
+    record {
+      state = rw (on-refusal r (replied l t d o .size) z) at (q .keeps .leaves);
+      output = q .output ∙ sym (no-success r _ o z);
+      words = q .answers .words ∙ sym (no-success r _ ws z);
+    }
+
 pub reply-promised : {r : ℕ} {l m : List ℕ} {t : List Account} {d o o′ ws ws′ : List ℕ} → RepliesAtServer r l m t d o o′ ws ws′
-    → RepliesAtServer r l m t d o o′ ws ws′ × RefusesOnly r replyGrounds
-reply-promised {r} {l} {m} {t} {d} {o} {o′} {ws} {ws′} q = (q, reply-only r l m t d o o′ ws ws′ q)
+    → RepliesAtServer r l m t d o o′ ws ws′ × (RefusesOnly r replyGrounds × RefusedReplyChangesNothing)
+reply-promised {r} {l} {m} {t} {d} {o} {o′} {ws} {ws′} q = (q, (reply-only r l m t d o o′ ws ws′ q, refused-reply))

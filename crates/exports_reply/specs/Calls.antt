@@ -33,3 +33,13 @@ pub record RepliesAtServer (r : ℕ) (l m : List ℕ) (t : List Account) (d o o�
       (replied l t d o .reply .refusal)) (repliedWords l t d o)
   pub keeps : KeepsServer (onStep r (replied l t d o .size)) l m (replied l t d o .after)
   pub output : o′ ≡ onSuccess r (replyOutput (serverIn l) (serverStep t (serverIn l) d) o) o
+
+-- a refusal changes no byte of the state, none of the output, and no word
+pub record Unchanged (l m o o′ ws ws′ : List ℕ) : Type 0 where
+  pub state : m ≡ l
+  pub output : o′ ≡ o
+  pub words : ws′ ≡ ws
+
+unfoldable pub RefusedReplyChangesNothing : Type 0
+RefusedReplyChangesNothing = (r : ℕ) (l m : List ℕ) (t : List Account) (d o o′ ws ws′ : List ℕ)
+    → RepliesAtServer r l m t d o o′ ws ws′ → (r ≡ 0 → ⊥) → Unchanged l m o o′ ws ws′

@@ -5,7 +5,7 @@ use host_session::replies;
 ghost use mathlib.Core.List.{[], _∷_};
 ghost use Rattle.login.specs.Table.{accountsOf};
 ghost use Rattle.host_answers.specs.Answers.{RefusesOnly};
-ghost use Rattle.exports_reply.specs.Calls.{RepliesAtServer};
+ghost use Rattle.exports_reply.specs.Calls.{RepliesAtServer, RefusedReplyChangesNothing};
 
 // The words of a reply: those of a step, and how many bytes were written.
 const REPLY_WORDS: usize = 6;
@@ -22,6 +22,7 @@ pub extern "C" fn eiderwagon_server_reply(
     ensures { λ r. ⌜ RepliesAtServer r (now (state .entry)) (now (state .exit)) (accountsOf (now (accounts .entry)))
         (now (stream .entry)) (now (out .entry)) (now (out .exit)) (now (words .entry)) (now (words .exit)) ⌝ }
     ensures refuses { λ r. ⌜ RefusesOnly r (19 ∷ 21 ∷ 22 ∷ 23 ∷ 24 ∷ 25 ∷ 41 ∷ 32 ∷ 31 ∷ 46 ∷ []) ⌝ }
+    ensures refused { λ _. ⌜ RefusedReplyChangesNothing ⌝ }
 {
     let from = host_answers::lent_from(words.len() < REPLY_WORDS, out.len());
     let server = host_server::read(state);

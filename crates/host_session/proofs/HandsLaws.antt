@@ -11,14 +11,14 @@ use Rattle.wire.specs.Choice.{if_then_else_}
 use Rattle.wire.specs.Words.{Case, answer, refused, says, refuses}
 use Rattle.wire.specs.Output.{put}
 use Rattle.wire.proofs.Outputs.{length-put}
-use Rattle.soupbintcp_session.specs.Answer.{SessionAnswerKind, wants-more, accepted, rejected, sequenced, unsequenced, heartbeat, debug, logged-out, end-of-session, answerMessageAt, answerMessage, StepOutcome, stays, takes}
+use Rattle.soupbintcp_session.specs.Answer.{SessionAnswerKind, wants-more, accepted, rejected, sequenced, unsequenced, heartbeat, debug, logged-out, end-of-session, answerMessageAt, StepOutcome, stays, takes}
 use Rattle.host_answers.specs.Answers.{stateLadder, padded, wordsAt, wordsOf, AnswersWith}
 use Rattle.host_answers.proofs.AnswerLaws.{length-padded, success, or-short-no}
 use Rattle.host_states.specs.States.{onStep, Keeps}
 use Rattle.host_states.proofs.StateLaws.{laid-front}
 use Rattle.host_session.specs.Session.{sessionStateSize}
 use Rattle.host_session.specs.Replies.{sessionAnswerNumber, stepWords}
-use Rattle.host_session.specs.Run.{Gets, by-refusal, by-another, by-sequenced, by-unsequenced, Handed, none, one, sessionAfter, handedUpBy, Hands, HandsOn}
+use Rattle.host_session.specs.Run.{messagesUpAt, messagesUp, Gets, by-refusal, by-another, by-sequenced, by-unsequenced, Handed, none, one, sessionAfter, handedUpBy, Hands, HandsOn}
 use Rattle.host_session.proofs.StepLaws.{Steps, waits, needs-none, refuses-own, moves, ladder-open}
 
 -- ---- the words that were laid
@@ -45,31 +45,31 @@ word-at ws vs i h r =
 -- ---- what a host gets by them
 
 module _ (d ws : List ℕ) where
-  by-number : (n : ℕ) (up : List ℕ) → getD ws 0 0 ≡ n → (n ≡ 3 → ⊥) → (n ≡ 4 → ⊥) → Gets d 0 ws up → up ≡ []
+  by-number : (n : ℕ) (up : List (List ℕ)) → getD ws 0 0 ≡ n → (n ≡ 3 → ⊥) → (n ≡ 4 → ⊥) → Gets d 0 ws up → up ≡ []
   by-number n up e f g (by-refusal z) = refl
   by-number n up e f g (by-another z a b) = refl
   by-number n up e f g (by-sequenced z a) = absurd (f (sym e ∙ a))
   by-number n up e f g (by-unsequenced z a) = absurd (g (sym e ∙ a))
 
-  by-three : (vs up : List ℕ) → getD ws 0 0 ≡ 3 → getD ws 3 0 ≡ getD vs 1 0 → getD ws 4 0 ≡ getD vs 2 0 → Gets d 0 ws up
-      → up ≡ take (getD vs 2 0) (drop (getD vs 1 0) d)
+  by-three : (vs : List ℕ) (up : List (List ℕ)) → getD ws 0 0 ≡ 3 → getD ws 3 0 ≡ getD vs 1 0 → getD ws 4 0 ≡ getD vs 2 0 → Gets d 0 ws up
+      → up ≡ take (getD vs 2 0) (drop (getD vs 1 0) d) ∷ []
   by-three vs up e f g (by-refusal z) = absurd (z refl)
   by-three vs up e f g (by-another z a b) = absurd (a e)
   by-three vs up e f g (by-sequenced z a) = rw (f, g)
   by-three vs up e f g (by-unsequenced z a) = absurd (omega arith)
 
-  by-four : (vs up : List ℕ) → getD ws 0 0 ≡ 4 → getD ws 2 0 ≡ getD vs 0 0 → getD ws 3 0 ≡ getD vs 1 0 → Gets d 0 ws up
-      → up ≡ take (getD vs 1 0) (drop (getD vs 0 0) d)
+  by-four : (vs : List ℕ) (up : List (List ℕ)) → getD ws 0 0 ≡ 4 → getD ws 2 0 ≡ getD vs 0 0 → getD ws 3 0 ≡ getD vs 1 0 → Gets d 0 ws up
+      → up ≡ take (getD vs 1 0) (drop (getD vs 0 0) d) ∷ []
   by-four vs up e f g (by-refusal z) = absurd (z refl)
   by-four vs up e f g (by-another z a b) = absurd (b e)
   by-four vs up e f g (by-sequenced z a) = absurd (omega arith)
   by-four vs up e f g (by-unsequenced z a) = rw (f, g)
 
   -- an answer of a kind, behind the bytes k that its step took
-  by-kind : (kind : SessionAnswerKind) (k : ℕ) (vs up : List ℕ)
+  by-kind : (kind : SessionAnswerKind) (k : ℕ) (vs : List ℕ) (up : List (List ℕ))
       → ((i : ℕ) → i < 5 → getD ws i 0 ≡ getD (sessionAnswerNumber kind ∷ k ∷ vs) i 0) → Gets d 0 ws up
-      → up ≡ answerMessageAt (answer kind) vs d
-  unfolding answerMessageAt sessionAnswerNumber
+      → up ≡ messagesUpAt (answer kind) vs d
+  unfolding messagesUpAt answerMessageAt sessionAnswerNumber
   by-kind wants-more k vs up at g = by-number 0 up (at 0 (omega arith)) (λ e. omega arith) (λ e. omega arith) g
   by-kind accepted k vs up at g = by-number 1 up (at 0 (omega arith)) (λ e. omega arith) (λ e. omega arith) g
   by-kind rejected k vs up at g = by-number 2 up (at 0 (omega arith)) (λ e. omega arith) (λ e. omega arith) g
@@ -80,7 +80,7 @@ module _ (d ws : List ℕ) where
   by-kind logged-out k vs up at g = by-number 7 up (at 0 (omega arith)) (λ e. omega arith) (λ e. omega arith) g
   by-kind end-of-session k vs up at g = by-number 8 up (at 0 (omega arith)) (λ e. omega arith) (λ e. omega arith) g
 
-by-refused : (d : List ℕ) (r : ℕ) (ws up : List ℕ) → (r ≡ 0 → ⊥) → Gets d r ws up → up ≡ []
+by-refused : (d : List ℕ) (r : ℕ) (ws : List ℕ) (up : List (List ℕ)) → (r ≡ 0 → ⊥) → Gets d r ws up → up ≡ []
 by-refused d r ws up n (by-refusal z) = refl
 by-refused d r ws up n (by-another z a b) = refl
 by-refused d r ws up n (by-sequenced z a) = absurd (n z)
@@ -110,7 +110,7 @@ kept-length : (b : Bool) (l bs : List ℕ) → length (if b then put l 0 bs else
 kept-length true l bs = length-put l 0 bs
 kept-length false l bs = refl
 
-module _ {S : Type 0} (reads : List ℕ → S) (bytesOf : S → List ℕ) (g : ℕ) (gs : List ℕ) (o : StepOutcome S) (r : ℕ) (l m d ws ws′ up : List ℕ)
+module _ {S : Type 0} (reads : List ℕ → S) (bytesOf : S → List ℕ) (g : ℕ) (gs : List ℕ) (o : StepOutcome S) (r : ℕ) (l m d ws ws′ : List ℕ) (up : List (List ℕ))
     (long : sessionStateSize ≤ length l) (room : 5 ≤ length ws) (call : CallDoes reads bytesOf g o r l m ws ws′) (gets : Gets d r ws′ up) where
   code-is : Steps (reads l) g gs o → r ≡ o .reply .refusal
   code-is does =
@@ -132,15 +132,15 @@ module _ {S : Type 0} (reads : List ℕ → S) (bytesOf : S → List ℕ) (g : �
   unfolding wordsAt
   told k kind vs t e z = call .answers .words ∙ sym (success r _ _ ws z refl) ∙ rw e refl
 
-  said : (k : ℕ) (kind : SessionAnswerKind) (vs : List ℕ) (t : S) → o ≡ takes k (says kind vs) t → r ≡ 0 → up ≡ answerMessage (o .reply) d
+  said : (k : ℕ) (kind : SessionAnswerKind) (vs : List ℕ) (t : S) → o ≡ takes k (says kind vs) t → r ≡ 0 → up ≡ messagesUp (o .reply) d
   said k kind vs t e z =
       rw e
       (by-kind d ws′ kind k vs up
       (λ i h. ap (λ (x : List ℕ). getD x i 0) (told k kind vs t e z) ∙ word-at ws (sessionAnswerNumber kind ∷ k ∷ vs) i h room)
       (rw z at gets))
 
-  nothing : (n : ℕ) → o ≡ stays (reads l) (refuses n) → (r ≡ 0 → ⊥) → up ≡ answerMessage (o .reply) d
-  unfolding answerMessageAt
+  nothing : (n : ℕ) → o ≡ stays (reads l) (refuses n) → (r ≡ 0 → ⊥) → up ≡ messagesUp (o .reply) d
+  unfolding messagesUpAt
   nothing n e z = rw e (by-refused d r ws′ up z gets)
 
   after-is : Steps (reads l) g gs o → reads m ≡ o .after
@@ -152,7 +152,7 @@ module _ {S : Type 0} (reads : List ℕ → S) (bytesOf : S → List ℕ) (g : �
       let size : o .size ≡ k = ap (λ (x : StepOutcome S). x .size) e in
       call .keeps .reads-back (is-laid r (o .size) zero (rw size n)) long
 
-  up-is : Steps (reads l) g gs o → up ≡ answerMessage (o .reply) d
+  up-is : Steps (reads l) g gs o → up ≡ messagesUp (o .reply) d
   up-is (waits z e) = said 0 wants-more [] (reads l) e (code-is (waits z e) ∙ ap (λ (x : StepOutcome S). x .reply .refusal) e)
   up-is (needs-none n p e) =
       let same : r ≡ g = code-is (needs-none n p e) ∙ ap (λ (x : StepOutcome S). x .reply .refusal) e in
@@ -169,8 +169,8 @@ module _ {S : Type 0} (reads : List ℕ → S) (bytesOf : S → List ℕ) (step 
     (calls : (r : ℕ) (l m d ws ws′ : List ℕ) → Call r l m d ws ws′ → CallDoes reads bytesOf (ground d) (step (reads l) d) r l m ws ws′) where
   handed : (l n : List ℕ) (ds ups : List (List ℕ)) → sessionStateSize ≤ length l → Handed reads step Call l ds n ups → Hands reads step Call l n ds ups
   unfolding sessionAfter handedUpBy
-  handed l n [] [] h none = record { leaves = refl; gives = refl }
-  handed l n (d ∷ ds) (up ∷ ups) h (one {m = m} t rest) =
+  handed l n ds us h none = record { leaves = refl; gives = refl }
+  handed l n es us h (one {m = m} {d = d} {ds = ds} {up = up} {ups = ups} t rest) =
       let c = calls (t .code) l m d (t .words) (t .laid) (t .call) in
       let size = same-length reads bytesOf (ground d) gs (step (reads l) d) (t .code) l m d (t .words) (t .laid) up h (t .room) c (t .gets) in
       let next = after-is reads bytesOf (ground d) gs (step (reads l) d) (t .code) l m d (t .words) (t .laid) up h (t .room) c (t .gets) (does (reads l) d) in

@@ -1,0 +1,82 @@
+-- One packet of each published layout, byte by byte, as source documents 003 and 002 give them. Nothing here is built
+-- by a writer of ours, so that a layout which is wrong in both directions breaks these rows.
+use Prim.Native.Nat.{ℕ}
+use mathlib.Core.List.{List, [], _∷_}
+use mathlib.Core.Path.{_≡_}
+use Rattle.wire.specs.Words.{says}
+use Rattle.moldudp64.specs.Header.{header}
+use Rattle.moldudp64.specs.Downstream.{data-packet, heartbeat, end-of-session, downstreamOf, downstreamSession}
+use Rattle.moldudp64.specs.Downstream.{messagesOf}
+use Rattle.moldudp64.specs.Request.{wanted, requestOf, requestSession}
+use Rattle.moldudp64.specs.Written as mold
+use Rattle.soupbintcp.specs.declared.packet.Sender.the-variants.{Server, Client}
+use Rattle.soupbintcp.specs.Letters.{accepted, login, letterAccepted, letterLogin}
+use Rattle.soupbintcp.specs.Front.{packet, frontOf, sessionOf, usernameOf, passwordOf}
+use Rattle.soupbintcp_writer.specs.Packets as soup
+
+-- READROOM01
+abbrev pub room : List ℕ
+room = 82 ∷ 69 ∷ 65 ∷ 68 ∷ 82 ∷ 79 ∷ 79 ∷ 77 ∷ 48 ∷ 49 ∷ []
+
+-- `hi`, and a message of no bytes
+abbrev pub messages : List (List ℕ)
+messages = (104 ∷ 105 ∷ []) ∷ [] ∷ []
+
+-- session (10), sequence number 258 (8), message count 2 (2); then each length (2) and its bytes
+abbrev pub dataBytes : List ℕ
+dataBytes =
+    82 ∷ 69 ∷ 65 ∷ 68 ∷ 82 ∷ 79 ∷ 79 ∷ 77 ∷ 48 ∷ 49 ∷ 0 ∷ 0 ∷ 0 ∷ 0 ∷ 0 ∷ 0 ∷ 1 ∷ 2 ∷ 0 ∷ 2
+    ∷ 0 ∷ 2 ∷ 104 ∷ 105 ∷ 0 ∷ 0 ∷ []
+
+-- count 0 is a heartbeat, 65,535 an end of session
+abbrev pub heartbeatBytes : List ℕ
+heartbeatBytes = 82 ∷ 69 ∷ 65 ∷ 68 ∷ 82 ∷ 79 ∷ 79 ∷ 77 ∷ 48 ∷ 49 ∷ 0 ∷ 0 ∷ 0 ∷ 0 ∷ 0 ∷ 0 ∷ 1 ∷ 2 ∷ 0 ∷ 0 ∷ []
+
+abbrev pub endBytes : List ℕ
+endBytes = 82 ∷ 69 ∷ 65 ∷ 68 ∷ 82 ∷ 79 ∷ 79 ∷ 77 ∷ 48 ∷ 49 ∷ 0 ∷ 0 ∷ 0 ∷ 0 ∷ 0 ∷ 0 ∷ 1 ∷ 2 ∷ 255 ∷ 255 ∷ []
+
+-- a request: session, first number 258, how many 3
+abbrev pub requestBytes : List ℕ
+requestBytes = 82 ∷ 69 ∷ 65 ∷ 68 ∷ 82 ∷ 79 ∷ 79 ∷ 77 ∷ 48 ∷ 49 ∷ 0 ∷ 0 ∷ 0 ∷ 0 ∷ 0 ∷ 0 ∷ 1 ∷ 2 ∷ 0 ∷ 3 ∷ []
+
+-- L: length 47 (2), the letter, `ann` (6), `cafe7` (10), READROOM01 (10), and 5 behind nineteen spaces (20)
+abbrev pub ann : List ℕ
+ann = 97 ∷ 110 ∷ 110 ∷ 32 ∷ 32 ∷ 32 ∷ []
+
+abbrev pub cafe7 : List ℕ
+cafe7 = 99 ∷ 97 ∷ 102 ∷ 101 ∷ 55 ∷ 32 ∷ 32 ∷ 32 ∷ 32 ∷ 32 ∷ []
+
+abbrev pub loginBytes : List ℕ
+loginBytes =
+    0 ∷ 47 ∷ 76 ∷ 97 ∷ 110 ∷ 110 ∷ 32 ∷ 32 ∷ 32
+    ∷ 99 ∷ 97 ∷ 102 ∷ 101 ∷ 55 ∷ 32 ∷ 32 ∷ 32 ∷ 32 ∷ 32
+    ∷ 82 ∷ 69 ∷ 65 ∷ 68 ∷ 82 ∷ 79 ∷ 79 ∷ 77 ∷ 48 ∷ 49
+    ∷ 32 ∷ 32 ∷ 32 ∷ 32 ∷ 32 ∷ 32 ∷ 32 ∷ 32 ∷ 32 ∷ 32 ∷ 32 ∷ 32 ∷ 32 ∷ 32 ∷ 32 ∷ 32 ∷ 32 ∷ 32 ∷ 32 ∷ 53 ∷ []
+
+-- A: length 31 (2), the letter, READROOM01 (10), and 17 behind eighteen spaces (20)
+abbrev pub acceptedBytes : List ℕ
+acceptedBytes =
+    0 ∷ 31 ∷ 65 ∷ 82 ∷ 69 ∷ 65 ∷ 68 ∷ 82 ∷ 79 ∷ 79 ∷ 77 ∷ 48 ∷ 49
+    ∷ 32 ∷ 32 ∷ 32 ∷ 32 ∷ 32 ∷ 32 ∷ 32 ∷ 32 ∷ 32 ∷ 32 ∷ 32 ∷ 32 ∷ 32 ∷ 32 ∷ 32 ∷ 32 ∷ 32 ∷ 32 ∷ 49 ∷ 55 ∷ []
+
+-- each is read as what it says, and written to these bytes
+pub record EveryLayout : Type 0 where
+  pub data-read : downstreamOf dataBytes ≡ says data-packet (258 ∷ 2 ∷ [])
+  pub data-session : downstreamSession dataBytes ≡ room
+  pub data-messages : messagesOf dataBytes ≡ messages
+  pub data-written : mold.encoded room 258 messages ≡ dataBytes
+  pub heartbeat-read : downstreamOf heartbeatBytes ≡ says heartbeat (258 ∷ [])
+  pub heartbeat-written : mold.encoded room 258 [] ≡ heartbeatBytes
+  pub end-read : downstreamOf endBytes ≡ says end-of-session (258 ∷ [])
+  pub end-written : mold.encodedEnd room 258 ≡ endBytes
+  pub request-read : requestOf requestBytes ≡ says wanted (258 ∷ 3 ∷ [])
+  pub request-session : requestSession requestBytes ≡ room
+  pub request-written : header room 258 3 ≡ requestBytes
+  pub login-read : frontOf Client loginBytes ≡ says (packet login) (49 ∷ 5 ∷ [])
+  pub login-username : usernameOf Client loginBytes ≡ ann
+  pub login-password : passwordOf Client loginBytes ≡ cafe7
+  pub login-session : sessionOf Client loginBytes ≡ room
+  pub login-written : soup.encoded letterLogin (soup.loginPayload ann cafe7 room 5) ≡ loginBytes
+  pub accepted-read : frontOf Server acceptedBytes ≡ says (packet accepted) (33 ∷ 17 ∷ [])
+  pub accepted-session : sessionOf Server acceptedBytes ≡ room
+  pub accepted-written : soup.encoded letterAccepted (soup.acceptedPayload room 17) ≡ acceptedBytes
