@@ -14,8 +14,11 @@ use Rattle.soupbintcp_server.specs.Server.{lastRefusal, withLast}
 use Rattle.soupbintcp_server.proofs.StatementLaws.{server-promises}
 use Rattle.soupbintcp_reply.proofs.StatementLaws.{reply-promises}
 use Rattle.soupbintcp_client.proofs.StatementLaws.{client-promises}
+use Rattle.soupbintcp.proofs.StableLaws.{front-promises}
+use Rattle.soupbintcp.proofs.ScanLaws.{scan-promises}
 use Rattle.host_answers.proofs.PromiseLaws.{host-promises}
 use Rattle.acceptance.specs.Conditions.{Condition1, Condition2, Condition3, Condition3IsMeant}
+use Rattle.acceptance.proofs.LayoutLaws.{every-layout}
 use Rattle.acceptance.proofs.StateLaws.{host-states, open-by-code}
 
 last-kept : (s : Server) (n : ℕ) → (lastRefusal s n ≡ 0 → ⊥) → withLast s n ≡ s
@@ -40,6 +43,7 @@ condition-1 =
 pub condition-2 : Condition2
 condition-2 =
     record {
+      layouts = every-layout;
       datagrams = packet-round-trip;
       ends-of-session = end-round-trip;
       requests = request-round-trip;
@@ -54,6 +58,13 @@ condition-2 =
       accepted-exactly-when = server-promises .login-exactly-when;
       only-in = server-promises .only-in;
       hands-up-only-in = server-promises .hands-up-only-in;
+      fronts = front-promises;
+      scans = scan-promises;
+      takes-from-A = client-promises .takes-from-A;
+      takes-S = client-promises .takes-S;
+      in-order = client-promises .hands-up-in-order;
+      server-any-cutting = server-promises .any-cutting;
+      client-any-cutting = client-promises .any-cutting;
       follows-the-table = receiver-promises .follows-the-table;
       request-exactly-when = receiver-promises .request-exactly-when;
     }

@@ -22,9 +22,14 @@ use Rattle.soupbintcp_server.specs.Server.{lastRefusal, withLast, stepWith, ser
 use Rattle.soupbintcp_reply.specs.Statements.{RefusalUndoes}
 use Rattle.soupbintcp_client.specs.Client.{clientStep}
 use Rattle.soupbintcp_session.specs.Answer.{unsequenced}
-use Rattle.soupbintcp_session.specs.Statements.{ChangesNothing}
+use Rattle.soupbintcp_session.specs.Stream.{run}
+use Rattle.soupbintcp_session.specs.Statements.{ChangesNothing, AnyStreamCutting}
+use Rattle.soupbintcp_client.specs.Statements.{TakesFromA, TakesS, HandsUpInOrder}
+use Rattle.soupbintcp.specs.Front.{FrontPromises}
+use Rattle.soupbintcp.specs.Scan.{ScanPromises}
 use Rattle.soupbintcp_server.specs.Statements.{LoginExactlyWhen, WasIn}
 use Rattle.host_answers.specs.Answers.{RefusalChangesNothing}
+use Rattle.acceptance.specs.Layouts.{EveryLayout}
 use Rattle.acceptance.specs.States.{HostStates, OpenByCode}
 
 -- Condition 1: a refusal changes neither state nor one lent byte. That every function ends and does nothing
@@ -52,6 +57,8 @@ pub record Condition1 : Type 0 where
 -- an equation with its definition: `downstreamOf`, `requestOf` (moldudp64) and `frontOf` (soupbintcp); `encoded`,
 -- `encodedEnd`, `header` (moldudp64) and `encoded` (soupbintcp_writer).
 pub record Condition2 : Type 0 where
+  -- those layouts, a packet each in literal bytes
+  pub layouts : EveryLayout
   -- what is written reads back as itself; what is accepted writes back to its own bytes, save the named exceptions
   pub datagrams : PacketRoundTrip
   pub ends-of-session : EndRoundTrip
@@ -72,6 +79,17 @@ pub record Condition2 : Type 0 where
       → WasIn table s l
   pub hands-up-only-in : (table : List Account) (s : Server) (l : List ℕ)
       → serverStep table s l .reply .which ≡ answer unsequenced → s .state ≡ In
+  -- bytes that come later change no packet and no refusal that was given; the scan passes what is good and says why
+  -- it stopped
+  pub fronts : FrontPromises
+  pub scans : ScanPromises
+  -- the client: session and number come from A; S is message n, then n + 1, handed up in order under their numbers
+  pub takes-from-A : TakesFromA
+  pub takes-S : TakesS
+  pub in-order : (c : Client) (l : List ℕ) → HandsUpInOrder c (run clientStep c l)
+  -- however a stream is cut into pieces, at either end
+  pub server-any-cutting : (table : List Account) → AnyStreamCutting Server (serverStep table)
+  pub client-any-cutting : AnyStreamCutting Client clientStep
   -- the receiver answers, and moves its number, exactly as the table says
   pub follows-the-table : FollowsTheTable answerOf receiverAfter
   -- an accepted datagram draws a request exactly when its number lies above the expected one

@@ -1,4 +1,4 @@
 pub mod States
+pub mod Layouts
 pub mod Conditions
 pub mod Examples
-pub mod Layouts

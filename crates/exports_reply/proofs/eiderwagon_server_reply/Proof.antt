@@ -4,6 +4,28 @@ use Rattle.exports_reply.proofs.CallLaws.{reply-waits, reply-moves, rep
 use Rattle.exports_reply.proofs.eiderwagon_server_reply.Statement.{statement}
 use Rattle.exports_reply.proofs.eiderwagon_server_reply.Tie as tie
 
+waits : tie.Need-returns
+waits c =
+    let answered = c .before .before .before .before in
+    let ladder = answered .before .before .before .before in
+    let said = ladder .before in
+    let stepped = said .before .before .before .before in
+    let found = stepped .before .before in
+    let lent = found .before .before in
+    reply-promised (reply-waits _ _ _ _ _ _ _ _ _ _ _ _ _ _ (lent .lent-from .ensures) (found .read .ensures) (stepped .step .ensures .0) (said .answer-words .ensures .0 .0) (said .answer-words .ensures .0 .1) (ladder .behind-stateless .ensures) (answered .answer .ensures) (c .if1 .taken))
+
+moves : tie.Need-returns-2
+moves c =
+    let kept = c .before .before in
+    let moved = kept .before .before in
+    let answered = moved .before .before .before .before in
+    let ladder = answered .before .before .before .before in
+    let said = ladder .before in
+    let stepped = said .before .before .before .before in
+    let found = stepped .before .before in
+    let lent = found .before .before in
+    reply-promised (reply-moves _ _ _ _ _ _ _ _ _ _ _ _ _ _ (lent .lent-from .ensures) (found .read .ensures) (stepped .step .ensures .0) (said .answer-words .ensures .0 .0) (said .answer-words .ensures .0 .1) (ladder .behind-stateless .ensures) (answered .answer .ensures) _ _ (moved .if1 .left) (kept .write .ensures .0) (kept .write .ensures .1 .0))
+
 pub eiderwagon-server-reply-spec : {M : Type 1} → statement M
 eiderwagon-server-reply-spec =
     tie.close
@@ -26,10 +48,10 @@ eiderwagon-server-reply-spec =
     (λ c. search replies)  -- same-length
     (λ c. search replies)  -- same-length-2
     (λ c. search replies)  -- same-length-3
-    (λ c. reply-promised (reply-waits _ _ _ _ _ _ _ _ _ _ _ _ _ _ (c .before .before .before .before .before .before .before .before .before .before .before .before .before .before .before .before .before .lent-from .ensures) (c .before .before .before .before .before .before .before .before .before .before .before .before .before .before .before .read .ensures) (c .before .before .before .before .before .before .before .before .before .before .before .before .before .step .ensures .0) (c .before .before .before .before .before .before .before .before .before .answer-words .ensures .0 .0) (c .before .before .before .before .before .before .before .before .before .answer-words .ensures .0 .1) (c .before .before .before .before .before .before .before .before .behind-stateless .ensures) (c .before .before .before .before .answer .ensures) (c .if1 .taken)))  -- returns
+    waits
     (λ c. search replies)  -- write-requires
     (λ c. search replies)  -- same-length-4
     (λ c. search replies)  -- same-length-5
     (λ c. search replies)  -- same-length-6
-    (λ c. reply-promised (reply-moves _ _ _ _ _ _ _ _ _ _ _ _ _ _ (c .before .before .before .before .before .before .before .before .before .before .before .before .before .before .before .before .before .before .before .before .before .lent-from .ensures) (c .before .before .before .before .before .before .before .before .before .before .before .before .before .before .before .before .before .before .before .read .ensures) (c .before .before .before .before .before .before .before .before .before .before .before .before .before .before .before .before .before .step .ensures .0) (c .before .before .before .before .before .before .before .before .before .before .before .before .before .answer-words .ensures .0 .0) (c .before .before .before .before .before .before .before .before .before .before .before .before .before .answer-words .ensures .0 .1) (c .before .before .before .before .before .before .before .before .before .before .before .before .behind-stateless .ensures) (c .before .before .before .before .before .before .before .before .answer .ensures) _ _ (c .before .before .before .before .if1 .left) (c .before .before .write .ensures .0) (c .before .before .write .ensures .1 .0)))  -- returns-2
+    moves
     )

@@ -4,6 +4,26 @@ use Rattle.exports_server.proofs.ServerLaws.{server-waits, server-moves
 use Rattle.exports_server.proofs.eiderwagon_server_step.Statement.{statement}
 use Rattle.exports_server.proofs.eiderwagon_server_step.Tie as tie
 
+waits : tie.Need-returns
+waits c =
+    let answered = c .before .before .before .before in
+    let ladder = answered .before .before .before .before in
+    let said = ladder .before in
+    let stepped = said .before .before in
+    let found = stepped .before in
+    step-promised (server-waits _ _ _ _ _ _ _ _ _ _ _ (found .read .ensures) (stepped .step .ensures .0) (said .answer-words .ensures .0 .0) (said .answer-words .ensures .0 .1) (ladder .behind-stateless .ensures) (answered .answer .ensures) (c .if1 .taken))
+
+moves : tie.Need-returns-2
+moves c =
+    let kept = c .before .before in
+    let moved = kept .before .before in
+    let answered = moved .before .before .before .before in
+    let ladder = answered .before .before .before .before in
+    let said = ladder .before in
+    let stepped = said .before .before in
+    let found = stepped .before in
+    step-promised (server-moves _ _ _ _ _ _ _ _ _ _ _ (found .read .ensures) (stepped .step .ensures .0) (said .answer-words .ensures .0 .0) (said .answer-words .ensures .0 .1) (ladder .behind-stateless .ensures) (answered .answer .ensures) _ _ (moved .if1 .left) (kept .write .ensures .0) (kept .write .ensures .1 .0))
+
 pub eiderwagon-server-step-spec : {M : Type 1} → statement M
 eiderwagon-server-step-spec =
     tie.close
@@ -16,9 +36,9 @@ eiderwagon-server-step-spec =
     (λ c. search servers)  -- answer-requires
     (λ c. search servers)  -- same-length
     (λ c. search servers)  -- same-length-2
-    (λ c. step-promised (server-waits _ _ _ _ _ _ _ _ _ _ _ (c .before .before .before .before .before .before .before .before .before .before .before .before .read .ensures) (c .before .before .before .before .before .before .before .before .before .before .before .step .ensures .0) (c .before .before .before .before .before .before .before .before .before .answer-words .ensures .0 .0) (c .before .before .before .before .before .before .before .before .before .answer-words .ensures .0 .1) (c .before .before .before .before .before .before .before .before .behind-stateless .ensures) (c .before .before .before .before .answer .ensures) (c .if1 .taken)))  -- returns
+    waits
     (λ c. search servers)  -- write-requires
     (λ c. search servers)  -- same-length-3
     (λ c. search servers)  -- same-length-4
-    (λ c. step-promised (server-moves _ _ _ _ _ _ _ _ _ _ _ (c .before .before .before .before .before .before .before .before .before .before .before .before .before .before .before .before .read .ensures) (c .before .before .before .before .before .before .before .before .before .before .before .before .before .before .before .step .ensures .0) (c .before .before .before .before .before .before .before .before .before .before .before .before .before .answer-words .ensures .0 .0) (c .before .before .before .before .before .before .before .before .before .before .before .before .before .answer-words .ensures .0 .1) (c .before .before .before .before .before .before .before .before .before .before .before .before .behind-stateless .ensures) (c .before .before .before .before .before .before .before .before .answer .ensures) _ _ (c .before .before .before .before .if1 .left) (c .before .before .write .ensures .0) (c .before .before .write .ensures .1 .0)))  -- returns-2
+    moves
     )
