@@ -1,3 +1,4 @@
 pub mod Replies
 pub mod Calls
 pub mod Run
+pub mod Example

@@ -20,6 +20,7 @@ ghost use Rattle.host_cursor.specs.Calls.{SetsCursor};
 ghost use Rattle.exports_receiver.specs.Replies.{answerNumber, AnswerNumbersApart};
 ghost use Rattle.exports_receiver.specs.Calls.{StartsReceiver, TakesDatagram};
 ghost use Rattle.exports_receiver.specs.Run.{HandsOn, HostGetsTrue};
+ghost use Rattle.exports_receiver.specs.Example.{HandedExample};
 
 // What a receiver answers, by number.
 const DELIVER: u64 = 1;
@@ -89,6 +90,7 @@ pub extern "C" fn eiderwagon_receiver_start(
     ensures refuses { λ r. ⌜ RefusesOnly r (19 ∷ 41 ∷ []) ⌝ }
     ensures hands_on { λ _. ⌜ HandsOn ⌝ }
     ensures condition_3 { λ _. ⌜ HostGetsTrue ⌝ }
+    ensures not_vacuous { λ _. ⌜ HandedExample ⌝ }
 {
     let started = Receiver::new(
         parts::ten(session),

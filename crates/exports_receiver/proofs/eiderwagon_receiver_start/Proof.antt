@@ -1,6 +1,7 @@
 -- The fresh receiver is kept, and none on a refusal.
 use Rattle.exports_receiver.proofs.Rules.{receivers}
 use Rattle.exports_receiver.proofs.RunLaws.{hands-on, host-gets-true}
+use Rattle.exports_receiver.proofs.ExampleLaws.{handed-example}
 use Rattle.exports_receiver.proofs.eiderwagon_receiver_start.Statement.{statement}
 use Rattle.exports_receiver.proofs.eiderwagon_receiver_start.Tie as tie
 
@@ -14,5 +15,5 @@ eiderwagon-receiver-start-spec =
     (λ c. search receivers)  -- cast-write
     (λ c. search receivers)  -- write-requires
     (λ c. search receivers)  -- same-length
-    (λ c. (search receivers, (search receivers, (hands-on, host-gets-true))))  -- returns
+    (λ c. (search receivers, (search receivers, (hands-on, (host-gets-true, handed-example)))))  -- returns
     )
