@@ -40,7 +40,7 @@ use Rattle.host_server.proofs.StepLaws.{HasSteps, server-steps, server-ground, 
 use Rattle.exports_reply.specs.Calls.{replied, repliedWords, RepliesAtServer, RefusedReplyChangesNothing}
 use Rattle.exports_reply.proofs.ReplyLaws.{reply-steps, output-stays, short-same}
 
-abbrev replyGrounds : List ℕ
+abbrev pub replyGrounds : List ℕ
 replyGrounds = 19 ∷ 21 ∷ 22 ∷ 23 ∷ 24 ∷ 25 ∷ 41 ∷ 32 ∷ 31 ∷ 46 ∷ []
 
 has-steps : HasSteps replyGrounds
@@ -91,7 +91,7 @@ five (a ∷ b ∷ c ∷ d ∷ []) v e = absurd (omega arith)
 five (a ∷ b ∷ c ∷ d ∷ f ∷ []) v e = refl
 five (a ∷ b ∷ c ∷ d ∷ f ∷ g ∷ w) v e = absurd (omega arith)
 
-length-replied : (l : List ℕ) (t : List Account) (d o : List ℕ) → length (repliedWords l t d o) ≡ 6
+pub length-replied : (l : List ℕ) (t : List Account) (d o : List ℕ) → length (repliedWords l t d o) ≡ 6
 length-replied l t d o =
     omega (
       arith,
@@ -108,10 +108,10 @@ module _ (l : List ℕ) (t : List Account) (d : List ℕ) where
   abbrev lacks : Bool
   lacks = ltb (length l) sessionStateSize
 
-  steps : Steps (serverIn l) (serverStateless t d) replyGrounds st
+  pub steps : Steps (serverIn l) (serverStateless t d) replyGrounds st
   steps = server-steps replyGrounds has-steps (serverIn l) d t
 
-  replied-steps : (o : List ℕ) → Steps (serverIn l) (serverStateless t d) replyGrounds (replied l t d o)
+  pub replied-steps : (o : List ℕ) → Steps (serverIn l) (serverStateless t d) replyGrounds (replied l t d o)
   replied-steps o = reply-steps has-41 has-46 o steps
 
   -- its name stays, so that it has as many bytes as its layout
@@ -313,6 +313,6 @@ refused-reply r l m t d o o′ ws ws′ q z =
       words = q .answers .words ∙ sym (no-success r _ ws z);
     }
 
-pub reply-promised : {r : ℕ} {l m : List ℕ} {t : List Account} {d o o′ ws ws′ : List ℕ} → RepliesAtServer r l m t d o o′ ws ws′
-    → RepliesAtServer r l m t d o o′ ws ws′ × (RefusesOnly r replyGrounds × RefusedReplyChangesNothing)
-reply-promised {r} {l} {m} {t} {d} {o} {o′} {ws} {ws′} q = (q, (reply-only r l m t d o o′ ws ws′ q, refused-reply))
+pub reply-promised : {r : ℕ} {l m : List ℕ} {t : List Account} {d o o′ ws ws′ : List ℕ} {P : Type 0} → P → RepliesAtServer r l m t d o o′ ws ws′
+    → RepliesAtServer r l m t d o o′ ws ws′ × (RefusesOnly r replyGrounds × (RefusedReplyChangesNothing × P))
+reply-promised {r} {l} {m} {t} {d} {o} {o′} {ws} {ws′} p q = (q, (reply-only r l m t d o o′ ws ws′ q, (refused-reply, p)))

@@ -1,3 +1,4 @@
 pub mod ReplyLaws
 pub mod CallLaws
+pub mod RunLaws
 pub mod Rules

@@ -6,6 +6,7 @@ ghost use mathlib.Core.List.{[], _∷_};
 ghost use Rattle.login.specs.Table.{accountsOf};
 ghost use Rattle.host_answers.specs.Answers.{RefusesOnly};
 ghost use Rattle.exports_reply.specs.Calls.{RepliesAtServer, RefusedReplyChangesNothing};
+ghost use Rattle.exports_reply.specs.Run.{EveryServerCallHandsOn};
 
 // The words of a reply: those of a step, and how many bytes were written.
 const REPLY_WORDS: usize = 6;
@@ -23,6 +24,7 @@ pub extern "C" fn eiderwagon_server_reply(
         (now (stream .entry)) (now (out .entry)) (now (out .exit)) (now (words .entry)) (now (words .exit)) ⌝ }
     ensures refuses { λ r. ⌜ RefusesOnly r (19 ∷ 21 ∷ 22 ∷ 23 ∷ 24 ∷ 25 ∷ 41 ∷ 32 ∷ 31 ∷ 46 ∷ []) ⌝ }
     ensures refused { λ _. ⌜ RefusedReplyChangesNothing ⌝ }
+    ensures hands_on { λ _. ⌜ EveryServerCallHandsOn ⌝ }
 {
     let from = host_answers::lent_from(words.len() < REPLY_WORDS, out.len());
     let server = host_server::read(state);

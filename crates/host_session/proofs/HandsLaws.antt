@@ -110,6 +110,27 @@ kept-length : (b : Bool) (l bs : List ℕ) → length (if b then put l 0 bs else
 kept-length true l bs = length-put l 0 bs
 kept-length false l bs = refl
 
+-- what a step leaves, by its cases: r is the code, which is its refusal
+module _ {S : Type 0} (reads : List ℕ → S) (bytesOf : S → List ℕ) (g : ℕ) (gs : List ℕ) (o : StepOutcome S) (r : ℕ) (l m : List ℕ) (long : sessionStateSize ≤ length l)
+    (same : r ≡ o .reply .refusal) (keeps : Keeps (onStep r (o .size)) l m sessionStateSize reads (bytesOf (o .after)) (o .after)) where
+  pub kept-long : length m ≡ length l
+  kept-long = ap length (keeps .leaves) ∙ kept-length (onStep r (o .size)) l (bytesOf (o .after))
+
+  rests : (w : _) → o ≡ stays (reads l) w → reads m ≡ o .after
+  rests w e =
+      let f : o .size ≡ 0 = ap (λ (x : StepOutcome S). x .size) e in
+      let still : m ≡ l = keeps .leaves ∙ rw f (not-laid r _ l) in
+      ap reads still ∙ sym (ap (λ (x : StepOutcome S). x .after) e)
+
+  pub step-leaves : Steps (reads l) g gs o → reads m ≡ o .after
+  step-leaves (waits z e) = rests _ e
+  step-leaves (needs-none n p e) = rests _ e
+  step-leaves (refuses-own x z b p e) = rests _ e
+  step-leaves (moves k kind vs t z n e) =
+      let zero : r ≡ 0 = same ∙ ap (λ (x : StepOutcome S). x .reply .refusal) e in
+      let size : o .size ≡ k = ap (λ (x : StepOutcome S). x .size) e in
+      keeps .reads-back (is-laid r (o .size) zero (rw size n)) long
+
 module _ {S : Type 0} (reads : List ℕ → S) (bytesOf : S → List ℕ) (g : ℕ) (gs : List ℕ) (o : StepOutcome S) (r : ℕ) (l m d ws ws′ : List ℕ) (up : List (List ℕ))
     (long : sessionStateSize ≤ length l) (room : 5 ≤ length ws) (call : CallDoes reads bytesOf g o r l m ws ws′) (gets : Gets d r ws′ up) where
   code-is : Steps (reads l) g gs o → r ≡ o .reply .refusal
@@ -117,15 +138,6 @@ module _ {S : Type 0} (reads : List ℕ → S) (bytesOf : S → List ℕ) (g : �
       let n : length (wordsOf sessionAnswerNumber 5 (stepWords o)) ≡ 5 = length-words sessionAnswerNumber 5 _ _ in
       call .answers .returns
       ∙ rw (n, le-ltb (length ws) 5 room, le-ltb (length l) sessionStateSize long) (sym (or-short-no _) ∙ ladder-open does)
-
-  same-length : length m ≡ length l
-  same-length = ap length (call .keeps .leaves) ∙ kept-length (onStep r (o .size)) l (bytesOf (o .after))
-
-  rests : (w : _) → o ≡ stays (reads l) w → reads m ≡ o .after
-  rests w e =
-      let f : o .size ≡ 0 = ap (λ (x : StepOutcome S). x .size) e in
-      let same : m ≡ l = call .keeps .leaves ∙ rw f (not-laid r _ l) in
-      ap reads same ∙ sym (ap (λ (x : StepOutcome S). x .after) e)
 
   told : (k : ℕ) (kind : SessionAnswerKind) (vs : List ℕ) (t : S) → o ≡ takes k (says kind vs) t → r ≡ 0
       → ws′ ≡ put ws 0 (padded 5 (sessionAnswerNumber kind ∷ k ∷ vs))
@@ -142,15 +154,6 @@ module _ {S : Type 0} (reads : List ℕ → S) (bytesOf : S → List ℕ) (g : �
   nothing : (n : ℕ) → o ≡ stays (reads l) (refuses n) → (r ≡ 0 → ⊥) → up ≡ messagesUp (o .reply) d
   unfolding messagesUpAt
   nothing n e z = rw e (by-refused d r ws′ up z gets)
-
-  after-is : Steps (reads l) g gs o → reads m ≡ o .after
-  after-is (waits z e) = rests _ e
-  after-is (needs-none n p e) = rests _ e
-  after-is (refuses-own x z b p e) = rests _ e
-  after-is (moves k kind vs t z n e) =
-      let zero : r ≡ 0 = code-is (moves k kind vs t z n e) ∙ ap (λ (x : StepOutcome S). x .reply .refusal) e in
-      let size : o .size ≡ k = ap (λ (x : StepOutcome S). x .size) e in
-      call .keeps .reads-back (is-laid r (o .size) zero (rw size n)) long
 
   up-is : Steps (reads l) g gs o → up ≡ messagesUp (o .reply) d
   up-is (waits z e) = said 0 wants-more [] (reads l) e (code-is (waits z e) ∙ ap (λ (x : StepOutcome S). x .reply .refusal) e)
@@ -172,8 +175,9 @@ module _ {S : Type 0} (reads : List ℕ → S) (bytesOf : S → List ℕ) (step 
   handed l n ds us h none = record { leaves = refl; gives = refl }
   handed l n es us h (one {m = m} {d = d} {ds = ds} {up = up} {ups = ups} t rest) =
       let c = calls (t .code) l m d (t .words) (t .laid) (t .call) in
-      let size = same-length reads bytesOf (ground d) gs (step (reads l) d) (t .code) l m d (t .words) (t .laid) up h (t .room) c (t .gets) in
-      let next = after-is reads bytesOf (ground d) gs (step (reads l) d) (t .code) l m d (t .words) (t .laid) up h (t .room) c (t .gets) (does (reads l) d) in
+      let code = code-is reads bytesOf (ground d) gs (step (reads l) d) (t .code) l m d (t .words) (t .laid) up h (t .room) c (t .gets) (does (reads l) d) in
+      let size = kept-long reads bytesOf (ground d) gs (step (reads l) d) (t .code) l m h code (c .keeps) in
+      let next = step-leaves reads bytesOf (ground d) gs (step (reads l) d) (t .code) l m h code (c .keeps) (does (reads l) d) in
       let got = up-is reads bytesOf (ground d) gs (step (reads l) d) (t .code) l m d (t .words) (t .laid) up h (t .room) c (t .gets) (does (reads l) d) in
       let i = handed m n ds ups (omega arith) rest in
       record { leaves = rw (← next) (i .leaves); gives = rw (← got, ← next, ← i .gives) refl }

@@ -1,6 +1,7 @@
 -- The step's answer by its words, its reply in the output, and the next server kept where it took something.
 use Rattle.exports_reply.proofs.Rules.{replies}
 use Rattle.exports_reply.proofs.CallLaws.{reply-waits, reply-moves, reply-promised}
+use Rattle.exports_reply.proofs.RunLaws.{every-server-call}
 use Rattle.exports_reply.proofs.eiderwagon_server_reply.Statement.{statement}
 use Rattle.exports_reply.proofs.eiderwagon_server_reply.Tie as tie
 
@@ -12,7 +13,7 @@ waits c =
     let stepped = said .before .before .before .before in
     let found = stepped .before .before in
     let lent = found .before .before in
-    reply-promised (reply-waits _ _ _ _ _ _ _ _ _ _ _ _ _ _ (lent .lent-from .ensures) (found .read .ensures) (stepped .step .ensures .0) (said .answer-words .ensures .0 .0) (said .answer-words .ensures .0 .1) (ladder .behind-stateless .ensures) (answered .answer .ensures) (c .if1 .taken))
+    reply-promised every-server-call (reply-waits _ _ _ _ _ _ _ _ _ _ _ _ _ _ (lent .lent-from .ensures) (found .read .ensures) (stepped .step .ensures .0) (said .answer-words .ensures .0 .0) (said .answer-words .ensures .0 .1) (ladder .behind-stateless .ensures) (answered .answer .ensures) (c .if1 .taken))
 
 moves : tie.Need-returns-2
 moves c =
@@ -24,7 +25,7 @@ moves c =
     let stepped = said .before .before .before .before in
     let found = stepped .before .before in
     let lent = found .before .before in
-    reply-promised (reply-moves _ _ _ _ _ _ _ _ _ _ _ _ _ _ (lent .lent-from .ensures) (found .read .ensures) (stepped .step .ensures .0) (said .answer-words .ensures .0 .0) (said .answer-words .ensures .0 .1) (ladder .behind-stateless .ensures) (answered .answer .ensures) _ _ (moved .if1 .left) (kept .write .ensures .0) (kept .write .ensures .1 .0))
+    reply-promised every-server-call (reply-moves _ _ _ _ _ _ _ _ _ _ _ _ _ _ (lent .lent-from .ensures) (found .read .ensures) (stepped .step .ensures .0) (said .answer-words .ensures .0 .0) (said .answer-words .ensures .0 .1) (ladder .behind-stateless .ensures) (answered .answer .ensures) _ _ (moved .if1 .left) (kept .write .ensures .0) (kept .write .ensures .1 .0))
 
 pub eiderwagon-server-reply-spec : {M : Type 1} → statement M
 eiderwagon-server-reply-spec =
