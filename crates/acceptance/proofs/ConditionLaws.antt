@@ -18,6 +18,7 @@ use Rattle.soupbintcp.proofs.StableLaws.{front-promises}
 use Rattle.soupbintcp.proofs.ScanLaws.{scan-promises}
 use Rattle.host_answers.proofs.PromiseLaws.{host-promises}
 use Rattle.acceptance.specs.Conditions.{Condition1, Condition2, Condition3, Condition3IsMeant}
+use Rattle.exports_reply.proofs.CallLaws.{refused-reply}
 use Rattle.acceptance.proofs.LayoutLaws.{every-layout}
 use Rattle.acceptance.proofs.StateLaws.{host-states, open-by-code}
 
@@ -37,6 +38,7 @@ condition-1 =
       last = last-kept;
       host-answers = host-promises .refusal-changes-nothing;
       host-states = host-states;
+      host-reply = refused-reply;
       open-by-code = open-by-code;
     }
 
@@ -58,6 +60,8 @@ condition-2 =
       accepted-exactly-when = server-promises .login-exactly-when;
       only-in = server-promises .only-in;
       hands-up-only-in = server-promises .hands-up-only-in;
+      server-hands-up = server-promises .hands-up-payload;
+      client-hands-up = client-promises .hands-up-payload;
       fronts = front-promises;
       scans = scan-promises;
       takes-from-A = client-promises .takes-from-A;

@@ -12,13 +12,13 @@ use Rattle.text_fields.specs.Session.{goodSession}
 use Rattle.text_fields.specs.Number as field
 use Rattle.soupbintcp.specs.Letters.{letterFor, letterRow, sends, allows, plainOf}
 use Rattle.soupbintcp.specs.Head as head
-use Rattle.soupbintcp.specs.Fields.{hasFields, sessionAt, sessionBytes, numberBytes, blankAllowed, leastNumberOf, numberedOf, numberFields, withNumber, fieldsAt, fieldsOf}
+use Rattle.soupbintcp.specs.Fields.{hasFields, sessionAt, sessionBytes, numberBytes, blankAllowed, leastNumberOf, numberedOf, numberFields, withNumber, goodReason, reasonFields, fieldsAt, fieldsOf}
 use Rattle.soupbintcp.specs.Front.{frontPacket, frontAt, frontOf, packetAt, packetBytes, sessionOf, loginPart, usernameOf, passwordOf}
 use Rattle.soupbintcp_writer.specs.Packets as soup
 use Rattle.acceptance.specs.Layouts.{EveryLayout}
 
 pub every-layout : EveryLayout
-unfolding number bytes numberOf countOf header blockLength fits allFit afterBlocks messages blocksRefusal blocksOf kindOfCount blockCount refusalOf downstreamOf downstreamSession messagesOf requestGround requestRefusal requestOf requestSession mold.encoded mold.encodedEnd isDigit digitsUpTo digits valueFrom areDigits isLetterOrDigit areLettersOrDigits leadingSpaces goodSession field.isNumber field.readNumber field.numberField letterFor letterRow sends allows plainOf head.packetLength head.letterOf head.headOf hasFields sessionAt sessionBytes numberBytes blankAllowed leastNumberOf numberedOf numberFields withNumber fieldsAt fieldsOf frontPacket frontAt frontOf packetAt packetBytes sessionOf loginPart usernameOf passwordOf soup.headBytes soup.encoded soup.loginPayload soup.acceptedPayload
+unfolding number bytes numberOf countOf header blockLength fits allFit afterBlocks messages blocksRefusal blocksOf kindOfCount blockCount refusalOf downstreamOf downstreamSession messagesOf requestGround requestRefusal requestOf requestSession mold.encoded mold.encodedEnd isDigit digitsUpTo digits valueFrom areDigits isLetterOrDigit areLettersOrDigits leadingSpaces goodSession field.isNumber field.readNumber field.numberField letterFor letterRow sends allows plainOf head.packetLength head.letterOf head.headOf hasFields sessionAt sessionBytes numberBytes blankAllowed leastNumberOf numberedOf numberFields withNumber goodReason reasonFields fieldsAt fieldsOf frontPacket frontAt frontOf packetAt packetBytes sessionOf loginPart usernameOf passwordOf soup.headBytes soup.encoded soup.loginPayload soup.acceptedPayload
 every-layout =
     record {
       data-read = refl;
@@ -40,4 +40,21 @@ every-layout =
       accepted-read = refl;
       accepted-session = refl;
       accepted-written = refl;
+      debug-read = refl;
+      debug-of-client = refl;
+      debug-written = refl;
+      rejected-read = refl;
+      rejected-written = refl;
+      sequenced-read = refl;
+      sequenced-written = refl;
+      server-heartbeat-read = refl;
+      server-heartbeat-written = refl;
+      session-end-read = refl;
+      session-end-written = refl;
+      unsequenced-read = refl;
+      unsequenced-written = refl;
+      client-heartbeat-read = refl;
+      client-heartbeat-written = refl;
+      logout-read = refl;
+      logout-written = refl;
     }

@@ -116,7 +116,11 @@ cursor-none l e =
     below-or-not _ (length l) cursorSize (λ h. rw (lt-ltb (length l) cursorSize h))
     (λ h. rw (le-ltb (length l) cursorSize h, ne-eqb (getD l 0 0) cursorCode e))
 
+cursor-few : (l : List ℕ) → length l < cursorSize → cursorIn l .left .0 ≡ 0
+unfolding cursorIn
+cursor-few l h = rw (lt-ltb (length l) cursorSize h)
+
 pub open-by-code : OpenByCode
 unfolding allDifferent isOneOf
 open-by-code =
-    record { receiver = receiver-open; server = server-open; client = client-open; reading = reading-open; cursor = cursor-none; apart = refl }
+    record { receiver = receiver-open; server = server-open; client = client-open; reading = reading-open; cursor = cursor-none; cursor-too-few = cursor-few; apart = refl }

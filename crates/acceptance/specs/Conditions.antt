@@ -21,14 +21,16 @@ use Rattle.soupbintcp_server.specs.declared.server.ServerState.the-variants.{In
 use Rattle.soupbintcp_server.specs.Server.{lastRefusal, withLast, stepWith, serverStep}
 use Rattle.soupbintcp_reply.specs.Statements.{RefusalUndoes}
 use Rattle.soupbintcp_client.specs.Client.{clientStep}
-use Rattle.soupbintcp_session.specs.Answer.{unsequenced}
+use Rattle.soupbintcp_session.specs.Answer.{sequenced, unsequenced}
 use Rattle.soupbintcp_session.specs.Stream.{run}
-use Rattle.soupbintcp_session.specs.Statements.{ChangesNothing, AnyStreamCutting}
+use Rattle.soupbintcp_session.specs.Statements.{ChangesNothing, HandsUpPayload, AnyStreamCutting}
 use Rattle.soupbintcp_client.specs.Statements.{TakesFromA, TakesS, HandsUpInOrder}
+use Rattle.soupbintcp.specs.declared.packet.Sender.the-variants as sender
 use Rattle.soupbintcp.specs.Front.{FrontPromises}
 use Rattle.soupbintcp.specs.Scan.{ScanPromises}
 use Rattle.soupbintcp_server.specs.Statements.{LoginExactlyWhen, WasIn}
 use Rattle.host_answers.specs.Answers.{RefusalChangesNothing}
+use Rattle.exports_reply.specs.Calls.{RefusedReplyChangesNothing}
 use Rattle.acceptance.specs.Layouts.{EveryLayout}
 use Rattle.acceptance.specs.States.{HostStates, OpenByCode}
 
@@ -50,7 +52,9 @@ pub record Condition1 : Type 0 where
   -- a function for hosts in other languages: no word, no byte of an output and no byte of a state has changed
   pub host-answers : RefusalChangesNothing
   pub host-states : HostStates
-  -- and no bytes that a host lends are an open state by accident
+  -- and a refused reply changes neither state nor output
+  pub host-reply : RefusedReplyChangesNothing
+  -- a state is open by its first byte alone: zeros and another kind's bytes never are
   pub open-by-code : OpenByCode
 
 -- Condition 2. That bytes are read and written exactly as the layouts say is each reader's and writer's own promise,
@@ -79,6 +83,9 @@ pub record Condition2 : Type 0 where
       → WasIn table s l
   pub hands-up-only-in : (table : List Account) (s : Server) (l : List ℕ)
       → serverStep table s l .reply .which ≡ answer unsequenced → s .state ≡ In
+  -- and they are the payloads of the packets taken, at either end
+  pub server-hands-up : (table : List Account) → HandsUpPayload Server (serverStep table) sender.Client unsequenced
+  pub client-hands-up : HandsUpPayload Client clientStep sender.Server sequenced
   -- bytes that come later change no packet and no refusal that was given; the scan passes what is good and says why
   -- it stopped
   pub fronts : FrontPromises

@@ -10,7 +10,11 @@ use Rattle.moldudp64.specs.Downstream.{messagesOf}
 use Rattle.moldudp64.specs.Request.{wanted, requestOf, requestSession}
 use Rattle.moldudp64.specs.Written as mold
 use Rattle.soupbintcp.specs.declared.packet.Sender.the-variants.{Server, Client}
-use Rattle.soupbintcp.specs.Letters.{accepted, login, letterAccepted, letterLogin}
+use Rattle.soupbintcp.specs.Letters.{debug, accepted, rejected, sequenced, server-heartbeat, login, unsequenced}
+use Rattle.soupbintcp.specs.Letters.{client-heartbeat, logout, letterDebug, letterAccepted, letterRejected}
+use Rattle.soupbintcp.specs.Letters.{letterSequenced, letterServerHeartbeat, letterEnd, letterLogin, letterUnsequenced}
+use Rattle.soupbintcp.specs.Letters.{letterClientHeartbeat, letterLogout}
+use Rattle.soupbintcp.specs.Letters as letters
 use Rattle.soupbintcp.specs.Front.{packet, frontOf, sessionOf, usernameOf, passwordOf}
 use Rattle.soupbintcp_writer.specs.Packets as soup
 
@@ -59,6 +63,34 @@ acceptedBytes =
     0 ∷ 31 ∷ 65 ∷ 82 ∷ 69 ∷ 65 ∷ 68 ∷ 82 ∷ 79 ∷ 79 ∷ 77 ∷ 48 ∷ 49
     ∷ 32 ∷ 32 ∷ 32 ∷ 32 ∷ 32 ∷ 32 ∷ 32 ∷ 32 ∷ 32 ∷ 32 ∷ 32 ∷ 32 ∷ 32 ∷ 32 ∷ 32 ∷ 32 ∷ 32 ∷ 32 ∷ 49 ∷ 55 ∷ []
 
+-- the others: a length that counts all but itself, a letter, and a payload: `hi`, the reason `A`, or none
+abbrev pub hi : List ℕ
+hi = 104 ∷ 105 ∷ []
+
+abbrev pub debugBytes : List ℕ
+debugBytes = 0 ∷ 3 ∷ 43 ∷ 104 ∷ 105 ∷ []
+
+abbrev pub rejectedBytes : List ℕ
+rejectedBytes = 0 ∷ 2 ∷ 74 ∷ 65 ∷ []
+
+abbrev pub sequencedBytes : List ℕ
+sequencedBytes = 0 ∷ 3 ∷ 83 ∷ 104 ∷ 105 ∷ []
+
+abbrev pub serverHeartbeatBytes : List ℕ
+serverHeartbeatBytes = 0 ∷ 1 ∷ 72 ∷ []
+
+abbrev pub sessionEndBytes : List ℕ
+sessionEndBytes = 0 ∷ 1 ∷ 90 ∷ []
+
+abbrev pub unsequencedBytes : List ℕ
+unsequencedBytes = 0 ∷ 3 ∷ 85 ∷ 104 ∷ 105 ∷ []
+
+abbrev pub clientHeartbeatBytes : List ℕ
+clientHeartbeatBytes = 0 ∷ 1 ∷ 82 ∷ []
+
+abbrev pub logoutBytes : List ℕ
+logoutBytes = 0 ∷ 1 ∷ 79 ∷ []
+
 -- each is read as what it says, and written to these bytes
 pub record EveryLayout : Type 0 where
   pub data-read : downstreamOf dataBytes ≡ says data-packet (258 ∷ 2 ∷ [])
@@ -80,3 +112,20 @@ pub record EveryLayout : Type 0 where
   pub accepted-read : frontOf Server acceptedBytes ≡ says (packet accepted) (33 ∷ 17 ∷ [])
   pub accepted-session : sessionOf Server acceptedBytes ≡ room
   pub accepted-written : soup.encoded letterAccepted (soup.acceptedPayload room 17) ≡ acceptedBytes
+  pub debug-read : frontOf Server debugBytes ≡ says (packet debug) (5 ∷ [])
+  pub debug-of-client : frontOf Client debugBytes ≡ says (packet debug) (5 ∷ [])
+  pub debug-written : soup.encoded letterDebug hi ≡ debugBytes
+  pub rejected-read : frontOf Server rejectedBytes ≡ says (packet rejected) (4 ∷ 65 ∷ [])
+  pub rejected-written : soup.encoded letterRejected (65 ∷ []) ≡ rejectedBytes
+  pub sequenced-read : frontOf Server sequencedBytes ≡ says (packet sequenced) (5 ∷ [])
+  pub sequenced-written : soup.encoded letterSequenced hi ≡ sequencedBytes
+  pub server-heartbeat-read : frontOf Server serverHeartbeatBytes ≡ says (packet server-heartbeat) (3 ∷ [])
+  pub server-heartbeat-written : soup.encoded letterServerHeartbeat [] ≡ serverHeartbeatBytes
+  pub session-end-read : frontOf Server sessionEndBytes ≡ says (packet letters.end-of-session) (3 ∷ [])
+  pub session-end-written : soup.encoded letterEnd [] ≡ sessionEndBytes
+  pub unsequenced-read : frontOf Client unsequencedBytes ≡ says (packet unsequenced) (5 ∷ [])
+  pub unsequenced-written : soup.encoded letterUnsequenced hi ≡ unsequencedBytes
+  pub client-heartbeat-read : frontOf Client clientHeartbeatBytes ≡ says (packet client-heartbeat) (3 ∷ [])
+  pub client-heartbeat-written : soup.encoded letterClientHeartbeat [] ≡ clientHeartbeatBytes
+  pub logout-read : frontOf Client logoutBytes ≡ says (packet logout) (3 ∷ [])
+  pub logout-written : soup.encoded letterLogout [] ≡ logoutBytes

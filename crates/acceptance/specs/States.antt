@@ -1,4 +1,4 @@
--- The states that hosts keep: what is promised of each, and that none is open by accident.
+-- The states that hosts keep: what is promised of each, and that each is open by its first byte alone.
 use Prim.Native.Nat.{ℕ, _<_, _≤_}
 use mathlib.Core.List.{List, [], _∷_}
 use mathlib.Core.Bool.{Bool, true, false, not}
@@ -24,7 +24,7 @@ pub record HostStates : Type 0 where
   pub client : StatePromises KeepsClient sessionStateSize clientBytes
   pub reading : StatePromises KeepsReading readingSize readingBytes
 
--- ---- no state is open by accident
+-- ---- open by the first byte: zeros are no open state, and neither are another kind's bytes
 
 -- a kind of this size and code: any bytes are open as it exactly when the first of them is its code; too few never are
 pub record OpenExactly {S : Type 0} (reads : List ℕ → S) (open? : S → Bool) (size code : ℕ) : Type 0 where
@@ -42,7 +42,8 @@ pub record OpenByCode : Type 0 where
   pub server : OpenExactly serverIn (λ s. serverIsOpen (s .state)) sessionStateSize serverCode
   pub client : OpenExactly clientIn (λ c. clientIsOpen (c .state)) sessionStateSize clientCode
   pub reading : OpenExactly readingIn (λ x. not (isOver (x .stage))) readingSize readingCode
-  -- bytes whose first isn't a cursor's code have no messages left
+  -- bytes whose first isn't a cursor's code, and too few, have no messages left
   pub cursor : (l : List ℕ) → (getD l 0 0 ≡ cursorCode → ⊥) → cursorIn l .left .0 ≡ 0
+  pub cursor-too-few : (l : List ℕ) → length l < cursorSize → cursorIn l .left .0 ≡ 0
   -- no two kinds share a code, and 0 is no kind's
   pub apart : allDifferent (0 ∷ cursorCode ∷ receiverCode ∷ serverCode ∷ clientCode ∷ readingCode ∷ []) ≡ true

@@ -304,7 +304,7 @@ on-refusal : (r k : ℕ) → (r ≡ 0 → ⊥) → onStep r k ≡ false
 unfolding onStep
 on-refusal r k z = rw (ne-eqb r 0 z)
 
-refused-reply : RefusedReplyChangesNothing
+pub refused-reply : RefusedReplyChangesNothing
 unfolding RefusedReplyChangesNothing
 refused-reply r l m t d o o′ ws ws′ q z =
     record {
