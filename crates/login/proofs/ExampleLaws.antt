@@ -10,6 +10,7 @@ use Rattle.login.specs.Examples.{LoginExamples}
 use Rattle.login.specs.Promises.{LoginPromises}
 use Rattle.login.proofs.DecisionLaws.{decisions-apart}
 use Rattle.login.proofs.StatementLaws.{accepted-exactly-when, never-accepted}
+use Rattle.login.proofs.LockLaws.{wrong-locks}
 
 pub login-examples : LoginExamples
 unfolding sameBytes isDigit isLetterOrDigit wordLength areSpaces sound lower lowered sameText soundAccount isOf hasPassword isKnown verdictOf lookupOf sessionHolds numberHolds granted decisionAt
@@ -35,4 +36,5 @@ login-promises =
       never-accepted = never-accepted;
       tells-apart = decisions-apart;
       examples = login-examples;
+      wrong-locks = wrong-locks;
     }

@@ -4,5 +4,6 @@ pub mod DecisionLaws
 pub mod TextLaws
 pub mod KnownLaws
 pub mod StatementLaws
+pub mod LockLaws
 pub mod ExampleLaws
 pub mod Rules

@@ -21,7 +21,7 @@ use Rattle.text_fields.specs.Sound.{wordLength, areSpaces, sound}
 use Rattle.login.specs.declared.account.Account.{Account}
 use Rattle.login.specs.Account.{soundAccount, mostAccounts, isKnown, verdictOf, lookupOf}
 use Rattle.login.specs.Decision.{sessionHolds, numberHolds, granted, DecisionKind, accepted, decisionAt, rejects, Attempt, loginOf}
-use Rattle.login.specs.Statements.{AccountRule, SessionRule, asks-blank, asks-ours, NumberRule, NotRefused, Rules, AcceptedExactlyWhen, NoText, has-zero, all-spaces, NeverAccepted}
+use Rattle.login.specs.Statements.{AccountRule, SessionRule, asks-blank, asks-ours, NumberRule, NotRefused, Rules, LoginRules, AcceptedExactlyWhen, NoText, has-zero, all-spaces, NeverAccepted}
 use Rattle.login.proofs.KnownLaws.{known-found, found-known, unsound-unknown}
 
 -- ---- the rules and their tests
@@ -148,14 +148,13 @@ module _ (x : Attempt) where
       go true = omega arith
       go false = h
 
+login-rules : LoginRules loginOf
+login-rules = record { when = when; only-when = only-when; else-A = else-A; else-S = else-S; too-many = too-many }
+
 pub accepted-exactly-when : AcceptedExactlyWhen
 accepted-exactly-when =
     record {
-      when = when;
-      only-when = only-when;
-      else-A = else-A;
-      else-S = else-S;
-      too-many = too-many;
+      rules = login-rules;
       from-one = from-one;
       up-to-next = up-to-next;
     }

@@ -3,4 +3,5 @@ pub mod Table
 pub mod Decision
 pub mod Statements
 pub mod Examples
+pub mod Locks
 pub mod Promises

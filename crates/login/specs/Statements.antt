@@ -6,13 +6,13 @@ use mathlib.Core.Path.{_≡_}
 use lib.ListN.{length, getD, replicate}
 use Rattle.wire.specs.Bounds.{leastNumber, blank}
 use Rattle.wire.specs.Refusals.{badSetting}
-use Rattle.wire.specs.Words.{answer, says, refuses, Injective}
+use Rattle.wire.specs.Words.{Words, answer, says, refuses, Injective}
 use Rattle.wire.specs.Text.{letter}
 use Rattle.text_fields.specs.Letters.{space, toSmall}
 use Rattle.soupbintcp.specs.Fields.{notAuthorized, sessionNotAvailable}
 use Rattle.login.specs.declared.account.Account.{Account}
 use Rattle.login.specs.Account.{soundAccount, mostAccounts}
-use Rattle.login.specs.Decision.{accepted, granted, decisionWords, rejects, Attempt, loginOf}
+use Rattle.login.specs.Decision.{DecisionKind, accepted, granted, decisionWords, rejects, Attempt, loginOf}
 
 -- ---- the rules, as document 01 says them
 
@@ -68,15 +68,22 @@ pub record Rules (x : Attempt) : Type 0 where
 
 -- ---- what is promised
 
+-- a lock is what it decides on a login
+abbrev pub Lock : Type 0
+Lock = Attempt → Words DecisionKind
+
 -- accepted with the granted number if all three hold, and only then; J with A where the account rule doesn't; J with
 -- S where it does and another doesn't
+pub record LoginRules (lock : Lock) : Type 0 where
+  pub when : (x : Attempt) → NotRefused x → Rules x → lock x ≡ says accepted (granted (x .wanted) (x .last) ∷ [])
+  pub only-when : (x : Attempt) → lock x .which ≡ answer accepted → Rules x
+  pub else-A : (x : Attempt) → NotRefused x → (AccountRule x → ⊥) → lock x ≡ rejects notAuthorized
+  pub else-S : (x : Attempt) → NotRefused x → AccountRule x → (Rules x → ⊥) → lock x ≡ rejects sessionNotAvailable
+  pub too-many : (x : Attempt) → mostAccounts < length (x .table) → lock x ≡ refuses badSetting
+
+-- our lock keeps them, and the number that it grants is one that a message has or will have next
 pub record AcceptedExactlyWhen : Type 0 where
-  pub when : (x : Attempt) → NotRefused x → Rules x → loginOf x ≡ says accepted (granted (x .wanted) (x .last) ∷ [])
-  pub only-when : (x : Attempt) → loginOf x .which ≡ answer accepted → Rules x
-  pub else-A : (x : Attempt) → NotRefused x → (AccountRule x → ⊥) → loginOf x ≡ rejects notAuthorized
-  pub else-S : (x : Attempt) → NotRefused x → AccountRule x → (Rules x → ⊥) → loginOf x ≡ rejects sessionNotAvailable
-  pub too-many : (x : Attempt) → mostAccounts < length (x .table) → loginOf x ≡ refuses badSetting
-  -- the granted number is one that a message has or will have next
+  pub rules : LoginRules loginOf
   pub from-one : (x : Attempt) → leastNumber ≤ granted (x .wanted) (x .last)
   pub up-to-next : (x : Attempt) → NumberRule x → granted (x .wanted) (x .last) ≤ x .last + 1
 

@@ -6,7 +6,7 @@ use mathlib.Core.Bool.{Bool, true, false, true≢false}
 use native.Mathlib.Omega.{arith}
 use lib.ListN.{take, drop}
 use lib.Seq.{drop-at}
-use borrow.Author.Tests.{le-ltb, ne-eqb}
+use borrow.Author.Tests.{le-ltb}
 use Rattle.wire.specs.Words.{Words}
 use Rattle.wire.proofs.Cases.{below-or-not}
 use Rattle.moldudp64.specs.Header.{numberOf, countOf}
@@ -19,9 +19,9 @@ use Rattle.receiver.specs.Feed.{Datagram, Session, lastOf, messagesFrom,
 use Rattle.receiver.specs.Condition3.{plain, Condition3For, Condition3}
 use Rattle.receiver.proofs.StartLaws.{started}
 use Rattle.receiver.proofs.TableLaws.{refused-stays, row-answer, row-after}
-use Rattle.receiver.proofs.Promises.{row-above, row-reaches, row-below, row-beat-below, row-beat-at, row-end, refused-answers}
+use Rattle.receiver.proofs.Promises.{row-above, row-reaches, row-below, row-beat-below, row-beat-at, row-end, refused-answers, ladder-bad, ladder-other, ladder-ended}
 use Rattle.receiver.proofs.FeedLaws.{join, length-from, none-from, Keeps, faithful}
-use Rattle.receiver.proofs.Sorts.{Named, TrueData, TrueEnd, Sort, is-bad, is-other, is-heartbeat, is-data, is-end, sort, data-begin, data-end, data-run, same-name, other-name}
+use Rattle.receiver.proofs.Sorts.{Named, TrueData, TrueEnd, Sort, is-bad, is-other, is-heartbeat, is-data, is-end, sort, data-begin, data-end, data-run, same-name}
 
 -- ---- what a datagram of each sort does to a receiver
 
@@ -35,25 +35,13 @@ refusal-stays : (r : Receiver) (d : Datagram) → (refusalFor r d ≡ 0 → ⊥)
 unfolding messagesDeliveredAt
 refusal-stays r d z = record { same = sym (refused-stays r d (refusalFor r d) refl z); nothing = rw (refused-answers r d z) }
 
--- the ladder, a rung each
-
-ladder-bad : (r : Receiver) (d : Datagram) → (refusalOf d ≡ 0 → ⊥) → refusalFor r d ≡ refusalOf d
-unfolding refusalFor
-ladder-bad r d z = rw (ne-eqb _ _ z)
+-- the ladder's rungs
 
 bad-stays : (r : Receiver) (d : Datagram) → (refusalOf d ≡ 0 → ⊥) → Stays r d
 bad-stays r d z = refusal-stays r d (λ e. z (sym (ladder-bad r d z) ∙ e))
 
-ladder-other : (r : Receiver) (d : Datagram) → refusalOf d ≡ 0 → (take 10 d ≡ r .session → ⊥) → refusalFor r d ≡ 17
-unfolding refusalFor ownRefusal otherSession
-ladder-other r d w z = rw (w, other-name (take 10 d) (r .session) z)
-
 other-stays : (r : Receiver) (d : Datagram) → refusalOf d ≡ 0 → (take 10 d ≡ r .session → ⊥) → Stays r d
 other-stays r d w z = let k = ladder-other r d w z in refusal-stays r d (λ e. omega arith)
-
-ladder-ended : (r : Receiver) (d : Datagram) → refusalOf d ≡ 0 → take 10 d ≡ r .session → r .ended ≡ true → refusalFor r d ≡ 18
-unfolding refusalFor ownRefusal otherSession
-ladder-ended r d w n e = rw (w, same-name (take 10 d) (r .session) n, e)
 
 ended-stays : (r : Receiver) (d : Datagram) → refusalOf d ≡ 0 → take 10 d ≡ r .session → r .ended ≡ true → Stays r d
 ended-stays r d w n e = let k = ladder-ended r d w n e in refusal-stays r d (λ z. omega arith)

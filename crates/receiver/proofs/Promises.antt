@@ -1,10 +1,10 @@
 -- What the receiver promises at one datagram: the table, the request, the number, the settings.
 use mathlib.Core.Path.{_≡_, refl, ap, sym, _∙_}
 use mathlib.Core.List.{List, [], _∷_}
-use mathlib.Core.Bool.{Bool, true, false}
+use mathlib.Core.Bool.{Bool, true, false, true≢false}
 use Prim.Native.Nat.{ℕ, _+_, _≤_, _<_}
 use native.Mathlib.Omega.{arith}
-use lib.ListN.{getD}
+use lib.ListN.{take, getD}
 use lib.Dec.{eqb}
 use borrow.Author.Tests.{lt-ltb, le-ltb, ltb-false, eqb-true, eqb-false, ne-eqb}
 use Rattle.wire.specs.Choice.{if_then_else_}
@@ -21,8 +21,9 @@ use Rattle.receiver.specs.declared.receiver.Answer.{Answer}
 use Rattle.receiver.specs.declared.receiver.Answer.the-variants.{Deliver, Old, Quiet, Ask, Ended, Refused}
 use Rattle.receiver.specs.Table.{AnswerKind, deliver, old, quiet, ask, ended, Outcome, Row, data-reaches, data-below, heartbeat-below, heartbeat-at, any-above, end-at, answerWords, askFor, deliverOutcome, oldOutcome, quietOutcome, askOutcome, endedOutcome, table}
 use Rattle.receiver.specs.Receiver.{receiverStartRefusal, otherSession, endBelow, ownRefusal, refusalFor, tableRow, answerOf, receiverAfter}
-use Rattle.receiver.specs.Statements.{FollowsTheTable, RequestExactlyWhen, NumberNeverFalls, AskIsARequest, StaysGood, KeepsSettings, ReceiverPromises}
+use Rattle.receiver.specs.Statements.{FollowsTheTable, RequestExactlyWhen, RefusesOnceEnded, NumberNeverFalls, AskIsARequest, StaysGood, KeepsSettings, ReceiverPromises}
 use Rattle.receiver.proofs.StartLaws.{in-bounds, start-good}
+use Rattle.receiver.proofs.Sorts.{same-name, other-name}
 use Rattle.receiver.proofs.TableLaws.{refused-stays, row-answer, row-after}
 
 -- ---- the table is its rows; at an end of session n isn't above f
@@ -81,19 +82,19 @@ open-so r l e = go (eqb (refusalOf l) 0) refl e
 pub well-read : (r : Receiver) (l : List ℕ) → refusalFor r l ≡ 0 → refusalOf l ≡ 0
 well-read r l e = open-so r l e .well
 
-own-none : (r : Receiver) (l : List ℕ) (t : Bool) → ownRefusal r l t ≡ 0 → t ≡ false
+own-none : (r : Receiver) (l : List ℕ) (t : Bool) → ownRefusal r l t ≡ 0 → (r .ended ≡ false) × (t ≡ false)
 unfolding ownRefusal
 own-none r l t e = go (otherSession r l) (r .ended) t e
   where
-    go : (b d t : Bool) → _≡_ {A = ℕ} (if b then 17 else if d then 18 else if t then 20 else 0) 0 → t ≡ false
+    go : (b d t : Bool) → _≡_ {A = ℕ} (if b then 17 else if d then 18 else if t then 20 else 0) 0 → (d ≡ false) × (t ≡ false)
     go true d t z = absurd (omega arith)
     go false true t z = absurd (omega arith)
     go false false true z = absurd (omega arith)
-    go false false false z = refl
+    go false false false z = (refl, refl)
 
 not-below : (r : Receiver) (l : List ℕ) → refusalFor r l ≡ 0 → kindOf l ≡ end-of-session → r .next .0 ≤ numberOf l
 unfolding endBelow
-not-below r l e k = ltb-false _ _ (rw k at (own-none r l _ (open-so r l e .own)))
+not-below r l e k = ltb-false _ _ (rw k at (own-none r l _ (open-so r l e .own) .1))
 
 pub row-of : (r : Receiver) (l : List ℕ) → refusalFor r l ≡ 0 → Row (r .limit .0) (r .next .0) (kindOf l) (numberOf l) (countOf l) (tableRow r l)
 row-of r l e = rows (r .limit .0) (r .next .0) (numberOf l) (countOf l) (kindOf l) (not-below r l e)
@@ -107,6 +108,40 @@ follows-the-table =
     record {
       refused = λ r l z. record { its-number = refused-answers r l z; unchanged = sym (refused-stays r l (refusalFor r l) refl z) };
       accepts = λ r l e. record { outcome = tableRow r l; its-row = row-of r l e; its-answer = row-answer r l e; its-receiver = row-after r l e };
+    }
+
+-- ---- the ladder, a rung each
+
+pub ladder-bad : (r : Receiver) (d : List ℕ) → (refusalOf d ≡ 0 → ⊥) → refusalFor r d ≡ refusalOf d
+unfolding refusalFor
+ladder-bad r d z = rw (ne-eqb _ _ z)
+
+pub ladder-other : (r : Receiver) (d : List ℕ) → refusalOf d ≡ 0 → (take 10 d ≡ r .session → ⊥) → refusalFor r d ≡ 17
+unfolding refusalFor ownRefusal otherSession
+ladder-other r d w z = rw (w, other-name (take 10 d) (r .session) z)
+
+pub ladder-ended : (r : Receiver) (d : List ℕ) → refusalOf d ≡ 0 → take 10 d ≡ r .session → r .ended ≡ true → refusalFor r d ≡ 18
+unfolding refusalFor ownRefusal otherSession
+ladder-ended r d w n e = rw (w, same-name (take 10 d) (r .session) n, e)
+
+-- ---- an ended receiver: one of these three rungs
+
+ended-stays : (r : Receiver) (l : List ℕ) → r .ended ≡ true → receiverAfter r l ≡ r
+ended-stays r l e = zero-or-not _ (refusalFor r l) open-still (λ z. sym (refused-stays r l (refusalFor r l) refl z))
+  where
+    open-still : refusalFor r l ≡ 0 → receiverAfter r l ≡ r
+    open-still z = absurd (true≢false (sym e ∙ own-none r l _ (open-so r l z .own) .0))
+
+by-ladder : (r : Receiver) (l : List ℕ) (k : ℕ) → refusalFor r l ≡ k → (k ≡ 0 → ⊥) → answerOf r l ≡ refuses k
+by-ladder r l k e z = rw (← e) (refused-answers r l (λ x. z (sym e ∙ x)))
+
+refuses-once-ended : RefusesOnceEnded answerOf receiverAfter
+refuses-once-ended =
+    record {
+      not-well-formed = λ r l e z. by-ladder r l _ (ladder-bad r l z) z;
+      of-another-session = λ r l e w z. by-ladder r l _ (ladder-other r l w z) (λ x. omega arith);
+      of-its-session = λ r l e w n. by-ladder r l _ (ladder-ended r l w n e) (λ x. omega arith);
+      stays = ended-stays;
     }
 
 -- ---- only the row above n asks
@@ -215,6 +250,7 @@ receiver-promises =
     record {
       follows-the-table = follows-the-table;
       request-exactly-when = request-exactly-when;
+      refuses-once-ended = refuses-once-ended;
       number-never-falls = number-never-falls;
       ask-is-a-request = ask-is-a-request;
       stays-good = stays-good;

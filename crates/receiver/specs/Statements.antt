@@ -1,10 +1,14 @@
 -- What is promised of a receiver at one datagram. A receiver is how it answers and what it is then.
 use Prim.Native.Nat.{ℕ, _<_, _≤_}
 use mathlib.Core.List.{List, [], _∷_}
+use mathlib.Core.Bool.{true}
 use mathlib.Core.Path.{_≡_}
+use lib.ListN.{take}
+use Rattle.wire.specs.Bounds.{sessionSize}
+use Rattle.wire.specs.Refusals.{sessionDiffers, sessionEnded}
 use Rattle.wire.specs.Words.{Words, answer, says, refuses, Injective}
 use Rattle.moldudp64.specs.Header.{numberOf, countOf}
-use Rattle.moldudp64.specs.Downstream.{kindOf}
+use Rattle.moldudp64.specs.Downstream.{kindOf, refusalOf}
 use Rattle.moldudp64.specs.Request.{requestGround}
 use Rattle.receiver.specs.declared.receiver.Receiver.{Receiver}
 use Rattle.receiver.specs.Table.{AnswerKind, ask, askFor, Outcome, Row, answerWords}
@@ -62,10 +66,22 @@ StaysGood step = (r : Receiver) (l : List ℕ) → receiverStartRefusal (r .next
 abbrev pub KeepsSettings : StepRule → Type 0
 KeepsSettings step = (r : Receiver) (l : List ℕ) → (step r l .session ≡ r .session) × (step r l .limit ≡ r .limit)
 
+-- an ended receiver refuses every datagram and stays as it is: 11 to 16 where it isn't well-formed, 17 where it is of
+-- another session, else 18
+pub record RefusesOnceEnded (answers : AnswerRule) (step : StepRule) : Type 0 where
+  pub not-well-formed : (r : Receiver) (l : List ℕ) → r .ended ≡ true → (refusalOf l ≡ 0 → ⊥)
+      → answers r l ≡ refuses (refusalOf l)
+  pub of-another-session : (r : Receiver) (l : List ℕ) → r .ended ≡ true → refusalOf l ≡ 0
+      → (take sessionSize l ≡ r .session → ⊥) → answers r l ≡ refuses sessionDiffers
+  pub of-its-session : (r : Receiver) (l : List ℕ) → r .ended ≡ true → refusalOf l ≡ 0
+      → take sessionSize l ≡ r .session → answers r l ≡ refuses sessionEnded
+  pub stays : (r : Receiver) (l : List ℕ) → r .ended ≡ true → step r l ≡ r
+
 -- what taking a datagram promises beside its answer
 pub record ReceiverPromises : Type 0 where
   pub follows-the-table : FollowsTheTable answerOf receiverAfter
   pub request-exactly-when : RequestExactlyWhen answerOf
+  pub refuses-once-ended : RefusesOnceEnded answerOf receiverAfter
   pub number-never-falls : NumberNeverFalls receiverAfter
   pub ask-is-a-request : AskIsARequest answerOf
   pub stays-good : StaysGood receiverAfter

@@ -10,12 +10,13 @@ use Rattle.soupbintcp.specs.declared.packet.Sender.the-variants.{Server}
 use Rattle.soupbintcp.specs.Letters as Letters
 use Rattle.soupbintcp.specs.Head.{headSize}
 use Rattle.soupbintcp.specs.Front.{packet, frontOf, sessionOf}
-use Rattle.soupbintcp_session.specs.Answer.{accepted, sequenced, stays, takes}
+use Rattle.soupbintcp_session.specs.Answer.{accepted, rejected, sequenced, heartbeat, debug, end-of-session, stays, takes}
 use Rattle.soupbintcp_session.specs.Stream.{Run, run, packetsOf}
+use Rattle.soupbintcp_session.specs.Statements.{StaysOver}
 use Rattle.soupbintcp_session.specs.Statements.{ChangesNothing, TakesPackets, HandsUpPayload, AnyStreamCutting, RunsOn}
-use Rattle.soupbintcp_client.specs.declared.client.ClientState.the-variants.{Asked, In}
+use Rattle.soupbintcp_client.specs.declared.client.ClientState.the-variants.{Asked, In, Ended, Closed}
 use Rattle.soupbintcp_client.specs.declared.client.Client.{Client}
-use Rattle.soupbintcp_client.specs.Client.{client, clientStep}
+use Rattle.soupbintcp_client.specs.Client.{client, becomes, clientStep}
 use Rattle.soupbintcp_client.specs.HandedUp.{numberedFrom, handedUp, sequencedIn, grantedIn}
 use Rattle.soupbintcp_client.specs.Examples.{ClientExample}
 
@@ -67,6 +68,30 @@ pub record TakesS : Type 0 where
       → c .number .0 ≡ largestNumber
       → clientStep c l ≡ stays c (refuses numbersUsedUp)
 
+-- another packet in front, with no values
+abbrev pub PlainInFront : List ℕ → Letters.PacketKind → ℕ → Type 0
+PlainInFront l kind size = frontOf Server l ≡ says (packet kind) (size ∷ [])
+
+-- the other rows: in takes H and +, and is ended by Z; asked takes +, and is closed by J
+pub record TakesTheOthers : Type 0 where
+  pub heartbeat-in : (c : Client) (l : List ℕ) (size : ℕ) → c .state ≡ In
+      → PlainInFront l Letters.server-heartbeat size → clientStep c l ≡ takes size (says heartbeat []) c
+  pub debug-in : (c : Client) (l : List ℕ) (size : ℕ) → c .state ≡ In
+      → PlainInFront l Letters.debug size → clientStep c l ≡ takes size (says debug []) c
+  pub end-in : (c : Client) (l : List ℕ) (size : ℕ) → c .state ≡ In
+      → PlainInFront l Letters.end-of-session size
+      → clientStep c l ≡ takes size (says end-of-session []) (becomes c Ended)
+  pub debug-asked : (c : Client) (l : List ℕ) (size : ℕ) → c .state ≡ Asked
+      → PlainInFront l Letters.debug size → clientStep c l ≡ takes size (says debug []) c
+  pub rejected-asked : (c : Client) (l : List ℕ) (size reason : ℕ) → c .state ≡ Asked
+      → frontOf Server l ≡ says (packet Letters.rejected) (size ∷ reason ∷ [])
+      → clientStep c l ≡ takes size (says rejected (reason ∷ [])) (becomes c Closed)
+
+-- ended or closed, whatever comes
+pub record ClientStaysOver : Type 0 where
+  pub ended : (c : Client) (l : List ℕ) → c .state ≡ Ended → StaysOver Client c (clientStep c l)
+  pub closed : (c : Client) (l : List ℕ) → c .state ≡ Closed → StaysOver Client c (clientStep c l)
+
 -- over a stream: the payloads of S are handed up, each once and in order, under the numbers from the granted one on,
 -- and the client's number is one past the last of them
 pub record HandsUpInOrder (c : Client) (r : Run Client) : Type 0 where
@@ -78,6 +103,8 @@ pub record HandsUpInOrder (c : Client) (r : Run Client) : Type 0 where
 pub record ClientPromises : Type 0 where
   pub takes-from-A : TakesFromA
   pub takes-S : TakesS
+  pub takes-the-others : TakesTheOthers
+  pub stays-over : ClientStaysOver
   pub changes-nothing : ChangesNothing Client clientStep
   pub takes-packets : TakesPackets Client clientStep Server
   pub hands-up-payload : HandsUpPayload Client clientStep Server sequenced

@@ -355,7 +355,7 @@ module _ (t : List Account) (s : Server) (c : Client) (l out rest : List ℕ) (w
   ends-closed r = both-closed (r .size) (r .reason) (outcome ∙ r .answers) (rw sent (rw (r .answers) (closes (r .reason) (r .good))))
 
   ends : (k : Case decided.DecisionKind) → decided.loginOf x .which ≡ k → Ends t s c l out rest
-  ends (answer decided.accepted) e = ends-in (accepted-exactly-when .only-when x e)
+  ends (answer decided.accepted) e = ends-in (accepted-exactly-when .rules .only-when x e)
   ends (answer decided.rejected) e = ends-closed (server-promises .only-rejects t s l (rejected-which e))
   ends refused e = absurd (not-refused x z e)
 

@@ -4,7 +4,7 @@ use mathlib.Core.List.{List, [], _∷_}
 use mathlib.Core.Bool.{Bool, true, false}
 use Prim.Native.Nat.{ℕ, _<_}
 use native.Mathlib.Omega.{arith}
-use lib.ListN.{length, getD}
+use lib.ListN.{length, drop, getD}
 use borrow.Author.Tests.{le-ltb, lt-ltb}
 use Rattle.wire.specs.Refusals.{badSetting}
 use Rattle.wire.specs.Choice.{if_then_else_}
@@ -12,21 +12,22 @@ use Rattle.wire.specs.Words.{Words, Case, answer, refused, says, refuses}
 use Rattle.soupbintcp.specs.declared.packet.Sender.the-variants.{Client}
 use Rattle.soupbintcp.specs.Letters.{login, letterFor}
 use Rattle.soupbintcp.specs.Fields.{hasFields, notAuthorized, sessionNotAvailable, goodReason}
-use Rattle.soupbintcp.specs.Front.{sessionOf}
+use Rattle.soupbintcp.specs.Front.{FrontKind, packet, wants-more, frontOf, sessionOf}
 use Rattle.login.specs.declared.account.Account.{Account}
 use Rattle.login.specs.Account.{VerdictKind, known, unknown, mostAccounts, verdictOf, isKnown, lookupOf}
 use Rattle.login.specs.Decision.{loginOf}
 use Rattle.login.specs.Decision as decided
 use Rattle.login.specs.Statements.{NotRefused}
 use Rattle.login.proofs.StatementLaws.{accepted-exactly-when, never-accepted}
-use Rattle.soupbintcp_session.specs.Answer.{StepOutcome, stays, takes}
+use Rattle.soupbintcp_session.specs.Answer.{Incoming, incoming, StepOutcome, stays, takes}
+use Rattle.soupbintcp_session.specs.Statements.{StaysOver}
 use Rattle.soupbintcp_session.specs.Answer as reply
 use Rattle.soupbintcp_session.proofs.FrontCases.{a-rejection, numbered-in-front, accepted-takes, unsequenced-takes, plain-takes, plain-not-accepted, plain-not-unsequenced}
 use Rattle.soupbintcp_session.proofs.StepLaws.{never-rests, changes-nothing, takes-packets, hands-up}
 use Rattle.soupbintcp_session.proofs.RunLaws.{any-cutting, runs-on}
 use Rattle.soupbintcp_server.specs.declared.server.ServerState.the-variants.{Waiting, In, Closed}
 use Rattle.soupbintcp_server.specs.declared.server.Server.{Server}
-use Rattle.soupbintcp_server.specs.Server.{becomes, loginAt, loginRow, waitingRow, rowAt, stepAt, stepWith, entryOf, serverStep}
+use Rattle.soupbintcp_server.specs.Server.{becomes, loginAt, loginRow, waitingRow, rowAt, frontRowAt, stepAt, stepWith, entryOf, serverStep}
 use Rattle.soupbintcp_server.specs.Statements.{LoginInFront, EntryIsItsFields, attemptOf, Accepts, Rejects, LoginExactlyWhen, WasIn, before, by-login, ServerPromises}
 use Rattle.soupbintcp_server.proofs.LoginLaws.{username-first, password-first}
 use Rattle.soupbintcp_server.proofs.ServerCases.{ServerDoes, server-does, keeps, server-rests-or-moves, server-steady, with-rests-or-moves}
@@ -78,7 +79,7 @@ accepts t s l o (cases.logs-in k vs ws i a q d e) z =
       size = k;
       number = getD vs 0 0;
       front = g;
-      rules = accepted-exactly-when .only-when (attemptOf t s l (getD vs 0 0)) (rw (entry-is-its-fields l k (getD vs 0 0) g) at d);
+      rules = accepted-exactly-when .rules .only-when (attemptOf t s l (getD vs 0 0)) (rw (entry-is-its-fields l k (getD vs 0 0) g) at d);
     }
 accepts t s l o (cases.rejects k vs ws i a q d f e) z =
     absurd (plain-not-accepted (answer reply.rejected) a-rejection (rw e at z))
@@ -165,14 +166,36 @@ only-rejects : (t : List Account) (s : Server) (l : List ℕ) → serverStep t s
 unfolding serverStep
 only-rejects t s l z = rejects-so t s l (server-does s (lookupOf t (entryOf l)) l) z
 
+-- ---- closed refuses every packet
+
+module _ (s : Server) (q : s .state ≡ Closed) (v : Words VerdictKind) where
+  over-row : (p : Incoming) → StaysOver Server s (rowAt (s .state) s v p)
+  unfolding rowAt
+  over-row p = rw q (record { takes-none = refl; unchanged = refl })
+
+  over-front : (asked : List ℕ) (w : Words FrontKind) (k : Case FrontKind) → StaysOver Server s (frontRowAt s v asked w k)
+  unfolding frontRowAt
+  over-front asked w (answer (packet p)) = over-row (incoming (getD (w .values) 0 0) (letterFor p) (drop 1 (w .values)) asked)
+  over-front asked w (answer wants-more) = record { takes-none = refl; unchanged = refl }
+  over-front asked w refused = record { takes-none = refl; unchanged = refl }
+
+  over-step : (l : List ℕ) (k : Case VerdictKind) → StaysOver Server s (stepAt k s v l)
+  unfolding stepAt
+  over-step l (answer x) = over-front (sessionOf Client l) (frontOf Client l) (frontOf Client l .which)
+  over-step l refused = record { takes-none = refl; unchanged = refl }
+
+stays-over : (t : List Account) (s : Server) (l : List ℕ) → s .state ≡ Closed → StaysOver Server s (serverStep t s l)
+unfolding serverStep
+stays-over t s l q = let v = lookupOf t (entryOf l) in over-step s q v l (v .which)
+
 login-exactly-when : LoginExactlyWhen
 unfolding serverStep
 login-exactly-when =
     record {
-      when = λ t s l size n q e z f. accepts-it t s l size n q e z _ (accepted-exactly-when .when (attemptOf t s l n) z f);
+      when = λ t s l size n q e z f. accepts-it t s l size n q e z _ (accepted-exactly-when .rules .when (attemptOf t s l n) z f);
       only-when = λ t s l z. accepts t s l (serverStep t s l) (server-does s (lookupOf t (entryOf l)) l) z;
-      else-A = λ t s l size n q e z f. rejects-it t s l size n q e z _ (accepted-exactly-when .else-A (attemptOf t s l n) z f);
-      else-S = λ t s l size n q e z f g. rejects-it t s l size n q e z _ (accepted-exactly-when .else-S (attemptOf t s l n) z f g);
+      else-A = λ t s l size n q e z f. rejects-it t s l size n q e z _ (accepted-exactly-when .rules .else-A (attemptOf t s l n) z f);
+      else-S = λ t s l size n q e z f g. rejects-it t s l size n q e z _ (accepted-exactly-when .rules .else-S (attemptOf t s l n) z f g);
       no-username = λ t s l size n q e z f. rejects-it t s l size n q e z _ (never-accepted .username (attemptOf t s l n) z f);
       no-password = λ t s l size n q e z f. rejects-it t s l size n q e z _ (never-accepted .password (attemptOf t s l n) z f);
       too-many = too-many;
@@ -185,6 +208,7 @@ server-promises =
       only-in = only-in;
       hands-up-only-in = hands-up-only-in;
       only-rejects = only-rejects;
+      stays-over = stays-over;
       example = server-example;
       changes-nothing = λ t. changes-nothing (serverStep t) Client reply.unsequenced (server-rests-or-moves t);
       changes-nothing-with = λ v. changes-nothing (λ s l. stepWith s (v l) l) Client reply.unsequenced (with-rests-or-moves v);

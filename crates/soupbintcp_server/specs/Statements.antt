@@ -15,6 +15,7 @@ use Rattle.login.specs.Account.{VerdictKind, mostAccounts}
 use Rattle.login.specs.Decision.{granted, Attempt}
 use Rattle.login.specs.Statements.{AccountRule, NotRefused, Rules, NoText}
 use Rattle.soupbintcp_session.specs.Answer.{accepted, rejected, unsequenced, stays, takes}
+use Rattle.soupbintcp_session.specs.Statements.{StaysOver}
 use Rattle.soupbintcp_session.specs.Statements.{ChangesNothing, TakesPackets, HandsUpPayload, AnyStreamCutting, RunsOn}
 use Rattle.soupbintcp_server.specs.declared.server.ServerState.the-variants.{Waiting, In, Closed}
 use Rattle.soupbintcp_server.specs.declared.server.Server.{Server}
@@ -110,6 +111,9 @@ pub record ServerPromises : Type 0 where
   -- nothing but a login request is rejected
   pub only-rejects : (t : List Account) (s : Server) (l : List ℕ)
       → serverStep t s l .reply .which ≡ answer rejected → Rejects t s l
+  -- closed, whatever comes
+  pub stays-over : (t : List Account) (s : Server) (l : List ℕ) → s .state ≡ Closed
+      → StaysOver Server s (serverStep t s l)
   pub example : ServerExample
   pub changes-nothing : (t : List Account) → ChangesNothing Server (serverStep t)
   -- so does a step with any verdict on the entry in front

@@ -7,7 +7,7 @@ use Rattle.wire.specs.Words.{Case, answer, refused, says, refuses}
 use Rattle.soupbintcp.specs.declared.packet.Sender.{Sender}
 use Rattle.soupbintcp.specs.Head.{headSize}
 use Rattle.soupbintcp.specs.Front.{packetBytes, payloadOf}
-use Rattle.soupbintcp_session.specs.Answer.{SessionAnswerKind, wants-more, answerMessage, stays}
+use Rattle.soupbintcp_session.specs.Answer.{SessionAnswerKind, wants-more, answerMessage, StepOutcome, stays}
 use Rattle.wire.specs.Bytes.{joined}
 use Rattle.soupbintcp_session.specs.Stream.{Stepping, stopped, run, runPieces, packetsOf}
 
@@ -17,6 +17,11 @@ pub record ChangesNothing (S : Type 0) (step : Stepping S) : Type 0 where
       → step s l ≡ stays s (says wants-more [])
   pub refusal : (s : S) (l : List ℕ) → step s l .reply .which ≡ refused
       → step s l ≡ stays s (refuses (step s l .reply .refusal))
+
+-- over for good: no bytes taken, and the session as it was
+pub record StaysOver (S : Type 0) (s : S) (o : StepOutcome S) : Type 0 where
+  pub takes-none : o .size ≡ 0
+  pub unchanged : o .after ≡ s
 
 -- an answer that takes nothing
 pub data TakesNothing : Case SessionAnswerKind → Type 0 where

@@ -1,0 +1,44 @@
+-- The wrong locks break the rules: ours decides otherwise on an entry that they let in, or keep out.
+use Prim.Native.Nat.{ℕ}
+use mathlib.Core.List.{List, [], _∷_}
+use mathlib.Core.Path.{_≡_, refl, sym, _∙_}
+use native.Mathlib.Omega.{arith}
+use Rattle.wire.specs.Bytes.{sameBytes}
+use Rattle.wire.specs.Text.{ascii}
+use Rattle.wire.specs.Words.{answer}
+use Rattle.wire.proofs.Words.{which-of}
+use Rattle.soupbintcp.specs.Fields.{notAuthorized}
+use Rattle.decimal.specs.Decimal.{isDigit}
+use Rattle.text_fields.specs.Letters.{isLetterOrDigit, lower}
+use Rattle.text_fields.specs.Sound.{wordLength, areSpaces, sound}
+use Rattle.login.specs.Account.{lowered, sameText, soundAccount, isOf, hasPassword, isKnown, verdictOf, lookupOf}
+use Rattle.login.specs.Decision.{accepted, rejected, rejects, sessionHolds, numberHolds, granted, decisionAt, Attempt, loginOf}
+use Rattle.login.specs.Statements.{Lock, NotRefused, Rules, LoginRules}
+use Rattle.login.specs.Locks.{letsEveryoneIn, letsNoOneIn, frontOf, sameFront, stopsEarly, stopsAtZeroOrSpace, annWith, tooShort, behindAZero, empty, WrongLocks}
+use Rattle.login.proofs.StatementLaws.{accepted-exactly-when}
+
+-- a lock that lets in what ours rejects
+lets-in : (lock : Lock) (x : Attempt) → NotRefused x → loginOf x ≡ rejects notAuthorized → lock x .which ≡ answer accepted → LoginRules lock → ⊥
+lets-in lock x n e w r =
+    let k = which-of (sym e ∙ accepted-exactly-when .rules .when x n (r .only-when x w)) in
+    let z : _≡_ {A = ℕ} 0 1 = cc in
+    omega arith
+
+-- a lock that rejects what ours lets in
+keeps-out : (lock : Lock) (x : Attempt) → NotRefused x → loginOf x .which ≡ answer accepted → lock x .which ≡ answer rejected → LoginRules lock → ⊥
+keeps-out lock x n e w r =
+    let k = sym w ∙ which-of (r .when x n (accepted-exactly-when .rules .only-when x e)) in
+    let z : _≡_ {A = ℕ} 0 1 = cc in
+    omega arith
+
+pub wrong-locks : WrongLocks
+unfolding sameBytes isDigit isLetterOrDigit wordLength areSpaces sound lower lowered sameText soundAccount isOf hasPassword isKnown verdictOf lookupOf sessionHolds numberHolds granted decisionAt frontOf sameFront stopsEarly
+wrong-locks =
+    record {
+      everyone = lets-in letsEveryoneIn tooShort (omega arith) refl refl;
+      no-one = keeps-out letsNoOneIn (annWith (ascii "cafe7")) (omega arith) refl refl;
+      stops-early = lets-in stopsAtZeroOrSpace tooShort (omega arith) refl refl;
+      too-short-in = refl;
+      behind-a-zero-in = refl;
+      empty-in = refl;
+    }
