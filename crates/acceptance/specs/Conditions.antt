@@ -24,11 +24,12 @@ use Rattle.soupbintcp_client.specs.Client.{clientStep}
 use Rattle.soupbintcp_session.specs.Answer.{sequenced, unsequenced}
 use Rattle.soupbintcp_session.specs.Stream.{run}
 use Rattle.soupbintcp_session.specs.Statements.{ChangesNothing, HandsUpPayload, AnyStreamCutting}
-use Rattle.soupbintcp_client.specs.Statements.{TakesFromA, TakesS, HandsUpInOrder}
+use Rattle.soupbintcp_client.specs.Statements.{TakesFromA, TakesS, TakesTheOthers, ClientStaysOver, HandsUpInOrder}
 use Rattle.soupbintcp.specs.declared.packet.Sender.the-variants as sender
 use Rattle.soupbintcp.specs.Front.{FrontPromises}
 use Rattle.soupbintcp.specs.Scan.{ScanPromises}
 use Rattle.soupbintcp_server.specs.Statements.{LoginExactlyWhen, WasIn}
+use Rattle.soupbintcp_server.specs.Statements as server
 use Rattle.host_answers.specs.Answers.{RefusalChangesNothing}
 use Rattle.exports_reply.specs.Calls.{RefusedReplyChangesNothing}
 use Rattle.acceptance.specs.Layouts.{EveryLayout}
@@ -83,16 +84,21 @@ pub record Condition2 : Type 0 where
       → WasIn table s l
   pub hands-up-only-in : (table : List Account) (s : Server) (l : List ℕ)
       → serverStep table s l .reply .which ≡ answer unsequenced → s .state ≡ In
-  -- and they are the payloads of the packets taken, at either end
+  -- over a stream they are the payloads of U in order; and at either end each is its packet's payload
+  pub server-in-order : (table : List Account) (s : Server) (l : List ℕ)
+      → server.HandsUpInOrder s (run (serverStep table) s l)
   pub server-hands-up : (table : List Account) → HandsUpPayload Server (serverStep table) sender.Client unsequenced
   pub client-hands-up : HandsUpPayload Client clientStep sender.Server sequenced
   -- bytes that come later change no packet and no refusal that was given; the scan passes what is good and says why
   -- it stopped
   pub fronts : FrontPromises
   pub scans : ScanPromises
-  -- the client: session and number come from A; S is message n, then n + 1, handed up in order under their numbers
+  -- the client: session and number come from A; S is message n, then n + 1, handed up in order under their numbers;
+  -- the other rows; and what is over stays over
   pub takes-from-A : TakesFromA
   pub takes-S : TakesS
+  pub takes-the-others : TakesTheOthers
+  pub client-stays-over : ClientStaysOver
   pub in-order : (c : Client) (l : List ℕ) → HandsUpInOrder c (run clientStep c l)
   -- however a stream is cut into pieces, at either end
   pub server-any-cutting : (table : List Account) → AnyStreamCutting Server (serverStep table)

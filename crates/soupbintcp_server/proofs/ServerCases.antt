@@ -6,7 +6,7 @@ use Prim.Native.Nat.{ℕ, suc, _-_}
 use native.Mathlib.Omega.{arith}
 use lib.ListN.{getD}
 use lib.Dec.{eqb}
-use borrow.Author.Tests.{eqb-true}
+use borrow.Author.Tests.{eqb-true, eqb-false}
 use Rattle.wire.specs.Words.{Words, Case, answer, refused, says, refuses}
 use Rattle.soupbintcp.specs.declared.packet.Sender.the-variants.{Client}
 use Rattle.soupbintcp.specs.Letters.{PacketKind, letterFor}
@@ -21,7 +21,7 @@ use Rattle.login.specs.Account.{VerdictKind, lookupOf}
 use Rattle.login.specs.Decision.{DecisionKind, accepted, rejected, decisionOf}
 use Rattle.soupbintcp_session.specs.Answer.{incoming, SessionAnswerKind, wants-more, unsequenced, heartbeat, debug, logged-out, answerMessageAt, StepOutcome, stays, takes}
 use Rattle.soupbintcp_session.specs.Answer as reply
-use Rattle.soupbintcp_session.proofs.FrontCases.{InFront, front-stays, session-stays, username-stays, password-stays, Plain, a-rejection, a-heartbeat, a-debug, a-logout, plain-takes, accepted-takes, unsequenced-takes, plain-not-unsequenced}
+use Rattle.soupbintcp_session.proofs.FrontCases.{apart, InFront, front-stays, session-stays, username-stays, password-stays, Plain, a-rejection, a-heartbeat, a-debug, a-logout, plain-takes, accepted-takes, unsequenced-takes, plain-not-unsequenced}
 use Rattle.soupbintcp_session.proofs.StepLaws.{Rests, waits, refusing, Does}
 use Rattle.soupbintcp_session.proofs.StepLaws as does
 use Rattle.soupbintcp_session.proofs.RunLaws.{Steady}
@@ -40,9 +40,9 @@ pub data ServerDoes (s : Server) (l : List ℕ) (x : Words VerdictKind) (o : Ste
       → decisionOf x (sessionOf Client l) (getD vs 0 0) (s .session) (s .last .0) .which ≡ answer rejected
       → ws ≡ decisionOf x (sessionOf Client l) (getD vs 0 0) (s .session) (s .last .0) .values
       → o ≡ takes k (says reply.rejected ws) (becomes s Closed) → ServerDoes s l x o
-  hands-up : (k : ℕ) (vs : List ℕ) → InFront Client l k vs → s .state ≡ In → o ≡ takes k (says unsequenced (3 ∷ (k - 3) ∷ [])) (becomes s In)
+  hands-up : (k : ℕ) (vs : List ℕ) → InFront Client l k vs → letterOf l ≡ 85 → s .state ≡ In → o ≡ takes k (says unsequenced (3 ∷ (k - 3) ∷ [])) (becomes s In)
       → ServerDoes s l x o
-  goes-by : (k : ℕ) (vs : List ℕ) (w : Words SessionAnswerKind) (t : ServerState) → InFront Client l k vs → Plain (w .which)
+  goes-by : (k : ℕ) (vs : List ℕ) (w : Words SessionAnswerKind) (t : ServerState) → InFront Client l k vs → (letterOf l ≡ 85 → ⊥) → Plain (w .which)
       → (w .which ≡ answer reply.rejected → ⊥) → (t ≡ In → s .state ≡ In)
       → o ≡ takes k w (becomes s t) → ServerDoes s l x o
 
@@ -81,15 +81,15 @@ module _ (s : Server) (l : List ℕ) (x : Words VerdictKind) (k : ℕ) (vs : Lis
   unfolding waitingRow
   waiting-does q =
       choice D (eqb (letterOf l) 76) (λ e. login-does (eqb-true _ _ e) q _ _ _ refl refl) (λ e.
-      choice D (eqb (letterOf l) 43) (λ f. goes-by k vs (says debug []) Waiting i a-debug debug-apart (λ z. q ∙ z) refl) (λ f. refuses-it _))
+      choice D (eqb (letterOf l) 43) (λ f. goes-by k vs (says debug []) Waiting i (apart (eqb-true _ _ f) refl) a-debug debug-apart (λ z. q ∙ z) refl) (λ f. refuses-it _))
 
   in-does : s .state ≡ In → D (inRow s k (letterOf l))
   unfolding inRow
   in-does q =
-      choice D (eqb (letterOf l) 85) (λ e. hands-up k vs i q refl) (λ e.
-      choice D (eqb (letterOf l) 82) (λ f. goes-by k vs (says heartbeat []) In i a-heartbeat heartbeat-apart (λ z. q) refl) (λ f.
-      choice D (eqb (letterOf l) 43) (λ g. goes-by k vs (says debug []) In i a-debug debug-apart (λ z. q) refl) (λ g.
-      choice D (eqb (letterOf l) 79) (λ h. goes-by k vs (says logged-out []) Closed i a-logout logout-apart (λ z. q) refl) (λ h. refuses-it _))))
+      choice D (eqb (letterOf l) 85) (λ e. hands-up k vs i (eqb-true _ _ e) q refl) (λ e.
+      choice D (eqb (letterOf l) 82) (λ f. goes-by k vs (says heartbeat []) In i (eqb-false _ _ e) a-heartbeat heartbeat-apart (λ z. q) refl) (λ f.
+      choice D (eqb (letterOf l) 43) (λ g. goes-by k vs (says debug []) In i (eqb-false _ _ e) a-debug debug-apart (λ z. q) refl) (λ g.
+      choice D (eqb (letterOf l) 79) (λ h. goes-by k vs (says logged-out []) Closed i (eqb-false _ _ e) a-logout logout-apart (λ z. q) refl) (λ h. refuses-it _))))
 
   row-does : (t : ServerState) → s .state ≡ t → D (rowAt t s x (incoming k (letterOf l) vs (sessionOf Client l)))
   unfolding rowAt
@@ -141,8 +141,8 @@ does-keep : (s : Server) (l : List ℕ) (x : Words VerdictKind) (o : StepOutcome
 does-keep s l x o (rests w n e) = rw e (record { session = refl; last = refl })
 does-keep s l x o (logs-in k vs ws i a q d e) = rw e (record { session = refl; last = refl })
 does-keep s l x o (rejects k vs ws i a q d f e) = rw e (record { session = refl; last = refl })
-does-keep s l x o (hands-up k vs i q e) = rw e (record { session = refl; last = refl })
-does-keep s l x o (goes-by k vs w t i p g f e) = rw e (record { session = refl; last = refl })
+does-keep s l x o (hands-up k vs i n q e) = rw e (record { session = refl; last = refl })
+does-keep s l x o (goes-by k vs w t i n p g f e) = rw e (record { session = refl; last = refl })
 
 pub keeps : (t : List Account) (s : Server) (l : List ℕ) → KeepsItsSettings s (serverStep t s l .after)
 unfolding serverStep
@@ -161,9 +161,9 @@ server-moves s l x o (logs-in k vs ws i a q d e) =
 server-moves s l x o (rejects k vs ws i a q d f e) =
     does.moves k vs (says reply.rejected ws) (becomes s Closed) i (plain-takes (answer reply.rejected) a-rejection)
     (λ z. absurd (plain-not-unsequenced (answer reply.rejected) a-rejection z)) e
-server-moves s l x o (hands-up k vs i q e) =
+server-moves s l x o (hands-up k vs i n q e) =
     does.moves k vs (says unsequenced (3 ∷ (k - 3) ∷ [])) (becomes s In) i unsequenced-takes (λ z. refl) e
-server-moves s l x o (goes-by k vs w t i p g f e) =
+server-moves s l x o (goes-by k vs w t i n p g f e) =
     does.moves k vs w (becomes s t) i (plain-takes (w .which) p) (λ z. absurd (plain-not-unsequenced (w .which) p z)) e
 
 -- with any verdict on the entry in front

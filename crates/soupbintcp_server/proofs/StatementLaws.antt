@@ -32,6 +32,7 @@ use Rattle.soupbintcp_server.specs.Statements.{LoginInFront, EntryIsItsF
 use Rattle.soupbintcp_server.proofs.LoginLaws.{username-first, password-first}
 use Rattle.soupbintcp_server.proofs.ServerCases.{ServerDoes, server-does, keeps, server-rests-or-moves, server-steady, with-rests-or-moves}
 use Rattle.soupbintcp_server.proofs.ServerCases as cases
+use Rattle.soupbintcp_server.proofs.OrderLaws.{hands-up-in-order}
 use Rattle.soupbintcp_server.proofs.ExampleLaws.{server-example}
 
 pub entry-is-its-fields : EntryIsItsFields
@@ -83,24 +84,24 @@ accepts t s l o (cases.logs-in k vs ws i a q d e) z =
     }
 accepts t s l o (cases.rejects k vs ws i a q d f e) z =
     absurd (plain-not-accepted (answer reply.rejected) a-rejection (rw e at z))
-accepts t s l o (cases.hands-up k vs i q e) z = absurd (unsequenced-apart (rw e at z))
-accepts t s l o (cases.goes-by k vs w u i p g f e) z = absurd (plain-not-accepted (w .which) p (rw e at z))
+accepts t s l o (cases.hands-up k vs i n q e) z = absurd (unsequenced-apart (rw e at z))
+accepts t s l o (cases.goes-by k vs w u i n p g f e) z = absurd (plain-not-accepted (w .which) p (rw e at z))
 
 -- who is in was so before the step, or logs in by it
 is-in : (t : List Account) (s : Server) (l : List ℕ) (o : StepOutcome Server) → ServerDoes s l (lookupOf t (entryOf l)) o → o .after .state ≡ In → WasIn t s l
 is-in t s l o (cases.rests w n e) z = before (rw e at z)
 is-in t s l o (cases.logs-in k vs ws i a q d e) z = by-login (accepts t s l o (cases.logs-in k vs ws i a q d e) (rw e refl))
 is-in t s l o (cases.rejects k vs ws i a q d f e) z = absurd (cases.never-in (rw e at z))
-is-in t s l o (cases.hands-up k vs i q e) z = before q
-is-in t s l o (cases.goes-by k vs w u i p g f e) z = before (f (rw e at z))
+is-in t s l o (cases.hands-up k vs i n q e) z = before q
+is-in t s l o (cases.goes-by k vs w u i n p g f e) z = before (f (rw e at z))
 
 hands-up-in : (s : Server) (l : List ℕ) (x : Words VerdictKind) (o : StepOutcome Server) → ServerDoes s l x o → o .reply .which ≡ answer reply.unsequenced → s .state ≡ In
 hands-up-in s l x o (cases.rests w n e) z = absurd (never-rests w n reply.unsequenced unsequenced-takes (rw e at z))
 hands-up-in s l x o (cases.logs-in k vs ws i a q d e) z = absurd (unsequenced-apart (sym (rw e at z)))
 hands-up-in s l x o (cases.rejects k vs ws i a q d f e) z =
     absurd (plain-not-unsequenced (answer reply.rejected) a-rejection (rw e at z))
-hands-up-in s l x o (cases.hands-up k vs i q e) z = q
-hands-up-in s l x o (cases.goes-by k vs w u i p g f e) z = absurd (plain-not-unsequenced (w .which) p (rw e at z))
+hands-up-in s l x o (cases.hands-up k vs i n q e) z = q
+hands-up-in s l x o (cases.goes-by k vs w u i n p g f e) z = absurd (plain-not-unsequenced (w .which) p (rw e at z))
 
 module _ (t : List Account) (s : Server) (l : List ℕ) where
   only-in : serverStep t s l .after .state ≡ In → WasIn t s l
@@ -159,8 +160,8 @@ rejects-so t s l (cases.rejects k vs ws i a q d f e) z =
       good = b .good;
       answers = e ∙ ap (λ (us : List ℕ). takes k (says reply.rejected us) (becomes s Closed)) (f ∙ b .values);
     }
-rejects-so t s l (cases.hands-up k vs i q e) z = absurd (plain-not-unsequenced (answer reply.rejected) a-rejection (sym (rw e at z)))
-rejects-so t s l (cases.goes-by k vs w u i p g f e) z = absurd (g (rw e at z))
+rejects-so t s l (cases.hands-up k vs i n q e) z = absurd (plain-not-unsequenced (answer reply.rejected) a-rejection (sym (rw e at z)))
+rejects-so t s l (cases.goes-by k vs w u i n p g f e) z = absurd (g (rw e at z))
 
 only-rejects : (t : List Account) (s : Server) (l : List ℕ) → serverStep t s l .reply .which ≡ answer reply.rejected → Rejects t s l
 unfolding serverStep
@@ -214,6 +215,7 @@ server-promises =
       changes-nothing-with = λ v. changes-nothing (λ s l. stepWith s (v l) l) Client reply.unsequenced (with-rests-or-moves v);
       takes-packets = λ t. takes-packets (serverStep t) Client reply.unsequenced (server-rests-or-moves t);
       keeps = keeps;
+      hands-up-in-order = hands-up-in-order;
       hands-up-payload = λ t. hands-up (serverStep t) Client reply.unsequenced (server-rests-or-moves t) unsequenced-takes;
       runs-on = λ t. runs-on (serverStep t) (server-steady t);
       any-cutting = λ t. any-cutting (serverStep t) (server-steady t);

@@ -1,3 +1,4 @@
 pub mod Server
+pub mod HandedUp
 pub mod Examples
 pub mod Statements

@@ -15,10 +15,12 @@ use Rattle.login.specs.Account.{VerdictKind, mostAccounts}
 use Rattle.login.specs.Decision.{granted, Attempt}
 use Rattle.login.specs.Statements.{AccountRule, NotRefused, Rules, NoText}
 use Rattle.soupbintcp_session.specs.Answer.{accepted, rejected, unsequenced, stays, takes}
+use Rattle.soupbintcp_session.specs.Stream.{Run, run, packetsOf}
 use Rattle.soupbintcp_session.specs.Statements.{StaysOver}
 use Rattle.soupbintcp_session.specs.Statements.{ChangesNothing, TakesPackets, HandsUpPayload, AnyStreamCutting, RunsOn}
 use Rattle.soupbintcp_server.specs.declared.server.ServerState.the-variants.{Waiting, In, Closed}
 use Rattle.soupbintcp_server.specs.declared.server.Server.{Server}
+use Rattle.soupbintcp_server.specs.HandedUp.{handedUp, beforeLogin, unsequencedIn}
 use Rattle.soupbintcp_server.specs.Server.{becomes, entryOf, stepWith, serverStep}
 use Rattle.soupbintcp_server.specs.Examples.{ServerExample}
 
@@ -101,6 +103,12 @@ pub record KeepsItsSettings (s x : Server) : Type 0 where
   pub session : x .session ≡ s .session
   pub last : x .last ≡ s .last
 
+-- over a stream: the payloads of U in the packets taken are handed up, each once and in order, and none before an
+-- accepted login of one who wasn't in
+pub record HandsUpInOrder (s : Server) (r : Run Server) : Type 0 where
+  pub in-order : handedUp (r .taken) ≡ unsequencedIn (packetsOf (r .taken))
+  pub none-before : (s .state ≡ In → ⊥) → handedUp (beforeLogin (r .taken)) ≡ []
+
 -- what a step promises beside its answer, with every table
 pub record ServerPromises : Type 0 where
   pub login-exactly-when : LoginExactlyWhen
@@ -121,6 +129,7 @@ pub record ServerPromises : Type 0 where
       → ChangesNothing Server (λ s l. stepWith s (verdict l) l)
   pub takes-packets : (t : List Account) → TakesPackets Server (serverStep t) Client
   pub keeps : (t : List Account) (s : Server) (l : List ℕ) → KeepsItsSettings s (serverStep t s l .after)
+  pub hands-up-in-order : (t : List Account) (s : Server) (l : List ℕ) → HandsUpInOrder s (run (serverStep t) s l)
   pub hands-up-payload : (t : List Account) → HandsUpPayload Server (serverStep t) Client unsequenced
   pub runs-on : (t : List Account) (s : Server) (l : List ℕ) → RunsOn Server (serverStep t) s l
   pub any-cutting : (t : List Account) → AnyStreamCutting Server (serverStep t)
