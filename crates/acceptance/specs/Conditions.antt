@@ -17,13 +17,13 @@ use Rattle.login.specs.Account.{VerdictKind}
 use Rattle.login.specs.Statements.{AcceptedExactlyWhen, NeverAccepted}
 use Rattle.soupbintcp_server.specs.declared.server.Server.{Server}
 use Rattle.soupbintcp_client.specs.declared.client.Client.{Client}
-use Rattle.soupbintcp_server.specs.declared.server.ServerState.the-variants.{In}
+use Rattle.soupbintcp_server.specs.declared.server.ServerState.the-variants.{In, Closed}
 use Rattle.soupbintcp_server.specs.Server.{lastRefusal, withLast, stepWith, serverStep}
 use Rattle.soupbintcp_reply.specs.Statements.{RefusalUndoes}
 use Rattle.soupbintcp_client.specs.Client.{clientStep}
 use Rattle.soupbintcp_session.specs.Answer.{sequenced, unsequenced}
 use Rattle.soupbintcp_session.specs.Stream.{run}
-use Rattle.soupbintcp_session.specs.Statements.{ChangesNothing, HandsUpPayload, AnyStreamCutting}
+use Rattle.soupbintcp_session.specs.Statements.{ChangesNothing, StaysOver, HandsUpPayload, AnyStreamCutting}
 use Rattle.soupbintcp_client.specs.Statements.{TakesFromA, TakesS, TakesTheOthers, ClientStaysOver, HandsUpInOrder}
 use Rattle.soupbintcp.specs.declared.packet.Sender.the-variants as sender
 use Rattle.soupbintcp.specs.Front.{FrontPromises}
@@ -84,9 +84,13 @@ pub record Condition2 : Type 0 where
       → WasIn table s l
   pub hands-up-only-in : (table : List Account) (s : Server) (l : List ℕ)
       → serverStep table s l .reply .which ≡ answer unsequenced → s .state ≡ In
-  -- over a stream they are the payloads of U in order; and at either end each is its packet's payload
+  -- over a stream they are the payloads of U in order; the server's other rows; closed it takes no more; at either end
+  -- a message is its packet's payload
   pub server-in-order : (table : List Account) (s : Server) (l : List ℕ)
       → server.HandsUpInOrder s (run (serverStep table) s l)
+  pub server-takes-the-others : server.TakesTheOthers
+  pub server-stays-over : (table : List Account) (s : Server) (l : List ℕ) → s .state ≡ Closed
+      → StaysOver Server s (serverStep table s l)
   pub server-hands-up : (table : List Account) → HandsUpPayload Server (serverStep table) sender.Client unsequenced
   pub client-hands-up : HandsUpPayload Client clientStep sender.Server sequenced
   -- bytes that come later change no packet and no refusal that was given; the scan passes what is good and says why

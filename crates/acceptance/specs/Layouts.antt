@@ -1,5 +1,6 @@
 -- One packet of each published layout, byte by byte, as source documents 003 and 002 give them. Nothing here is built
--- by a writer of ours, so that a layout which is wrong in both directions breaks these rows.
+-- by a writer of ours, so that a field at a wrong place or in the wrong byte order, in both directions alike, breaks these
+-- rows.
 use Prim.Native.Nat.{ℕ}
 use mathlib.Core.List.{List, [], _∷_}
 use mathlib.Core.Path.{_≡_}

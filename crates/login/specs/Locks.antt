@@ -41,7 +41,7 @@ stopsEarly [] e = false
 stopsEarly (a ∷ t) e =
     if sameText (a .username) (e .username) then sameFront (a .password) (e .password) else stopsEarly t e
 
--- the lock that was the fault
+-- the lock with the fault that document 01 lists
 abbrev pub stopsAtZeroOrSpace : Lock
 stopsAtZeroOrSpace x =
     if stopsEarly (x .table) (x .entry) then letsEveryoneIn x else letsNoOneIn x
@@ -53,7 +53,7 @@ abbrev pub annWith : List ℕ → Attempt
 annWith password =
     attempts (account (ascii "ann") (ascii "cafe7") ∷ []) (account (ascii "ann") password) readroom 3
 
--- a front of the password; it, a zero byte and another one; and nothing
+-- a front of the password; the whole of it, a zero byte and an `x`; and nothing
 abbrev pub tooShort : Attempt
 tooShort = annWith (ascii "cafe")
 
@@ -63,7 +63,7 @@ behindAZero = annWith (99 ∷ 97 ∷ 102 ∷ 101 ∷ 55 ∷ 0 ∷ 120 ∷ [])
 abbrev pub empty : Attempt
 empty = annWith []
 
--- ---- no wrong lock keeps the rules, and each of these entries is let in by the third
+-- ---- none of the three keeps the rules, and each of these entries is let in by the third
 pub record WrongLocks : Type 0 where
   pub everyone : LoginRules letsEveryoneIn → ⊥
   pub no-one : LoginRules letsNoOneIn → ⊥

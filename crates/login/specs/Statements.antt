@@ -73,7 +73,7 @@ abbrev pub Lock : Type 0
 Lock = Attempt → Words DecisionKind
 
 -- accepted with the granted number if all three hold, and only then; J with A where the account rule doesn't; J with
--- S where it does and another doesn't
+-- S where it does and another doesn't; 19 for a table of too many records
 pub record LoginRules (lock : Lock) : Type 0 where
   pub when : (x : Attempt) → NotRefused x → Rules x → lock x ≡ says accepted (granted (x .wanted) (x .last) ∷ [])
   pub only-when : (x : Attempt) → lock x .which ≡ answer accepted → Rules x

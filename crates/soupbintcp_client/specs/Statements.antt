@@ -68,7 +68,7 @@ pub record TakesS : Type 0 where
       → c .number .0 ≡ largestNumber
       → clientStep c l ≡ stays c (refuses numbersUsedUp)
 
--- another packet in front, with no values
+-- another packet in front, with no value but its size
 abbrev pub PlainInFront : List ℕ → Letters.PacketKind → ℕ → Type 0
 PlainInFront l kind size = frontOf Server l ≡ says (packet kind) (size ∷ [])
 

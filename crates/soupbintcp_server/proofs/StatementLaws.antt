@@ -2,7 +2,7 @@
 use mathlib.Core.Path.{_≡_, refl, ap, sym, _∙_}
 use mathlib.Core.List.{List, [], _∷_}
 use mathlib.Core.Bool.{Bool, true, false}
-use Prim.Native.Nat.{ℕ, _<_}
+use Prim.Native.Nat.{ℕ, _<_, _≤_}
 use native.Mathlib.Omega.{arith}
 use lib.ListN.{length, drop, getD}
 use borrow.Author.Tests.{le-ltb, lt-ltb}
@@ -10,7 +10,7 @@ use Rattle.wire.specs.Refusals.{badSetting}
 use Rattle.wire.specs.Choice.{if_then_else_}
 use Rattle.wire.specs.Words.{Words, Case, answer, refused, says, refuses}
 use Rattle.soupbintcp.specs.declared.packet.Sender.the-variants.{Client}
-use Rattle.soupbintcp.specs.Letters.{login, letterFor}
+use Rattle.soupbintcp.specs.Letters.{PacketKind, login, unsequenced, client-heartbeat, debug, logout, letterFor}
 use Rattle.soupbintcp.specs.Fields.{hasFields, notAuthorized, sessionNotAvailable, goodReason}
 use Rattle.soupbintcp.specs.Front.{FrontKind, packet, wants-more, frontOf, sessionOf}
 use Rattle.login.specs.declared.account.Account.{Account}
@@ -26,9 +26,10 @@ use Rattle.soupbintcp_session.proofs.FrontCases.{a-rejection, numbered-in-front
 use Rattle.soupbintcp_session.proofs.StepLaws.{never-rests, changes-nothing, takes-packets, hands-up}
 use Rattle.soupbintcp_session.proofs.RunLaws.{any-cutting, runs-on}
 use Rattle.soupbintcp_server.specs.declared.server.ServerState.the-variants.{Waiting, In, Closed}
+use Rattle.soupbintcp_server.specs.declared.server.ServerState.{ServerState}
 use Rattle.soupbintcp_server.specs.declared.server.Server.{Server}
-use Rattle.soupbintcp_server.specs.Server.{becomes, loginAt, loginRow, waitingRow, rowAt, frontRowAt, stepAt, stepWith, entryOf, serverStep}
-use Rattle.soupbintcp_server.specs.Statements.{LoginInFront, EntryIsItsFields, attemptOf, Accepts, Rejects, LoginExactlyWhen, WasIn, before, by-login, ServerPromises}
+use Rattle.soupbintcp_server.specs.Server.{becomes, loginAt, loginRow, waitingRow, inRow, rowAt, frontRowAt, stepAt, stepWith, entryOf, serverStep}
+use Rattle.soupbintcp_server.specs.Statements.{LoginInFront, EntryIsItsFields, attemptOf, Accepts, Rejects, LoginExactlyWhen, WasIn, before, by-login, TakesTheOthers, ServerPromises}
 use Rattle.soupbintcp_server.proofs.LoginLaws.{username-first, password-first}
 use Rattle.soupbintcp_server.proofs.ServerCases.{ServerDoes, server-does, keeps, server-rests-or-moves, server-steady, with-rests-or-moves}
 use Rattle.soupbintcp_server.proofs.ServerCases as cases
@@ -167,6 +168,36 @@ only-rejects : (t : List Account) (s : Server) (l : List ℕ) → serverStep t s
 unfolding serverStep
 only-rejects t s l z = rejects-so t s l (server-does s (lookupOf t (entryOf l)) l) z
 
+-- ---- the other packets: a row of the state q, with a table that isn't too long
+
+told-other : (s : Server) (x : Words VerdictKind) (l : List ℕ) (kind : PacketKind) (size : ℕ) (state : ServerState) (b : Bool) → s .state ≡ state
+    → frontOf Client l ≡ says (packet kind) (size ∷ []) → x ≡ verdictOf b
+    → stepWith s x l ≡ rowAt state s x (incoming size (letterFor kind) [] (sessionOf Client l))
+unfolding stepAt verdictOf
+told-other s x l kind size state true q e f = rw f (cases.packet-row s (says known []) l kind size [] e ∙ ap (λ (y : ServerState). rowAt y s (says known []) (incoming size (letterFor kind) [] (sessionOf Client l))) q)
+told-other s x l kind size state false q e f = rw f (cases.packet-row s (says unknown []) l kind size [] e ∙ ap (λ (y : ServerState). rowAt y s (says unknown []) (incoming size (letterFor kind) [] (sessionOf Client l))) q)
+
+row : (t : List Account) (s : Server) (l : List ℕ) (kind : PacketKind) (size : ℕ) (state : ServerState) → length t ≤ mostAccounts → s .state ≡ state
+    → frontOf Client l ≡ says (packet kind) (size ∷ [])
+    → serverStep t s l ≡ rowAt state s (lookupOf t (entryOf l)) (incoming size (letterFor kind) [] (sessionOf Client l))
+unfolding serverStep lookupOf
+row t s l kind size state z q e = told-other s (lookupOf t (entryOf l)) l kind size state (isKnown t (entryOf l)) q e (rw (le-ltb _ _ z) refl)
+
+-- a state that stays is the server's own
+own-state : (s : Server) (size : ℕ) (w : Words reply.SessionAnswerKind) (state : ServerState) → s .state ≡ state → takes size w (becomes s state) ≡ takes size w s
+own-state s size w state q = sym (ap (λ (x : ServerState). takes size w (becomes s x)) q)
+
+takes-the-others : TakesTheOthers
+unfolding letterFor rowAt waitingRow inRow
+takes-the-others =
+    record {
+      unsequenced-in = λ t s l size z q e. row t s l unsequenced size In z q e ∙ own-state s size _ In q;
+      heartbeat-in = λ t s l size z q e. row t s l client-heartbeat size In z q e ∙ own-state s size _ In q;
+      debug-in = λ t s l size z q e. row t s l debug size In z q e ∙ own-state s size _ In q;
+      logout-in = λ t s l size z q e. row t s l logout size In z q e;
+      debug-waiting = λ t s l size z q e. row t s l debug size Waiting z q e ∙ own-state s size _ Waiting q;
+    }
+
 -- ---- closed refuses every packet
 
 module _ (s : Server) (q : s .state ≡ Closed) (v : Words VerdictKind) where
@@ -209,6 +240,7 @@ server-promises =
       only-in = only-in;
       hands-up-only-in = hands-up-only-in;
       only-rejects = only-rejects;
+      takes-the-others = takes-the-others;
       stays-over = stays-over;
       example = server-example;
       changes-nothing = λ t. changes-nothing (serverStep t) Client reply.unsequenced (server-rests-or-moves t);

@@ -1,5 +1,5 @@
 -- What is promised of the session at the server.
-use Prim.Native.Nat.{ℕ, _<_}
+use Prim.Native.Nat.{ℕ, _-_, _<_, _≤_}
 use mathlib.Core.List.{List, [], _∷_}
 use mathlib.Core.Bool.{true}
 use mathlib.Core.Path.{_≡_}
@@ -8,13 +8,15 @@ use Rattle.wire.specs.Refusals.{badSetting}
 use Rattle.wire.specs.Words.{Words, answer, says, refuses}
 use Rattle.soupbintcp.specs.declared.packet.Sender.the-variants.{Client}
 use Rattle.soupbintcp.specs.Letters.{login}
+use Rattle.soupbintcp.specs.Letters as Letters
+use Rattle.soupbintcp.specs.Head.{headSize}
 use Rattle.soupbintcp.specs.Fields.{notAuthorized, sessionNotAvailable, goodReason}
 use Rattle.soupbintcp.specs.Front.{packet, frontOf, sessionOf, usernameOf, passwordOf}
 use Rattle.login.specs.declared.account.Account.{Account}
 use Rattle.login.specs.Account.{VerdictKind, mostAccounts}
 use Rattle.login.specs.Decision.{granted, Attempt}
 use Rattle.login.specs.Statements.{AccountRule, NotRefused, Rules, NoText}
-use Rattle.soupbintcp_session.specs.Answer.{accepted, rejected, unsequenced, stays, takes}
+use Rattle.soupbintcp_session.specs.Answer.{accepted, rejected, unsequenced, heartbeat, debug, logged-out, stays, takes}
 use Rattle.soupbintcp_session.specs.Stream.{Run, run, packetsOf}
 use Rattle.soupbintcp_session.specs.Statements.{StaysOver}
 use Rattle.soupbintcp_session.specs.Statements.{ChangesNothing, TakesPackets, HandsUpPayload, AnyStreamCutting, RunsOn}
@@ -103,8 +105,30 @@ pub record KeepsItsSettings (s x : Server) : Type 0 where
   pub session : x .session ≡ s .session
   pub last : x .last ≡ s .last
 
--- over a stream: the payloads of U in the packets taken are handed up, each once and in order, and none before an
--- accepted login of one who wasn't in
+-- another packet in front, with no value but its size
+abbrev pub PlainInFront : List ℕ → Letters.PacketKind → ℕ → Type 0
+PlainInFront l kind size = frontOf Client l ≡ says (packet kind) (size ∷ [])
+
+-- the other rows, with a table that isn't too long: in takes U, R and +, and is closed by O; waiting takes +
+pub record TakesTheOthers : Type 0 where
+  pub unsequenced-in : (t : List Account) (s : Server) (l : List ℕ) (size : ℕ) → length t ≤ mostAccounts
+      → s .state ≡ In → PlainInFront l Letters.unsequenced size
+      → serverStep t s l ≡ takes size (says unsequenced (headSize ∷ (size - headSize) ∷ [])) s
+  pub heartbeat-in : (t : List Account) (s : Server) (l : List ℕ) (size : ℕ) → length t ≤ mostAccounts
+      → s .state ≡ In → PlainInFront l Letters.client-heartbeat size
+      → serverStep t s l ≡ takes size (says heartbeat []) s
+  pub debug-in : (t : List Account) (s : Server) (l : List ℕ) (size : ℕ) → length t ≤ mostAccounts
+      → s .state ≡ In → PlainInFront l Letters.debug size
+      → serverStep t s l ≡ takes size (says debug []) s
+  pub logout-in : (t : List Account) (s : Server) (l : List ℕ) (size : ℕ) → length t ≤ mostAccounts
+      → s .state ≡ In → PlainInFront l Letters.logout size
+      → serverStep t s l ≡ takes size (says logged-out []) (becomes s Closed)
+  pub debug-waiting : (t : List Account) (s : Server) (l : List ℕ) (size : ℕ) → length t ≤ mostAccounts
+      → s .state ≡ Waiting → PlainInFront l Letters.debug size
+      → serverStep t s l ≡ takes size (says debug []) s
+
+-- over a stream: the payloads of U in the packets taken are handed up, each once and in order, and, where the server
+-- wasn't in, none before an accepted login
 pub record HandsUpInOrder (s : Server) (r : Run Server) : Type 0 where
   pub in-order : handedUp (r .taken) ≡ unsequencedIn (packetsOf (r .taken))
   pub none-before : (s .state ≡ In → ⊥) → handedUp (beforeLogin (r .taken)) ≡ []
@@ -119,6 +143,7 @@ pub record ServerPromises : Type 0 where
   -- nothing but a login request is rejected
   pub only-rejects : (t : List Account) (s : Server) (l : List ℕ)
       → serverStep t s l .reply .which ≡ answer rejected → Rejects t s l
+  pub takes-the-others : TakesTheOthers
   -- closed, whatever comes
   pub stays-over : (t : List Account) (s : Server) (l : List ℕ) → s .state ≡ Closed
       → StaysOver Server s (serverStep t s l)

@@ -18,7 +18,7 @@ pub record ChangesNothing (S : Type 0) (step : Stepping S) : Type 0 where
   pub refusal : (s : S) (l : List ℕ) → step s l .reply .which ≡ refused
       → step s l ≡ stays s (refuses (step s l .reply .refusal))
 
--- over for good: no bytes taken, and the session as it was
+-- over for good: no bytes taken, and the session as it was, whatever is answered
 pub record StaysOver (S : Type 0) (s : S) (o : StepOutcome S) : Type 0 where
   pub takes-none : o .size ≡ 0
   pub unchanged : o .after ≡ s
