@@ -1,6 +1,5 @@
 -- The wrong locks break the rules: ours decides otherwise on an entry that they let in, or keep out.
 use Prim.Native.Nat.{ℕ}
-use mathlib.Core.List.{List, [], _∷_}
 use mathlib.Core.Path.{_≡_, refl, sym, _∙_}
 use native.Mathlib.Omega.{arith}
 use Rattle.wire.specs.Bytes.{sameBytes}
@@ -17,12 +16,16 @@ use Rattle.login.specs.Statements.{Lock, NotRefused, Rules, LoginRules}
 use Rattle.login.specs.Locks.{letsEveryoneIn, letsNoOneIn, frontOf, sameFront, stopsEarly, stopsAtZeroOrSpace, annWith, tooShort, behindAZero, empty, WrongLocks}
 use Rattle.login.proofs.StatementLaws.{accepted-exactly-when}
 
--- a lock that lets in what ours rejects
-lets-in : (lock : Lock) (x : Attempt) → NotRefused x → loginOf x ≡ rejects notAuthorized → lock x .which ≡ answer accepted → LoginRules lock → ⊥
-lets-in lock x n e w r =
-    let k = which-of (sym e ∙ accepted-exactly-when .rules .when x n (r .only-when x w)) in
+-- what ours rejects breaks the rules
+breaks : (x : Attempt) → NotRefused x → loginOf x ≡ rejects notAuthorized → Rules x → ⊥
+breaks x n e r =
+    let k = which-of (sym e ∙ accepted-exactly-when .rules .when x n r) in
     let z : _≡_ {A = ℕ} 0 1 = cc in
     omega arith
+
+-- a lock that lets in what ours rejects
+lets-in : (lock : Lock) (x : Attempt) → NotRefused x → loginOf x ≡ rejects notAuthorized → lock x .which ≡ answer accepted → LoginRules lock → ⊥
+lets-in lock x n e w r = breaks x n e (r .only-when x w)
 
 -- a lock that rejects what ours lets in
 keeps-out : (lock : Lock) (x : Attempt) → NotRefused x → loginOf x .which ≡ answer accepted → lock x .which ≡ answer rejected → LoginRules lock → ⊥
@@ -38,6 +41,10 @@ wrong-locks =
       everyone = lets-in letsEveryoneIn tooShort (omega arith) refl refl;
       no-one = keeps-out letsNoOneIn (annWith (ascii "cafe7")) (omega arith) refl refl;
       stops-early = lets-in stopsAtZeroOrSpace tooShort (omega arith) refl refl;
+      her-own = accepted-exactly-when .rules .only-when (annWith (ascii "cafe7")) refl;
+      too-short = breaks tooShort (omega arith) refl;
+      behind-a-zero = breaks behindAZero (omega arith) refl;
+      nothing = breaks empty (omega arith) refl;
       too-short-in = refl;
       behind-a-zero-in = refl;
       empty-in = refl;

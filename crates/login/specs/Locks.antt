@@ -1,7 +1,7 @@
 -- The rules of a login rule something out: locks that let everyone in, or no one, or stop comparing too early.
 use Prim.Native.Nat.{ℕ}
 use mathlib.Core.List.{List, [], _∷_}
-use mathlib.Core.Bool.{Bool, true, false}
+use mathlib.Core.Bool.{Bool, false}
 use mathlib.Core.Path.{_≡_}
 use lib.ListN.{length, take}
 use lib.Dec.{eqb}
@@ -13,7 +13,7 @@ use Rattle.soupbintcp.specs.Fields.{notAuthorized}
 use Rattle.login.specs.declared.account.Account.{Account}
 use Rattle.login.specs.Account.{sameText}
 use Rattle.login.specs.Decision.{accepted, granted, rejects, Attempt}
-use Rattle.login.specs.Statements.{Lock, LoginRules}
+use Rattle.login.specs.Statements.{Lock, Rules, LoginRules}
 use Rattle.login.specs.Examples.{account, attempts}
 
 -- ---- wrong locks
@@ -63,11 +63,15 @@ behindAZero = annWith (99 ∷ 97 ∷ 102 ∷ 101 ∷ 55 ∷ 0 ∷ 120 ∷ [])
 abbrev pub empty : Attempt
 empty = annWith []
 
--- ---- none of the three keeps the rules, and each of these entries is let in by the third
+-- ---- none of the three keeps the rules; each of these entries breaks them, and is let in by the third
 pub record WrongLocks : Type 0 where
   pub everyone : LoginRules letsEveryoneIn → ⊥
   pub no-one : LoginRules letsNoOneIn → ⊥
   pub stops-early : LoginRules stopsAtZeroOrSpace → ⊥
+  pub her-own : Rules (annWith (ascii "cafe7"))
+  pub too-short : Rules tooShort → ⊥
+  pub behind-a-zero : Rules behindAZero → ⊥
+  pub nothing : Rules empty → ⊥
   pub too-short-in : stopsAtZeroOrSpace tooShort .which ≡ answer accepted
   pub behind-a-zero-in : stopsAtZeroOrSpace behindAZero .which ≡ answer accepted
   pub empty-in : stopsAtZeroOrSpace empty .which ≡ answer accepted

@@ -7,7 +7,7 @@ use native.Mathlib.Omega.{arith}
 use lib.ListN.{length, take, drop, length-drop}
 use lib.Seq.{take-all, length-take-le}
 use borrow.Author.Tests.{ne-eqb}
-use Rattle.wire.specs.Words.{Words, Case, answer, says}
+use Rattle.wire.specs.Words.{Words, Case, says}
 use Rattle.soupbintcp.specs.declared.packet.Sender.the-variants.{Client}
 use Rattle.soupbintcp.specs.Head.{letterOf}
 use Rattle.soupbintcp.proofs.FrontLaws.{said-packet}
@@ -18,7 +18,7 @@ use Rattle.soupbintcp_session.specs.Answer.{SessionAnswerKind, accepted, reject
 use Rattle.soupbintcp_session.specs.Stream.{Taking, Run, stopped, then-run, run, packetsOf}
 use Rattle.soupbintcp_session.proofs.FrontCases.{apart, InFront, Plain, a-rejection, a-heartbeat, a-debug, a-logout, an-end}
 use Rattle.soupbintcp_session.proofs.RunLaws.{runs}
-use Rattle.soupbintcp_server.specs.declared.server.ServerState.the-variants.{Waiting, In, Closed}
+use Rattle.soupbintcp_server.specs.declared.server.ServerState.the-variants.{In, Closed}
 use Rattle.soupbintcp_server.specs.declared.server.Server.{Server}
 use Rattle.soupbintcp_server.specs.Server.{becomes, entryOf, serverStep}
 use Rattle.soupbintcp_server.specs.HandedUp.{isUnsequenced, handedUp, isAccepted, beforeLogin, unsequencedIn}
