@@ -6,4 +6,5 @@ pub mod Copy
 pub mod Lowering
 pub mod Same
 pub mod PartLaws
+pub mod Rooms
 pub mod Rules

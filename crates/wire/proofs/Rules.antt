@@ -3,10 +3,13 @@ use borrow.Author.Needs.{needs}
 use mathlib.Core.Path.{refl}
 use Rattle.wire.proofs.Numbers.{byte-past, read-past, read-2, read-8}
 use Rattle.wire.proofs.PartLaws.{part-none, part-rest, part-all, too-few, first-six, first-ten}
+use Rattle.wire.proofs.Rooms.{no-room, number-room, count-room}
 use Rattle.wire.proofs.Outputs.{output-laws, lay-beyond, lay-over, lay-done, size-bytes}
 use Rattle.wire.proofs.Lowering.{lowering-start, lowering-next, lowering-place, lowering-kept, lowering-end}
 use Rattle.wire.proofs.Copy.{copied-start, copied-step, copied-end, copied-kept}
 use Rattle.wire.proofs.Same.{same-start, same-beyond, same-cut, same-again, same-differs, same-all, name-unlike, name-whole}
+
+pub ruleset rooms = (no-room, number-room, count-room, needs)
 
 pub ruleset numbers = (byte-past, read-past, read-2, read-8, needs)
 

@@ -1,0 +1,19 @@
+-- A sum is at most the largest of its kind exactly where what is added isn't above the room that is left.
+use Prim.Native.Nat.{ℕ, _+_, _-_, _≤_, _<_}
+use native.Mathlib.Omega.{arith}
+use mathlib.Core.Path.{_≡_, sym}
+use mathlib.Core.Bool.{true, false}
+use lib.Dec.{leb}
+use mir.Syntax.{w16, w64}
+use mir.Val.{Fits}
+use borrow.Author.Tests.{le-leb, lt-leb}
+use Rattle.wire.specs.Bounds.{largestNumber, largestCount}
+
+pub no-room : (m a b : ℕ) → m - a < b → false ≡ leb (a + b) m
+no-room m a b h = sym (lt-leb (a + b) m (omega arith))
+
+pub number-room : (a b : ℕ) → b ≤ largestNumber - a → Fits w64 a → true ≡ leb (a + b) largestNumber
+number-room a b h f = sym (le-leb (a + b) largestNumber (omega arith))
+
+pub count-room : (a b : ℕ) → b ≤ largestCount - a → Fits w16 a → true ≡ leb (a + b) largestCount
+count-room a b h f = sym (le-leb (a + b) largestCount (omega arith))
