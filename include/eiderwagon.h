@@ -622,10 +622,8 @@ enum {
 
 /* Feeds some bytes, after which more may come. Settings that are read start the report anew. Keep the bytes that were
  * not used, at most 65,536, and feed them again in front of the next piece. While the settings are due, fewer than 57
- * bytes are too few to tell: none are used then. Once the reading is over, by bad settings or by
- * eiderwagon_capture_finish, a feed uses all of its bytes, and so does the one that meets bad settings. But once
- * 2^32 - 1 records were read no byte is used any more, though EIDERWAGON_FEED_OVER stays 0: where more than 65,536
- * bytes are left unused, stop reading and drop them.
+ * bytes are too few to tell: none are used then. Once the reading is over, by bad settings, by 2^32 - 1 records or by
+ * eiderwagon_capture_finish, a feed uses all of its bytes, and so does the one that ends it.
  *   state:     EIDERWAGON_CAPTURE_SIZE bytes, read and written
  *   words:     EIDERWAGON_FEED_WORDS
  *   refusals:  41 */

@@ -2,8 +2,8 @@
 """Runs target/bin/capture_report on captures of several times its buffer, from a file and through a pipe in pieces of
 many sizes, and compares what it prints with document 01's rules.
 
-The proof of the program says that it is safe and ends, and that of the library what a reading means. What stands
-between the two, that each byte reaches the library once and in order, is run here."""
+The library's promise says what a turn over the buffer makes of the bytes that came, and what turns over any pieces come
+to. What no contract says, which bytes a read brings, is run here."""
 import pathlib
 import random
 import subprocess

@@ -378,10 +378,9 @@ def reports(v):
         taken = min(2, MOST_RECORDS - records)
         v.heading(f"{records} records: two are fed, then the end")
         reader.forge(fresh, records, counts)
-        used = len(one) * taken
-        reader.feed(one + two, used, "records")
-        reader.feed((one + two)[used:], 0, "records")
-        assert reader.finish((one + two)[used:]).report.tally == (2 + taken, *counts[1:])
+        reader.feed(one + two, len(one + two), "done")
+        reader.feed(one, len(one), "done")
+        assert reader.finish(one).report.tally == (2 + taken, *counts[1:])
         v.heading(f"{records} records: one more, then a part of a record, and the end")
         reader.forge(fresh, records, counts)
         assert reader.finish(one + two[:-1]).report.tally.refused == (7 if taken == 2 else 6)
@@ -394,7 +393,7 @@ def reports(v):
     assert reader.finish(one[:-1]).report.tally.refused == 7
     v.heading("more records than that count as that")
     reader.forge(fresh, MOST_RECORDS + 1, counts)
-    reader.feed(one, 0, "records")
+    reader.feed(one, len(one), "done")
     reader.forge(fresh, TOP, counts)
     reader.finish(one)
 

@@ -1,18 +1,17 @@
--- A capture read piece by piece, as a list of bytes.
-use Prim.Native.Nat.{ℕ, _+_, _-_}
+-- A capture read piece by piece, as a list of bytes: the report is a fold over its events.
+use Prim.Native.Nat.{ℕ, _-_}
 use mathlib.Core.List.{List}
 use mathlib.Core.Bool.{Bool, true, false}
-use lib.ListN.{length, drop}
-use lib.Dec.{ltb, eqb}
+use lib.Dec.{eqb}
 use Rattle.wire.specs.Choice.{if_then_else_}
 use Rattle.receiver.specs.declared.receiver.Receiver.{Receiver}
 use Rattle.receiver.specs.Receiver.{startReceiver, refusedReceiver}
 use Rattle.capture_settings.specs.declared.settings.Settings as declared
-use Rattle.capture_settings.specs.Settings.{settingsOf}
-use Rattle.capture_settings.specs.Statements.{longest}
-use Rattle.capture_records.specs.Records.{mostRecords, datagramsOf, restOf}
+use Rattle.capture_records.specs.Records.{mostRecords}
+use Rattle.capture_events.specs.Events.{Event, opened, bad-settings, datagram, cut-short, fold}
+use Rattle.capture_events.specs.Events.{At, settings, records, done, refused, Read, readPiece, End, readLast}
 use Rattle.capture_tally.specs.declared.report.Report.{Report}
-use Rattle.capture_tally.specs.Report.{freshOf, cutOf, over}
+use Rattle.capture_tally.specs.Report.{freshOf, stepOf, cutOf}
 use Rattle.capture_text.specs.Text.{reportText, refusedText}
 use Rattle.capture.specs.declared.reading.Stage.{Stage}
 use Rattle.capture.specs.declared.reading.Stage.the-variants.{Settings, Records, Done, Refused}
@@ -29,48 +28,40 @@ fed s used = record { reading = s; used = used }
 unfoldable pub startReading : Reading
 startReading = reading Settings (freshOf refusedReceiver)
 
--- ---- records
-
--- how many records a report still takes
-abbrev pub roomOf : Report → ℕ
-roomOf x = mostRecords - x .records
-
--- the report after the whole records in front of l, and how many bytes they take
-unfoldable pub takeOf : Report → List ℕ → Fed
-takeOf x l = fed (reading Records (over x (datagramsOf (roomOf x) l))) (length l - length (restOf (roomOf x) l))
-
--- ---- settings, and then records
+-- ---- what an event makes of a report
 
 -- the receiver that settings start
 abbrev pub startedOf : declared.Settings → Receiver
 startedOf s = startReceiver (s .session) (s .next .0) (s .limit .0)
 
--- settings that were read are passed, and the records after them taken; bad ones end the reading, whatever follows
-unfoldable pub openOf : Report → List ℕ → Fed
-openOf x l =
-    if eqb (settingsOf l .refusal .number) 0
-    then fed (takeOf (freshOf (startedOf (settingsOf l .settings))) (drop (settingsOf l .size) l) .reading)
-    (settingsOf l .size + takeOf (freshOf (startedOf (settingsOf l .settings))) (drop (settingsOf l .size) l) .used)
-    else fed (reading Refused x) (length l)
+-- settings start a fresh one, and bad ones leave it; a datagram is one record more, and so is one that is cut short
+unfoldable pub reported : Report → Event → Report
+reported x (opened s) = freshOf (startedOf s)
+reported x bad-settings = x
+reported x (datagram d) = stepOf x d
+reported x cut-short = cutOf x
 
--- ---- a reading
+-- ---- what comes next of a reading
 
--- what the bytes l make of it, by its stage, taken as enough to tell the settings
-unfoldable pub advanceAt : Stage → Report → List ℕ → Fed
-advanceAt Settings x l = openOf x l
-advanceAt Records x l = takeOf x l
-advanceAt Done x l = fed (reading Done x) (length l)
-advanceAt Refused x l = fed (reading Refused x) (length l)
+-- how many records a report still takes
+abbrev pub roomOf : Report → ℕ
+roomOf x = mostRecords - x .records
 
-abbrev pub advanceOf : Reading → List ℕ → Fed
-advanceOf s l = advanceAt (s .stage) (s .report) l
+-- by its stage, where so many records may still be read
+unfoldable pub atStage : Stage → ℕ → At
+atStage Settings k = settings
+atStage Records k = records k
+atStage Done k = done
+atStage Refused k = refused
 
--- n bytes may be too few to tell the settings
-unfoldable pub waits : Stage → ℕ → Bool
-waits Settings n = ltb n longest
-waits Records n = false
-waits Done n = false
-waits Refused n = false
+abbrev pub atOf : Reading → At
+atOf s = atStage (s .stage) (roomOf (s .report))
+
+unfoldable pub stageOf : At → Stage
+stageOf settings = Settings
+stageOf (records k) = Records
+stageOf done = Done
+stageOf refused = Refused
 
 -- nothing that follows changes it
 unfoldable pub isOver : Stage → Bool
@@ -79,24 +70,27 @@ isOver Records = false
 isOver Done = true
 isOver Refused = true
 
+-- ---- a reading
+
+-- the reading of a report after some events, and what comes next then
+abbrev pub readingAfter : Report → At → List Event → Reading
+readingAfter x a es = reading (stageOf a) (fold reported x es)
+
+-- what some bytes that were read make of a report
+abbrev pub fedBy : Report → Read → Fed
+fedBy x r = fed (readingAfter x (r .at) (r .events)) (r .used)
+
 -- some bytes, after which more may come
 unfoldable pub feedOf : Reading → List ℕ → Fed
-feedOf s l = if waits (s .stage) (length l) then fed s 0 else advanceOf s l
+feedOf s l = fedBy (s .report) (readPiece (atOf s) l)
 
--- the report at the end of the input, where so many bytes are left: those of a record that is cut short
-unfoldable pub endOf : Report → ℕ → Report
-endOf x left = if eqb left 0 then x else cutOf x
-
-unfoldable pub endAtStage : Stage → Report → ℕ → Reading
-endAtStage Settings x left = reading Settings x
-endAtStage Records x left = reading Done (endOf x left)
-endAtStage Done x left = reading Done x
-endAtStage Refused x left = reading Refused x
+-- the end of the input
+abbrev pub endedBy : Report → End → Reading
+endedBy x e = readingAfter x (e .at) (e .events)
 
 -- the last bytes
 unfoldable pub finishOf : Reading → List ℕ → Reading
-finishOf s l =
-    endAtStage (advanceOf s l .reading .stage) (advanceOf s l .reading .report) (length l - advanceOf s l .used)
+finishOf s l = endedBy (s .report) (readLast (atOf s) l)
 
 -- what it prints: while no settings were read, that they are refused
 unfoldable pub textAt : Stage → Report → List ℕ
@@ -107,3 +101,9 @@ textAt Refused x = refusedText
 
 abbrev pub textOf : Reading → List ℕ
 textOf s = textAt (s .stage) (s .report)
+
+-- ---- for private helpers alone; no public promise uses it
+
+-- the report at the end of the input, where so many bytes are left
+unfoldable pub endOf : Report → ℕ → Report
+endOf x left = if eqb left 0 then x else cutOf x

@@ -1,17 +1,19 @@
 -- A whole capture: what it means, and that the pieces it comes in don't matter.
-use Prim.Native.Nat.{ℕ, _+_, _-_, _≤_, _<_}
+use Prim.Native.Nat.{ℕ, _≤_}
 use mathlib.Core.List.{List, [], _∷_, _++_}
 use mathlib.Core.Bool.{true}
 use mathlib.Core.Path.{_≡_}
 use lib.ListN.{length, drop}
 use lib.Dec.{eqb}
 use Rattle.wire.specs.Choice.{if_then_else_}
-use Rattle.wire.specs.Bounds.{sessionSize, lengthSize}
+use Rattle.wire.specs.Bounds.{sessionSize}
 use Rattle.wire.specs.Bytes.{joined, AreBytes}
 use Rattle.receiver.specs.declared.receiver.Receiver.{Receiver}
 use Rattle.receiver.specs.Receiver.{receiverStartRefusal, refusedReceiver}
 use Rattle.capture_settings.specs.Settings.{settingsOf}
-use Rattle.capture_records.specs.Records.{mostRecords, recordsOf, isCut, largestLength}
+use Rattle.capture_records.specs.Records.{recordsOf, isCut}
+use Rattle.capture_events.specs.Events.{settings}
+use Rattle.capture_events.specs.Turns.{Fit, mostKept}
 use Rattle.capture_tally.specs.declared.report.Report.{Report}
 use Rattle.capture_tally.specs.Report.{freshOf}
 use Rattle.capture_tally.specs.Sums.{summed, summedCut}
@@ -19,6 +21,8 @@ use Rattle.capture_text.specs.Text.{room}
 use Rattle.capture.specs.declared.reading.Stage.the-variants.{Done, Refused}
 use Rattle.capture.specs.declared.reading.Reading.{Reading}
 use Rattle.capture.specs.Reading.{reading, fed, startReading, startedOf, isOver, feedOf, finishOf, textOf}
+use Rattle.capture.specs.declared.turning.Turning.{Turning}
+use Rattle.capture.specs.Turning.{startTurning, turnedOf, byTurns}
 
 -- ---- what a capture means
 
@@ -49,22 +53,23 @@ byPieces s l (p ∷ ps) = byPieces (feedOf s (l ++ p) .reading) (drop (feedOf s 
 unfoldable pub AnyCutting : Type 0
 AnyCutting = (ps : List (List ℕ)) → byPieces startReading [] ps ≡ captureOf (joined ps)
 
+-- for every buffer and every cutting of the input into pieces that fit, the report is the whole capture's
+unfoldable pub AnyTurns : Type 0
+AnyTurns = (m : List ℕ) (ps : List (List ℕ)) → Fit settings m 0 ps → byTurns startTurning m ps ≡ captureOf (joined ps)
+
+-- a turn that no bytes came for is the last
+unfoldable pub EndIsOver : Type 0
+EndIsOver = (s : Turning) (m : List ℕ) → isOver (turnedOf s m 0 .reading .stage) ≡ true
+
 -- settings that are read are never refused by the receiver's start: numbers that it would refuse are bad settings
 unfoldable pub StartTakesSettings : Type 0
 StartTakesSettings = (l : List ℕ) → settingsOf l .refusal .number ≡ 0
     → receiverStartRefusal (settingsOf l .settings .next .0) (settingsOf l .settings .limit .0) ≡ 0
 
--- the most bytes that are kept between two pieces: all but the last byte of the longest record
-abbrev pub mostKept : ℕ
-mostKept = largestLength + lengthSize - 1
-
--- feeding uses what is there: while more records may be read, it leaves less than a record, so the memory needed is
--- constant. Once 2^32 - 1 records were read no byte is used any more: a caller that keeps what isn't used keeps all
--- that follows, and has to stop reading there, as a program does whose buffer is full
+-- feeding uses what is there but for less than a record, so that the memory needed is constant
 pub record KeepsLittle (s : Reading) (l : List ℕ) : Type 0 where
   pub used-within : feedOf s l .used ≤ length l
-  pub little : AreBytes l → feedOf s l .reading .report .records < mostRecords
-      → length (drop (feedOf s l .used) l) ≤ mostKept
+  pub little : AreBytes l → length (drop (feedOf s l .used) l) ≤ mostKept
 
 -- what is over stays as it is
 unfoldable pub OverStays : Type 0
@@ -78,6 +83,8 @@ pub record FitsTheRoom : Type 0 where
 
 pub record CapturePromises : Type 0 where
   pub any-cutting : AnyCutting
+  pub any-turns : AnyTurns
+  pub end-is-over : EndIsOver
   pub start-takes-settings : StartTakesSettings
   pub keeps-little : (s : Reading) (l : List ℕ) → KeepsLittle s l
   pub over-stays : OverStays

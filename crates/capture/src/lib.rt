@@ -1,3 +1,4 @@
-// A capture read piece by piece, and whole: its settings, its records, and what it prints.
+// A capture read piece by piece, in turns over a lent buffer, and whole: its settings, its records, and what it prints.
 pub mod reading;
+pub mod turning;
 pub mod whole;

@@ -15,9 +15,10 @@ use wire::output::Written;
 ghost use mathlib.Core.Path.{_≡_};
 ghost use lib.ListN.{length};
 ghost use Rattle.wire.specs.Output.{Writes};
+ghost use Rattle.capture_events.specs.Events.{readRecords, readSettings, readOn, waitsAt};
 ghost use Rattle.capture_tally.specs.Report.{freshOf};
-ghost use Rattle.capture.specs.Reading.{fed, startReading, takeOf, startedOf, openOf, endOf, advanceOf, waits};
-ghost use Rattle.capture.specs.Reading.{isOver, feedOf, finishOf, textOf};
+ghost use Rattle.capture.specs.Reading.{fed, startReading, startedOf, roomOf, atOf, isOver, fedBy};
+ghost use Rattle.capture.specs.Reading.{endOf, feedOf, finishOf, textOf};
 ghost use Rattle.capture.specs.Whole.{CapturePromises};
 
 // What comes next of a capture: its settings, or records; or nothing, at its end or where its settings are refused.
@@ -41,9 +42,9 @@ pub struct Fed {
 }
 
 // The report after every whole record in front of some bytes, at most as many as are read, and how many bytes those
-// take.
+// take. Once no more may be read, whatever follows is passed over.
 fn take_records(start: Report, bytes: &[u8]) -> Fed
-    ensures { λ r. ⌜ r ≡ takeOf start (now (bytes .entry)) ⌝ }
+    ensures { λ r. ⌜ r ≡ fedBy start (readRecords (roomOf start) (now (bytes .entry))) ⌝ }
 {
     let mut report = start;
     let mut rest = bytes;
@@ -68,10 +69,10 @@ fn take_records(start: Report, bytes: &[u8]) -> Fed
     }
     Fed {
         reading: Reading {
-            stage: Stage::Records,
+            stage: Stage::Done,
             report,
         },
-        used: bytes.len() - rest.len(),
+        used: bytes.len(),
     }
 }
 
@@ -88,7 +89,7 @@ fn fresh(settings: Settings) -> Report
 
 // The settings in front, and the records after them. A report that had none stays, where the settings are bad.
 fn open(report: Report, bytes: &[u8]) -> Fed
-    ensures { λ r. ⌜ r ≡ openOf report (now (bytes .entry)) ⌝ }
+    ensures { λ r. ⌜ r ≡ fedBy report (readSettings (now (bytes .entry))) ⌝ }
 {
     let opened = settings::read(bytes);
     if opened.refusal.number != 0 {
@@ -134,7 +135,7 @@ impl Reading {
 
     // What the bytes make of a reading, taken as enough to tell the settings.
     fn advance(self, bytes: &[u8]) -> Fed
-        ensures { λ r. ⌜ r ≡ advanceOf self (now (bytes .entry)) ⌝ }
+        ensures { λ r. ⌜ r ≡ fedBy (self .report) (readOn (atOf self) (now (bytes .entry))) ⌝ }
     {
         let stage = self.stage;
         let report = self.report;
@@ -158,7 +159,7 @@ impl Reading {
 
     // Whether the settings may still be longer than so many bytes.
     fn waits(self, size: usize) -> bool
-        ensures { λ r. ⌜ r ≡ waits (self .stage) size ⌝ }
+        ensures { λ r. ⌜ r ≡ waitsAt (atOf self) size ⌝ }
     {
         let stage = self.stage;
         match stage {

@@ -1,3 +1,4 @@
 pub mod RecordLaws
+pub mod FrontLaws
 pub mod BufferLaws
 pub mod Rules

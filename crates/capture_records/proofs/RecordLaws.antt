@@ -4,15 +4,16 @@ use mathlib.Core.List.{List, [], _∷_, _++_, append-assoc, List·Memᴰ·head, 
 use mathlib.Core.Bool.{Bool, true, false, not}
 use Prim.Native.Nat.{ℕ, zero, suc, _+_, _-_, _≤_, _<_}
 use native.Mathlib.Omega.{arith}
-use lib.ListN.{length, getD, take, drop, length-append, length-drop, take-append-drop}
-use lib.Seq.{getD-drop, length-take-le, drop-drop, take-at, drop-at}
+use lib.ListN.{length, getD, take, drop, length-append, length-take, length-drop, take-append-drop}
+use lib.Seq.{getD-take, getD-drop, length-take-le, drop-drop, take-at, drop-at}
 use lib.Dec.{ltb}
 use borrow.Author.Tests.{lt-ltb, le-ltb, ltb-true, ltb-false}
 use Rattle.wire.specs.Choice.{if_then_else_}
 use Rattle.wire.specs.Words.{Case, answer, refused, says, Injective}
 use Rattle.wire.specs.Bytes.{number, bytes, AreBytes}
 use Rattle.wire.proofs.Words.{which-of, values-of, read-back}
-use Rattle.wire.proofs.Numbers.{bytes-number, number-bytes, length-bytes, small-number}
+use Rattle.wire.proofs.Cases.{below-or-not}
+use Rattle.wire.proofs.Numbers.{byte-past, bytes-number, number-bytes, length-bytes, small-number}
 use Rattle.capture_records.specs.declared.records.Front.{Front}
 use Rattle.capture_records.specs.declared.records.Front.the-variants.{Whole, Short}
 use Rattle.capture_records.specs.Records.{recordBytes, recordSize, isWhole, datagramOf, RecordKind, whole, short, recordWords, recordInFront, datagramsOf, restOf, recordsBytes, RecordsMakeTheBytes, largestLength, AllHeld, RecordPromises}
@@ -97,6 +98,10 @@ said-whole l k = go (isWhole l) refl
 
 pub bytes-drop : (k : ℕ) (l : List ℕ) → AreBytes l → AreBytes (drop k l)
 bytes-drop k l small i = rw (getD-drop k l i 0) (small (k + i))
+
+pub bytes-take : (n : ℕ) (l : List ℕ) → AreBytes l → AreBytes (take n l)
+bytes-take n l small i =
+    below-or-not _ i n (λ h. rw (getD-take n l i 0 h) (small i)) (λ h. rw (sym (byte-past (take n l) i (omega (arith, length-take n l)))) (omega arith))
 
 one-record : (l : List ℕ) → AreBytes l → isWhole l ≡ true → recordBytes (datagramOf l) ++ drop (recordSize l) l ≡ l
 unfolding recordSize

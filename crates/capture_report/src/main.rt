@@ -1,46 +1,41 @@
-// The capture program: a capture on standard input, its report on standard output. The library says what it means.
+// The capture program: a capture on standard input, its report on standard output. The library says what it means, what
+// a turn over the buffer keeps and when the last one was made; the program reads, turns and prints.
 use capture::reading::Reading;
-use capture_records::buffer;
+use capture::turning::Turning;
 use capture_text::report_text::ROOM;
 use libc::STDIN_FILENO;
 use libc::STDOUT_FILENO;
-use wire::kinds::ByteOffset;
 use wire::output::Written;
-ghost use Prim.Native.Nat.{_≤_};
-ghost use lib.ListN.{length};
+ghost use mathlib.Core.Path.{_≡_};
+ghost use mathlib.Core.Bool.{true};
+ghost use Rattle.capture.specs.Reading.{isOver};
 
-// Reads once behind the bytes that are there, and answers how many are there now: as many as before where the input
-// ends or the read fails.
-fn fill(buf: &mut [u8], have: usize) -> usize
-    requires { ⌜ have ≤ length (now buf) ⌝ }
-    ensures { λ r. ⌜ (have ≤ r) × (r ≤ length (now (buf .entry))) ⌝ }
-{
+// Reads once behind the bytes that are kept, and answers how many came: none where the input ends or the read fails.
+fn fill(buf: &mut [u8], have: usize) -> usize {
+    if buf.len() < have {
+        return 0;
+    }
     let got = libc::read(STDIN_FILENO, &mut buf[have..]);
-    have + io::count(got, &buf[have..])
+    io::count(got, &buf[have..])
 }
 
-// Reads all pieces. A proved loop has to end, and nothing says that the input does: the turns are counted down from a
-// number that no run uses up.
-fn read_all(buf: &mut [u8]) -> Reading {
-    let mut reading = Reading::new();
-    let mut have: usize = 0;
+// Turns until it is over. A proved loop has to end, and nothing says that the input does: the turns are counted down
+// from a number that no run uses up.
+fn read_all(buf: &mut [u8]) -> Reading
+    ensures { λ r. ⌜ isOver (r .stage) ≡ true ⌝ }
+{
+    let mut state = Turning::new();
     let mut turns: u64 = u64::MAX;
     while 0 < turns {
-        let there = fill(buf, have);
-        if there == have {
-            return reading.finish(&buf[..have]);
+        let got = fill(buf, state.have);
+        let next = state.turn(buf, got);
+        state = next;
+        if state.is_over() {
+            return state.reading;
         }
-        let fed = reading.feed(&buf[..there]);
-        let next = fed.reading;
-        reading = next;
-        if reading.is_over() {
-            return reading;
-        }
-        let kept = buffer::keep(buf, ByteOffset(fed.used), ByteOffset(there));
-        have = kept.size;
         turns -= 1;
     }
-    reading.finish(&buf[..have])
+    state.turn(buf, 0).reading
 }
 
 // Prints the first bytes of a text.

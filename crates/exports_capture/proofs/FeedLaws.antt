@@ -13,18 +13,13 @@ use Rattle.wire.specs.Refusals.{outputShort}
 use Rattle.wire.specs.Output.{put}
 use Rattle.wire.proofs.Cases.{below-or-not}
 use Rattle.wire.proofs.Outputs.{length-put}
-use Rattle.capture_settings.specs.Settings.{sessionKey, nextKey, limitKey, lineFeed, settingsOf}
-use Rattle.capture_settings.specs.Statements.{line, settingsText}
-use Rattle.capture_settings.proofs.TextLaws.{settings-promises}
-use Rattle.decimal.specs.Decimal.{digits}
-use Rattle.capture_records.specs.Records.{recordSize, isWhole, datagramOf, datagramsOf, restOf}
-use Rattle.capture_tally.specs.declared.report.Report.{Report}
-use Rattle.capture_tally.specs.Report.{freshOf, over}
+use Rattle.capture_events.specs.Events.{fold, isOverAt, readOn, waitsAt, readPiece, endAt, readLast}
+use Rattle.capture_events.proofs.EventLaws.{piece-stays}
 use Rattle.capture.specs.declared.reading.Stage.{Stage}
-use Rattle.capture.specs.declared.reading.Stage.the-variants.{Settings, Records, Done, Refused}
 use Rattle.capture.specs.declared.reading.Reading.{Reading}
 use Rattle.capture.specs.declared.reading.Fed.{Fed}
-use Rattle.capture.specs.Reading.{reading, roomOf, takeOf, startedOf, openOf, advanceAt, waits, isOver, feedOf, endAtStage, finishOf}
+use Rattle.capture.specs.Reading.{reading, roomOf, atStage, atOf, stageOf, isOver, feedOf, finishOf}
+use Rattle.capture.proofs.FoldLaws.{stage-at, over-stage}
 use Rattle.host_answers.specs.Answers.{orElse, short, flag, AnswersWith}
 use Rattle.host_answers.proofs.AnswerLaws.{or-none, rung-own, not-answered}
 use Rattle.host_states.specs.States.{onCode, nameAt}
@@ -35,108 +30,13 @@ use Rattle.host_capture.proofs.ReadingLaws.{reading-short, reading-not}
 use Rattle.exports_capture.specs.Calls.{SetsReading, fedWords, onFeed, FeedsReading, FeedCall, Handed, none, one, readingAfter, ReadingHandsOn}
 use Rattle.exports_capture.proofs.CaptureLaws.{sets-short}
 
--- ---- records
-
-rest-within : (k : ℕ) (l : List ℕ) → length (restOf k l) ≤ length l
-unfolding restOf
-rest-within zero l = omega arith
-rest-within (suc k) l = go (isWhole l) (rest-within k (drop (recordSize l) l))
-  where
-    go : (b : Bool) → length (restOf k (drop (recordSize l) l)) ≤ length (drop (recordSize l) l) → length (if b then restOf k (drop (recordSize l) l) else l) ≤ length l
-    go true h = omega (arith, length-drop (recordSize l) l)
-    go false h = omega arith
-
--- a whole record has a length, and is there
-pub record Within (l : List ℕ) : Type 0 where
-  pub some : 2 ≤ recordSize l
-  pub there : recordSize l ≤ length l
-
-whole-within : (l : List ℕ) → isWhole l ≡ true → Within l
-unfolding isWhole recordSize
-whole-within l e = go (ltb (length l) 2) e
-  where
-    go : (b : Bool) → (if b then false else not (ltb (length l) (recordSize l))) ≡ true → Within l
-    go true f = let z : _≡_ {A = ℕ} 0 1 = cc in absurd (omega arith)
-    go false f = record { some = omega arith; there = ltb-false (length l) (recordSize l) (not-true (ltb (length l) (recordSize l)) f) }
-
--- where nothing is passed there is no record
-none-passed : (k : ℕ) (l : List ℕ) → length l ≤ length (restOf k l) → datagramsOf k l ≡ []
-unfolding datagramsOf restOf isWhole recordSize
-none-passed zero l h = refl
-none-passed (suc k) l h = go (isWhole l) refl h
-  where
-    go : (b : Bool) → isWhole l ≡ b → length l ≤ length (if b then restOf k (drop (recordSize l) l) else l)
-        → (if b then datagramOf l ∷ datagramsOf k (drop (recordSize l) l) else []) ≡ []
-    go true e f =
-        let r = rest-within k (drop (recordSize l) l) in
-        let w = whole-within l e in
-        absurd (omega (arith, length-drop (recordSize l) l))
-    go false e f = refl
-
-take-stays : (x : Report) (l : List ℕ) → takeOf x l .used ≡ 0 → takeOf x l .reading ≡ reading Records x
-unfolding takeOf over
-take-stays x l e = rw (none-passed (roomOf x) l (omega (arith, rest-within (roomOf x) l)))
-
--- ---- settings
-
-text-some : (name : List ℕ) (n limit : ℕ) → 0 < length (settingsText name n limit)
-unfolding settingsText
-text-some name n limit =
-    omega (
-      arith,
-      length-append (line sessionKey name ++ line nextKey (digits n)) (line limitKey (digits limit)),
-      length-append (limitKey ++ digits limit) (lineFeed ∷ []),
-    )
-
--- settings that were read have bytes
-size-some : (l : List ℕ) → settingsOf l .refusal .number ≡ 0 → settingsOf l .size ≡ 0 → ⊥
-size-some l e z =
-    let t = settings-promises .reads-exactly .only l e .is-text in
-    let u : l ≡ settingsText (settingsOf l .settings .session) (settingsOf l .settings .next .0) (settingsOf l .settings .limit .0) ++ l = rw z at t in
-    omega (
-      arith,
-      ap length u,
-      length-append (settingsText (settingsOf l .settings .session) (settingsOf l .settings .next .0) (settingsOf l .settings .limit .0)) l,
-      text-some (settingsOf l .settings .session) (settingsOf l .settings .next .0) (settingsOf l .settings .limit .0),
-    )
-
-open-moves : (x : Report) (l : List ℕ) → openOf x l .used ≡ 0 → isOver (openOf x l .reading .stage) ≡ false → ⊥
-unfolding openOf isOver
-open-moves x l e f = go (eqb (settingsOf l .refusal .number) 0) refl e f
-  where
-    good : Fed
-    good =
-        record {
-          reading = takeOf (freshOf (startedOf (settingsOf l .settings))) (drop (settingsOf l .size) l) .reading;
-          used = settingsOf l .size + takeOf (freshOf (startedOf (settingsOf l .settings))) (drop (settingsOf l .size) l) .used;
-        }
-
-    go : (b : Bool) → eqb (settingsOf l .refusal .number) 0 ≡ b → (if b then good else record { reading = reading Refused x; used = length l }) .used ≡ 0
-        → isOver ((if b then good else record { reading = reading Refused x; used = length l }) .reading .stage) ≡ false → ⊥
-    go true d u v = size-some l (eqb-true _ _ d) (omega arith)
-    go false d u v = let z : _≡_ {A = ℕ} 0 1 = cc in omega arith
-
 -- ---- a feed
 
-advance-stays : (s : Stage) (x : Report) (l : List ℕ) → advanceAt s x l .used ≡ 0 → isOver (advanceAt s x l .reading .stage) ≡ false → advanceAt s x l .reading ≡ reading s x
-unfolding advanceAt isOver
-advance-stays Settings x l e f = absurd (open-moves x l e f)
-advance-stays Records x l e f = take-stays x l e
-advance-stays Done x l e f = let z : _≡_ {A = ℕ} 0 1 = cc in absurd (omega arith)
-advance-stays Refused x l e f = let z : _≡_ {A = ℕ} 0 1 = cc in absurd (omega arith)
-
 pub feed-stays : (x : Reading) (l : List ℕ) → feedOf x l .used ≡ 0 → isOver (feedOf x l .reading .stage) ≡ false → feedOf x l .reading ≡ x
-unfolding feedOf
-feed-stays x l e f = go (waits (x .stage) (length l)) e f
-  where
-    stays : Fed
-    stays = record { reading = x; used = 0 }
-
-    go : (b : Bool) → (if b then stays else advanceAt (x .stage) (x .report) l) .used ≡ 0
-        → isOver ((if b then stays else advanceAt (x .stage) (x .report) l) .reading .stage) ≡ false
-        → (if b then stays else advanceAt (x .stage) (x .report) l) .reading ≡ x
-    go true u v = refl
-    go false u v = advance-stays (x .stage) (x .report) l u v
+unfolding feedOf fold
+feed-stays x l e f =
+    let o : isOverAt (readPiece (atOf x) l .at) ≡ false = sym (over-stage (readPiece (atOf x) l .at)) ∙ f in
+    rw (piece-stays (atOf x) l e o) (ap (λ (g : Stage). reading g (x .report)) (stage-at (x .stage) (roomOf (x .report))))
 
 -- ---- a state that is too short is a reading that is over
 
@@ -144,11 +44,11 @@ few : (l : List ℕ) → length l < readingSize → readingIn l ≡ refusedReadi
 few l h = sym (reading-short l refusedReading refl h)
 
 feed-few : (l d : List ℕ) → length l < readingSize → feedOf (readingIn l) d .reading ≡ refusedReading
-unfolding feedOf waits advanceAt
+unfolding feedOf readPiece waitsAt readOn atStage stageOf fold
 feed-few l d h = rw (few l h)
 
 finish-few : (l d : List ℕ) → length l < readingSize → finishOf (readingIn l) d ≡ refusedReading
-unfolding finishOf endAtStage advanceAt
+unfolding finishOf readLast readOn endAt atStage stageOf fold
 finish-few l d h = rw (few l h)
 
 -- its receiver's name is ten bytes

@@ -5,11 +5,11 @@ use mathlib.Core.Bool.{Bool}
 use Prim.Native.Nat.{ℕ, zero, suc, _+_, _-_, _≤_}
 use native.Mathlib.Omega.{arith}
 use lib.ListN.{getD, take, drop}
-use lib.Seq.{take-nil}
 use borrow.Author.Tests.{ne-eqb}
 use Rattle.wire.specs.Words.{Words, Case, answer, refused, says, refuses, Injective}
 use Rattle.wire.specs.declared.refusal.Refusal.{Refusal}
 use Rattle.wire.specs.declared.kinds.SequenceNumber.{SequenceNumber}
+use Rattle.wire.proofs.PartLaws.{drop-take}
 use Rattle.wire.proofs.Words.{which-of, values-of, read-back}
 use Rattle.text_fields.specs.Session.{goodSession}
 use Rattle.text_fields.specs.Number.{numberWords, readNumber}
@@ -160,12 +160,6 @@ module _ (s : Sender) (l : List ℕ) (t : PacketKind) (k : ℕ) (vs : List ℕ) 
       (λ h f. whole-packet (packetLength l + 2) (fieldsOf l .which) (fieldsOf l .values) (head-in-whole s l (packetLength l + 2) h f refl) refl refl)
 
 -- ---- its payload
-
-pub drop-take : (n k : ℕ) (l : List ℕ) → drop n (take k l) ≡ take (k - n) (drop n l)
-drop-take zero k l = let e : k - 0 ≡ k = omega arith in rw e refl
-drop-take (suc n) zero l = let e : 0 - suc n ≡ 0 = omega arith in rw e refl
-drop-take (suc n) (suc k) [] = sym (take-nil (suc k - suc n))
-drop-take (suc n) (suc k) (a ∷ l) = let e : suc k - suc n ≡ k - n = omega arith in rw e (drop-take n k l)
 
 module _ (s : Sender) (l : List ℕ) (x : Front) where
   pub packet-size : (p : Packet) (k : ℕ) → frontWords x ≡ frontOf s l → x ≡ Whole p k → 3 ≤ k

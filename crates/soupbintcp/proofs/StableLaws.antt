@@ -18,7 +18,8 @@ use Rattle.soupbintcp.specs.Fields.{hasFields, sessionAt, sessionBytes, 
 use Rattle.soupbintcp.specs.Front.{packet, frontAt, frontOf, packetAt, packetBytes, payloadOf, sessionOf, loginPart, Stable, StableBytes, FrontPromises}
 use Rattle.soupbintcp.proofs.LetterLaws.{least-A, least-L, least-J}
 use Rattle.soupbintcp.proofs.HeadLaws.{IsWhole, head-cases, head-in-whole, head-stays, letter-stays}
-use Rattle.soupbintcp.proofs.FrontLaws.{front-tells-apart, said-packet, drop-take}
+use Rattle.wire.proofs.PartLaws.{drop-take}
+use Rattle.soupbintcp.proofs.FrontLaws.{front-tells-apart, said-packet}
 use Rattle.soupbintcp.proofs.KindLaws.{kind-of-letter}
 use Rattle.soupbintcp.proofs.ScanLaws.{FrontIs, stops-short, stops-at, passes, front-is}
 

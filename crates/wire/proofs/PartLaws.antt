@@ -1,13 +1,28 @@
 -- Laws of the parts of a slice l.
 use mathlib.Core.Path.{_≡_, refl, ap, sym, _∙_}
 use mathlib.Core.List.{List, [], _∷_}
-use Prim.Native.Nat.{ℕ, zero, suc, _+_, _-_, _≤_, _<_}
+use Prim.Native.Nat.{ℕ, zero, suc, _+_, _-_, _≤_, _<_, min}
 use native.Mathlib.Omega.{arith}
 use lib.ListN.{length, getD, take, drop, replicate, length-drop, drop-of-length-le}
 use lib.Seq.{take-all, take-nil, drop-cons}
 use borrow.Author.Tests.{le-ltb, lt-ltb}
+use Rattle.wire.proofs.Cases.{below-or-not}
 use Rattle.wire.specs.Choice.{if_then_else_}
 use Rattle.wire.specs.Parts.{firstBytes}
+
+-- ---- the front without its own front
+
+pub drop-take : (n k : ℕ) (l : List ℕ) → drop n (take k l) ≡ take (k - n) (drop n l)
+drop-take zero k l = let e : k - 0 ≡ k = omega arith in rw e refl
+drop-take (suc n) zero l = let e : 0 - suc n ≡ 0 = omega arith in rw e refl
+drop-take (suc n) (suc k) [] = sym (take-nil (suc k - suc n))
+drop-take (suc n) (suc k) (a ∷ l) = let e : suc k - suc n ≡ k - n = omega arith in rw e (drop-take n k l)
+
+-- as many as there are are all
+pub take-there : (l : List ℕ) (n k : ℕ) → n ≡ min (length l) k → take n l ≡ take k l
+take-there l n k e =
+    below-or-not _ k (length l) (λ h. let f : n ≡ k = omega arith in rw f)
+    (λ h. take-all n l (omega arith) ∙ sym (take-all k l h))
 
 -- ---- at a place
 

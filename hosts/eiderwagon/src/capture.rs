@@ -74,11 +74,11 @@ pub struct Reading {
 #[derive(Clone, Copy, Debug, PartialEq, Eq)]
 pub struct Fed {
     /// How many bytes were used. Keep the others, at most 65,536, and feed them again in front of
-    /// the next piece. Once 2^32 - 1 records were read none is used any more: where more than 65,536
-    /// bytes are left, stop reading and drop them.
+    /// the next piece.
     pub used: usize,
-    /// Whether the reading is over, so that nothing that follows changes the report. While the
-    /// settings are due, fewer than 57 bytes are too few to tell.
+    /// Whether the reading is over, by bad settings or with 2^32 - 1 records, so that nothing that
+    /// follows changes the report. While the settings are due, fewer than 57 bytes are too few to
+    /// tell.
     pub over: bool,
 }
 

@@ -1,16 +1,15 @@
--- What is kept, and what was read behind it, lies within the buffer, whose length never changes.
+-- It ends where a turn says so, and the buffer's length never changes.
 use mathlib.Core.Path.{_≡_}
-use Prim.Native.Nat.{_≤_}
 use lib.ListN.{length}
 use Rattle.capture_report.proofs.Laws.{laws}
 use Rattle.capture_report.proofs.read_all.Statement.{statement}
 use Rattle.capture_report.proofs.read_all.Tie as tie
 
 abbrev Inv-loop : tie.InvT-loop
-Inv-loop buf₀ reading₀ have₀ turns₀ buf reading have turns = (have ≤ length buf) × (length buf ≡ length buf₀)
+Inv-loop buf₀ state₀ turns₀ buf state turns = length buf ≡ length buf₀
 
 abbrev μ-loop : tie.MeasureT-loop
-μ-loop buf₀ reading₀ have₀ turns₀ buf reading have turns = turns
+μ-loop buf₀ state₀ turns₀ buf state turns = turns
 
 pub read-all-spec : {M : Type 1} → statement M
 read-all-spec =
@@ -21,24 +20,14 @@ read-all-spec =
     (λ c κs. search laws)  -- new-requires
     (λ c. search laws)  -- loop-holds
     (λ c κs. search laws)  -- fill-requires
-    (λ c. search laws)  -- slice-reshare-prefix-finish
-    (λ c. search laws)  -- slice-aggregate-finish
-    (λ c κs. search laws)  -- finish-requires
+    (λ c κs. search laws)  -- turn-requires
+    (λ c κs. search laws)  -- is-over-requires
     (λ c. search laws)  -- same-length
     (λ c. search laws)  -- returns
-    (λ c. search laws)  -- slice-reshare-prefix-feed
-    (λ c. search laws)  -- slice-aggregate-feed
-    (λ c κs. search laws)  -- feed-requires
-    (λ c κs. search laws)  -- is-over-requires
-    (λ c. search laws)  -- same-length-2
-    (λ c. search laws)  -- returns-2
-    (λ c κs. search laws)  -- keep-requires
     (λ c. search laws)  -- sub-turns
     (λ c. search laws)  -- loop-less
     (λ c. search laws)  -- loop-again
-    (λ c. search laws)  -- slice-reshare-prefix-finish-2
-    (λ c. search laws)  -- slice-aggregate-finish-2
-    (λ c κs. search laws)  -- finish-requires-2
-    (λ c. search laws)  -- same-length-3
-    (λ c. search laws)  -- returns-3
+    (λ c κs. search laws)  -- turn-requires-2
+    (λ c. search laws)  -- same-length-2
+    (λ c. search laws)  -- returns-2
     )

@@ -50,7 +50,7 @@ fn finish(state: &[u8], bytes: &[u8]) -> Expected {
         (Stage::Settings, Tail::CutShort) => "settings, cut short",
         (Stage::Settings, _) => "settings, whole",
         (Stage::Records, Tail::CutShort) => "records, cut short",
-        (Stage::Records, Tail::Ignored) => "records, some ignored",
+        (Stage::Records, Tail::Ignored) => "records, the most there are",
         (Stage::Records, Tail::None) => "records, whole",
         (Stage::Done, _) => "done before",
         (Stage::SettingsRefused, _) => "refused before",

@@ -65,15 +65,15 @@ impl Capture {
     /// are ignored.
     pub fn finish(&mut self, bytes: &[u8]) -> Tail {
         let used = self.read(bytes);
+        if self.records == MOST_RECORDS {
+            return Tail::Ignored;
+        }
         if self.stage != Stage::Records {
             return Tail::None;
         }
         self.stage = Stage::Done;
         if used == bytes.len() {
             return Tail::None;
-        }
-        if self.records == MOST_RECORDS {
-            return Tail::Ignored;
         }
         self.records += 1;
         self.refused = self.refused.saturating_add(1);
@@ -89,13 +89,16 @@ impl Capture {
         if self.stage == Stage::Records {
             used += self.read_records(&bytes[used..]);
         }
+        if self.stage == Stage::Records && self.records == MOST_RECORDS {
+            self.stage = Stage::Done;
+        }
         if self.is_over() {
             return bytes.len();
         }
         used
     }
 
-    /// Whether the reading is over. With the most records it isn't, by the header, though no byte is used any more.
+    /// Whether the reading is over: at its end, with the most records, or by bad settings.
     pub fn is_over(&self) -> bool {
         matches!(self.stage, Stage::Done | Stage::SettingsRefused)
     }

@@ -95,8 +95,7 @@ fn the_capture_in_pieces() {
     }
 }
 
-/// With 2^32 - 1 records read no byte is used any more, and those behind the last record are ignored: they are no
-/// refusal.
+/// With 2^32 - 1 records the reading is over, and the bytes behind the last record are ignored: they are no refusal.
 #[test]
 fn the_most_records() {
     let mut state = ask(&Call::CaptureStart, &[0; 71]).state;
@@ -104,17 +103,15 @@ fn the_most_records() {
     state[23..31].copy_from_slice(&(u64::from(u32::MAX) - 1).to_le_bytes());
     let bytes = &[0; 5];
     let fed = ask(&Call::CaptureFeed { bytes }, &state);
-    assert_eq!((fed.code, fed.words[..2].to_vec()), (0, vec![2, 0]));
+    assert_eq!((fed.code, fed.words[..2].to_vec()), (0, vec![5, 1]));
+    assert_eq!(fed.state[..2], [0, 3]);
     assert_eq!(fed.state[23..31], u64::from(u32::MAX).to_le_bytes());
     let more = ask(&Call::CaptureFeed { bytes }, &fed.state);
     assert_eq!(
         (more.words[..2].to_vec(), &more.state),
-        (vec![0, 0], &fed.state)
+        (vec![5, 1], &fed.state)
     );
     let finished = ask(&Call::CaptureFinish { bytes }, &fed.state).state;
-    assert_eq!(
-        (&finished[..2], &finished[2..]),
-        (&[0, 3][..], &fed.state[2..])
-    );
+    assert_eq!(finished, fed.state);
     assert_eq!(finished[63..71], 1u64.to_le_bytes());
 }

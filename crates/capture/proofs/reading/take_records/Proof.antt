@@ -33,6 +33,5 @@ take-records-spec =
     (λ c. search taking)  -- sub-left-2
     (λ c. search taking)  -- loop-less
     (λ c. search taking)  -- loop-again
-    (λ c. search taking)  -- sub-t24
     (λ c. search taking)  -- returns-2
     )

@@ -1,0 +1,73 @@
+-- A turn, as its code has it.
+use mathlib.Core.Path.{_≡_, refl, ap, sym, _∙_}
+use mathlib.Core.List.{List}
+use Prim.Native.Nat.{ℕ, _+_, _-_, _≤_, _<_, min}
+use native.Mathlib.Omega.{arith}
+use lib.ListN.{length, take, drop, length-take, length-drop}
+use Rattle.wire.specs.Output.{put}
+use Rattle.wire.proofs.PartLaws.{drop-take, take-there}
+use Rattle.capture_records.specs.Buffer.{keptSize, keptOf}
+use Rattle.capture_records.proofs.BufferLaws.{size-all}
+use Rattle.capture_events.specs.Events.{readPiece}
+use Rattle.capture_events.specs.Turns.{there, Turn, left}
+use Rattle.capture_events.proofs.EventLaws.{piece-used}
+use Rattle.capture_events.proofs.TurnLaws.{turn-last, turn-reads}
+use Rattle.capture.specs.declared.reading.Reading.{Reading}
+use Rattle.capture.specs.declared.reading.Fed.{Fed}
+use Rattle.capture.specs.declared.turning.Turning.{Turning}
+use Rattle.capture.specs.Reading.{startReading, atOf, feedOf, finishOf}
+use Rattle.capture.specs.Turning.{turning, startTurning, turnedOf, bufferOf}
+
+pub start-turning : (s : Reading) → s ≡ startReading → turning s 0 ≡ startTurning
+unfolding startTurning
+start-turning s e = rw e
+
+-- what is lent of the buffer
+pub there-length : (m : List ℕ) (n k : ℕ) → n ≡ min (length m) k → n ≡ length (take n m)
+there-length m n k e = omega (arith, length-take n m)
+
+-- so many bytes came behind those that were kept, and n are there
+module _ (s : Turning) (m : List ℕ) (got n : ℕ) (t : n ≡ min (length m) (s .have + got)) where
+  there-so : take n m ≡ there m (s .have) got
+  there-so = take-there m n (s .have + got) t
+
+  pub turn-ends : (f : Reading) → got ≡ 0 → f ≡ finishOf (s .reading) (take n m) → turning f 0 ≡ turnedOf s m got
+  unfolding turnedOf finishOf
+  turn-ends f e g = rw (turn-last (atOf (s .reading)) m (s .have) got e, g, there-so, e)
+
+  pub turn-keeps-all : got ≡ 0 → m ≡ bufferOf s m got
+  unfolding bufferOf
+  turn-keeps-all e = sym (ap (λ (t : Turn). t .buffer) (turn-last (atOf (s .reading)) m (s .have) got e))
+
+  -- f was fed what is there
+  module _ (f : Fed) (g : f ≡ feedOf (s .reading) (take n m)) where
+    used-so : f .used ≡ readPiece (atOf (s .reading)) (there m (s .have) got) .used
+    unfolding feedOf
+    used-so = rw (g, there-so)
+
+    within : f .used ≤ n
+    within =
+        let u = piece-used (atOf (s .reading)) (there m (s .have) got) in
+        let l = ap length there-so in
+        omega (arith, used-so, length-take n m)
+
+    kept-so : take (keptSize (length m) (f .used) n) (drop (f .used) m) ≡ left (atOf (s .reading)) (there m (s .have) got)
+    kept-so =
+        ap (λ (k : ℕ). take k (drop (f .used) m)) (sym (size-all (length m) (f .used) n within (omega arith)))
+        ∙ sym (drop-take (f .used) n m)
+        ∙ ap (drop (f .used)) there-so
+        ∙ ap (λ (k : ℕ). drop k (there m (s .have) got)) used-so
+
+    size-so : keptSize (length m) (f .used) n ≡ length (left (atOf (s .reading)) (there m (s .have) got))
+    size-so =
+        let k = sym (size-all (length m) (f .used) n within (omega arith)) in
+        let a = ap length there-so in
+        omega (arith, used-so, length-take n m, length-drop (readPiece (atOf (s .reading)) (there m (s .have) got) .used) (there m (s .have) got))
+
+    pub turn-goes : (k : ℕ) → (got ≡ 0 → ⊥) → k ≡ keptSize (length m) (f .used) n → turning (f .reading) k ≡ turnedOf s m got
+    unfolding turnedOf feedOf
+    turn-goes k z h = rw (turn-reads (atOf (s .reading)) m (s .have) got z, h ∙ size-so) (rw (g, there-so))
+
+    pub turn-keeps : (b : List ℕ) → (got ≡ 0 → ⊥) → b ≡ keptOf m (f .used) n → b ≡ bufferOf s m got
+    unfolding bufferOf keptOf
+    turn-keeps b z h = h ∙ ap (put m 0) kept-so ∙ sym (ap (λ (t : Turn). t .buffer) (turn-reads (atOf (s .reading)) m (s .have) got z))

@@ -1,0 +1,22 @@
+-- What is there is finished at the end of the input, and else fed, and what it leaves moved to the front.
+use Rattle.capture.proofs.Rules.{turning}
+use Rattle.capture.proofs.turning.Turning.turn.Statement.{statement}
+use Rattle.capture.proofs.turning.Turning.turn.Tie as tie
+
+pub turn-spec : {M : Type 1} → statement M
+turn-spec =
+    tie.close
+    (tie.spec
+    (λ c κs. search turning)  -- there-requires
+    (λ c. search turning)  -- slice-reshare-prefix-finish
+    (λ c. search turning)  -- slice-aggregate-finish
+    (λ c κs. search turning)  -- finish-requires
+    (λ c. search turning)  -- same-length
+    (λ c. search turning)  -- returns
+    (λ c. search turning)  -- slice-reshare-prefix-feed
+    (λ c. search turning)  -- slice-aggregate-feed
+    (λ c κs. search turning)  -- feed-requires
+    (λ c κs. search turning)  -- keep-requires
+    (λ c. search turning)  -- same-length-2
+    (λ c. search turning)  -- returns-2
+    )

@@ -1,0 +1,61 @@
+// A program that reads a capture over one lent buffer: each turn takes what came behind the bytes that were kept, and
+// keeps what it did not use. The program only reads, turns, and stops where a turn says so.
+use crate::reading::Reading;
+use capture_events::there;
+use capture_records::buffer;
+use wire::kinds::ByteOffset;
+ghost use mathlib.Core.Path.{_≡_};
+ghost use Rattle.capture.specs.Reading.{isOver};
+ghost use Rattle.capture.specs.Turning.{startTurning, turnedOf, bufferOf};
+ghost use Rattle.capture.specs.Whole.{CapturePromises};
+
+// How far a capture was read, and how many bytes are kept at the buffer's front.
+pub struct Turning {
+    pub reading: Reading,
+    pub have: usize,
+}
+
+impl Turning {
+    // Nothing read and nothing kept.
+    pub fn new() -> Turning
+        ensures { λ r. ⌜ r ≡ startTurning ⌝ }
+    {
+        Turning {
+            reading: Reading::new(),
+            have: 0,
+        }
+    }
+
+    // Whether nothing that follows changes it: the program stops here.
+    pub fn is_over(self) -> bool
+        ensures { λ r. ⌜ r ≡ isOver (self .reading .stage) ⌝ }
+    {
+        let reading = self.reading;
+        reading.is_over()
+    }
+
+    // One turn, so many bytes having come behind those that were kept; none mean the end of the input, after which it
+    // is over.
+    pub fn turn(self, buf: &mut [u8], got: usize) -> Turning
+        ensures { λ r. ⌜ r ≡ turnedOf self (now (buf .entry)) got ⌝ }
+        ensures keeps { λ _. ⌜ now (buf .exit) ≡ bufferOf self (now (buf .entry)) got ⌝ }
+        ensures promises { λ _. ⌜ CapturePromises ⌝ }
+    {
+        let reading = self.reading;
+        let end = there(buf.len(), self.have, got);
+        if got == 0 {
+            let finished = reading.finish(&buf[..end]);
+            return Turning {
+                reading: finished,
+                have: 0,
+            };
+        }
+        let fed = reading.feed(&buf[..end]);
+        let next = fed.reading;
+        let kept = buffer::keep(buf, ByteOffset(fed.used), ByteOffset(end));
+        Turning {
+            reading: next,
+            have: kept.size,
+        }
+    }
+}
