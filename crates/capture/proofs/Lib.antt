@@ -4,4 +4,5 @@ pub mod StageLaws
 pub mod TurningLaws
 pub mod PieceLaws
 pub mod WholeLaws
+pub mod ExampleLaws
 pub mod Rules

@@ -1,3 +1,4 @@
 pub mod Reading
 pub mod Turning
 pub mod Whole
+pub mod Example
