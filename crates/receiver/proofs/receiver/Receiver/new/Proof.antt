@@ -14,12 +14,16 @@ pub new-spec : {M : Type 1} → statement M
 new-spec =
     tie.close
     (tie.spec
+    (λ c κs. search starts)  -- is-below-requires
     (λ c κs. search starts)  -- refused-start-requires
     (λ c. ((search starts, search starts), promised))  -- returns
+    (λ c κs. search starts)  -- is-below-requires-2
     (λ c κs. search starts)  -- refused-start-requires-2
     (λ c. ((search starts, search starts), promised))  -- returns-2
+    (λ c κs. search starts)  -- is-below-requires-3
     (λ c κs. search starts)  -- refused-start-requires-3
     (λ c. ((search starts, search starts), promised))  -- returns-3
+    (λ c κs. search starts)  -- is-below-requires-4
     (λ c κs. search starts)  -- refused-start-requires-4
     (λ c. ((search starts, search starts), promised))  -- returns-4
     (λ c. ((search starts, search starts), promised))  -- returns-5
