@@ -27,7 +27,7 @@ ghost use Rattle.moldudp64_writer.specs.RoundTrips.{PacketRoundTrip, End
 pub const MOST_MESSAGES: MessageCount = MessageCount(u16::MAX - 1);
 
 // Whether the lengths add up to the data. It subtracts as it goes, so that no sum can wrap.
-fn add_up(lengths: &[u16], joined: &[u8]) -> bool
+pub fn add_up(lengths: &[u16], joined: &[u8]) -> bool
     ensures { λ r. ⌜ r ≡ addUp (now (lengths .entry)) (now (joined .entry)) ⌝ }
 {
     let mut left = joined.len();
