@@ -21,6 +21,7 @@ ghost use Rattle.receiver.specs.Receiver.{ownRefusal, refusalFor, answer
 ghost use Rattle.receiver.specs.Statements.{ReceiverPromises};
 ghost use Rattle.receiver.specs.Condition3.{Condition3};
 ghost use Rattle.receiver.specs.Witnesses.{NotVacuous, NotWeak};
+ghost use Rattle.receiver.specs.Calls.{CallsDeliverTrue};
 
 pub struct Receiver {
     pub session: [u8; SESSION_SIZE],
@@ -95,6 +96,7 @@ impl Receiver {
         ensures condition_3 { λ _. ⌜ Condition3 ⌝ }
         ensures not_vacuous { λ _. ⌜ NotVacuous ⌝ }
         ensures not_weak { λ _. ⌜ NotWeak ⌝ }
+        ensures calls { λ _. ⌜ CallsDeliverTrue ⌝ }
     {
         if next.is_below(Receiver::LEAST_NUMBER) {
             return refused_start();
