@@ -8,6 +8,7 @@ use mir.Syntax.{w64}
 use Rattle.wire.specs.Bounds.{largestNumber}
 use Rattle.wire.specs.declared.kinds.SequenceNumber.{SequenceNumber}
 use Rattle.wire.specs.declared.kinds.MessageCount.{MessageCount}
+use Rattle.wire.specs.declared.kinds.MessagePlace.{MessagePlace}
 use Rattle.wire.specs.declared.refusal.Refusal.{Refusal}
 use Rattle.receiver.specs.declared.receiver.Answer.{Answer}
 use Rattle.receiver.specs.declared.receiver.Answer.the-variants.{Deliver, Old, Quiet, Ask, Ended, Refused}
@@ -25,7 +26,7 @@ sum-fits a b f h = let g : a + b ≤ largestNumber = omega arith in simp (le-ltb
 
 -- one law for each answer
 module _ (a : Answer) (r : Tally) where
-  pub parts-deliver : (f : SequenceNumber) (c s : MessageCount) → a ≡ Deliver f c s → r ≡ tally (c .0) 0 0 0 0 → r ≡ partsOf (answerWords a)
+  pub parts-deliver : (f : SequenceNumber) (c : MessageCount) (s : MessagePlace) → a ≡ Deliver f c s → r ≡ tally (c .0) 0 0 0 0 → r ≡ partsOf (answerWords a)
   unfolding answerWords partsIn
   parts-deliver f c s e g = rw e g
 

@@ -3,7 +3,7 @@ use host_answers::SHORT;
 use moldudp64_messages::cursor::Cursor;
 use moldudp64_messages::cursor::Located;
 use moldudp64_messages::message;
-use wire::kinds::MessageCount;
+use wire::kinds::MessagePlace;
 use wire::refusal;
 ghost use mathlib.Core.Path.{_≡_};
 ghost use mathlib.Core.List.{[], _∷_};
@@ -31,7 +31,7 @@ pub extern "C" fn eiderwagon_mold_locate(datagram: &[u8], place: u16, words: &mu
         (locatedWords (locateOf (now (datagram .entry)) place)) ⌝ }
     ensures refuses { λ r. ⌜ RefusesOnly r (41 ∷ []) ⌝ }
 {
-    let values = located_words(message::locate(datagram, MessageCount(place)));
+    let values = located_words(message::locate(datagram, MessagePlace(place)));
     host_answers::answer(words, refusal::NONE, &values)
 }
 

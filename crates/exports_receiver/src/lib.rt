@@ -6,6 +6,7 @@ use receiver::delivery;
 use receiver::receiver::Answer;
 use receiver::receiver::Receiver;
 use wire::kinds::MessageCount;
+use wire::kinds::MessagePlace;
 use wire::kinds::SESSION_SIZE;
 use wire::kinds::SequenceNumber;
 use wire::parts;
@@ -145,6 +146,6 @@ pub extern "C" fn eiderwagon_receiver_walk(
         (deliveryCursor (now (datagram .entry)) count skipped) ⌝ }
     ensures refuses { λ r. ⌜ RefusesOnly r (41 ∷ []) ⌝ }
 {
-    let first: Cursor = delivery::start(datagram, MessageCount(count), MessageCount(skipped));
+    let first: Cursor = delivery::start(datagram, MessageCount(count), MessagePlace(skipped));
     host_cursor::write(cursor, 0, first)
 }

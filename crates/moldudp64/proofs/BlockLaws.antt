@@ -31,13 +31,13 @@ so-fits l e = leb-true _ _ e
 
 -- ---- the walk, as code that has k as the size of the block in front; w is what the walk answers from the start
 
-pub walk-step : (n k w : ℕ) (l : List ℕ) → blocksRefusal n l ≡ w → 0 < n → k ≡ blockSize l → k ≤ length l
-    → blocksRefusal (n - 1) (take (length l - k) (drop k l)) ≡ w
+pub walk-step : (n m k w : ℕ) (l : List ℕ) → blocksRefusal n l ≡ w → 0 < n → m ≡ n - 1 → k ≡ blockSize l → k ≤ length l
+    → blocksRefusal m (take (length l - k) (drop k l)) ≡ w
 unfolding blocksRefusal allFit afterBlocks fits
-walk-step zero k w l v h e f = absurd (omega arith)
-walk-step (suc n) k w l v h e f =
+walk-step zero m k w l v h d e f = absurd (omega arith)
+walk-step (suc n) m k w l v h d e f =
     let g : blockSize l ≤ length l = omega arith in
-    rw (part-to-end k l, sub-one, e) (simp (le-leb _ _ g) at v)
+    rw (part-to-end k l, d, sub-one, e) (simp (le-leb _ _ g) at v)
 
 pub walk-short : (n k w : ℕ) (l : List ℕ) → blocksRefusal n l ≡ w → 0 < n → k ≡ blockSize l → length l < k → 15 ≡ w
 unfolding blocksRefusal allFit fits

@@ -8,8 +8,6 @@ use lib.ListN.{length, getD, take, drop, length-take}
 use lib.Seq.{take-all}
 use lib.Dec.{ltb, eqb}
 use borrow.Author.Tests.{lt-ltb, le-ltb, ne-eqb, ltb-false, eqb-true, eqb-false}
-use mir.Val.{Fits}
-use mir.Syntax.{w64}
 use Rattle.wire.specs.Choice.{if_then_else_}
 use Rattle.wire.specs.Words.{Case, answer, refused, says, refuses, Injective}
 use Rattle.wire.specs.Bytes.{sameBytes}
@@ -39,14 +37,24 @@ pub kind-data : (c : ℕ) → (c ≡ 0 → ⊥) → (c ≡ 65535 → ⊥) → ki
 unfolding kindOfCount
 kind-data c z f = simp (ne-eqb _ _ z, ne-eqb _ _ f)
 
-pub count-end : (c : ℕ) (l : List ℕ) → c ≡ countOf l → c ≡ 65535 → 0 ≡ blockCount l
+-- how many blocks follow a header with the count c
+
+pub none-follow : (c : ℕ) → c ≡ 65535 → 0 ≡ blockCountOf (kindOfCount c) c
+none-follow c z = rw (kind-end c z)
+
+pub all-follow : (c : ℕ) → (c ≡ 65535 → ⊥) → c ≡ blockCountOf (kindOfCount c) c
+all-follow zero z = rw (kind-heartbeat 0 refl)
+all-follow (suc c) z = rw (kind-data (suc c) (omega arith) z)
+
+blocks-of : (l : List ℕ) (c k : ℕ) → c ≡ countOf l → k ≡ blockCountOf (kindOfCount c) c → k ≡ blockCount l
 unfolding blockCount
-count-end c l e z = rw (← e, kind-end c z)
+blocks-of l c k e f = rw (← e) f
+
+pub count-end : (c : ℕ) (l : List ℕ) → c ≡ countOf l → c ≡ 65535 → 0 ≡ blockCount l
+count-end c l e z = blocks-of l c 0 e (none-follow c z)
 
 pub count-blocks : (c : ℕ) (l : List ℕ) → c ≡ countOf l → (c ≡ 65535 → ⊥) → c ≡ blockCount l
-unfolding blockCount
-count-blocks zero l e z = rw (← e, kind-heartbeat 0 refl)
-count-blocks (suc c) l e z = rw (← e, kind-data (suc c) (omega arith) z)
+count-blocks c l e z = blocks-of l c c e (all-follow c z)
 
 -- ---- the ladder
 
@@ -62,19 +70,17 @@ pub refusal-13 : (l : List ℕ) (n : ℕ) → 20 ≤ length l → length l ≤ 6
 unfolding refusalOf
 refusal-13 l n h i e z = simp (le-ltb _ _ h, le-ltb _ _ i, ← e, z)
 
-pub refusal-14 : (l : List ℕ) (n k : ℕ) → 20 ≤ length l → length l ≤ 65507 → n ≡ numberOf l → (n ≡ 0 → ⊥) → k ≡ blockCount l
-    → 18446744073709551615 - n < k → 14 ≡ refusalOf l
+pub refusal-14 : (l : List ℕ) (n c k : ℕ) → 20 ≤ length l → length l ≤ 65507 → n ≡ numberOf l → (n ≡ 0 → ⊥) → c ≡ countOf l
+    → k ≡ blockCountOf (kindOfCount c) c → 18446744073709551615 < n + k → 14 ≡ refusalOf l
 unfolding refusalOf
-refusal-14 l n k h i e z f j =
-    let g : 18446744073709551615 < n + k = omega arith in
-    simp (le-ltb _ _ h, le-ltb _ _ i, ← e, ne-eqb _ _ z, ← f, lt-ltb _ _ g)
+refusal-14 l n c k h i e z d f j = simp (le-ltb _ _ h, le-ltb _ _ i, ← e, ne-eqb _ _ z, ← blocks-of l c k d f, lt-ltb _ _ j)
 
-pub refusal-walk : (l : List ℕ) (n k r : ℕ) → 20 ≤ length l → length l ≤ 65507 → n ≡ numberOf l → (n ≡ 0 → ⊥) → Fits w64 n → k ≡ blockCount l
-    → k ≤ 18446744073709551615 - n → r ≡ blocksRefusal k (take (length l - 20) (drop 20 l)) → r ≡ refusalOf l
+pub refusal-walk : (l : List ℕ) (n c k r : ℕ) → 20 ≤ length l → length l ≤ 65507 → n ≡ numberOf l → (n ≡ 0 → ⊥) → c ≡ countOf l
+    → k ≡ blockCountOf (kindOfCount c) c → n + k ≤ 18446744073709551615 → r ≡ blocksRefusal k (take (length l - 20) (drop 20 l)) → r ≡ refusalOf l
 unfolding refusalOf
-refusal-walk l n k r h i e z m f j w =
-    let g : n + k ≤ 18446744073709551615 = omega arith in
-    rw w (rw (part-to-end 20 l) (simp (le-ltb _ _ h, le-ltb _ _ i, ← e, ne-eqb _ _ z, ← f, le-ltb _ _ g)))
+refusal-walk l n c k r h i e z d f j w =
+    rw w
+    (rw (part-to-end 20 l) (simp (le-ltb _ _ h, le-ltb _ _ i, ← e, ne-eqb _ _ z, ← blocks-of l c k d f, le-ltb _ _ j)))
 
 -- ---- a datagram that is not refused: none of the ladder's grounds applies
 

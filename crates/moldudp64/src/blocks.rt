@@ -21,8 +21,8 @@ pub(crate) fn walk(blocks: &[u8], count: MessageCount) -> Refusal
     ensures { λ r. ⌜ r .number ≡ blocksRefusal (count .0) (now (blocks .entry)) ⌝ }
 {
     let mut rest = blocks;
-    let mut left = count.0;
-    while 0 < left {
+    let mut left = count;
+    while !left.is_zero() {
         if rest.len() < LENGTH_SIZE {
             return refusal::BLOCK_PAST_END;
         }
@@ -31,7 +31,7 @@ pub(crate) fn walk(blocks: &[u8], count: MessageCount) -> Refusal
             return refusal::BLOCK_PAST_END;
         }
         rest = &rest[size..];
-        left -= 1;
+        left = left.less_one();
     }
     if rest.len() == 0 {
         return refusal::NONE;

@@ -3,7 +3,6 @@ use crate::blocks;
 use crate::header;
 use wire::compare;
 use wire::kinds::ByteOffset;
-use wire::kinds::LARGEST_NUMBER;
 use wire::kinds::MessageCount;
 use wire::kinds::SESSION_SIZE;
 use wire::kinds::SequenceNumber;
@@ -12,7 +11,8 @@ use wire::refusal::Refusal;
 ghost use mathlib.Core.Path.{_≡_};
 ghost use Rattle.wire.specs.Words.{Injective};
 ghost use Rattle.wire.specs.Bytes.{sameBytes};
-ghost use Rattle.moldudp64.specs.Downstream.{blockCount, refusalOf, downstreamWords, downstreamOf};
+ghost use Rattle.moldudp64.specs.Header.{numberOf, countOf};
+ghost use Rattle.moldudp64.specs.Downstream.{kindOfCount, blockCountOf, refusalOf, downstreamWords, downstreamOf};
 ghost use Rattle.moldudp64.specs.Downstream.{downstreamSession};
 
 // What a datagram says.
@@ -33,20 +33,19 @@ pub enum Downstream {
     Refused(Refusal),
 }
 
-// How many blocks follow the header: none where the count marks the end of the session.
-pub(crate) fn block_count(datagram: &[u8]) -> MessageCount
-    ensures { λ r. ⌜ r .0 ≡ blockCount (now (datagram .entry)) ⌝ }
+// How many blocks follow a header with this count: none where it marks the end of the session.
+fn block_count(count: MessageCount) -> MessageCount
+    ensures { λ r. ⌜ r .0 ≡ blockCountOf (kindOfCount (count .0)) (count .0) ⌝ }
 {
-    let count = header::message_count(datagram);
-    let c = count.0;
-    if c == header::END_OF_SESSION.0 {
+    if count.equals(header::END_OF_SESSION) {
         return MessageCount(0);
     }
     count
 }
 
-// The lowest of 11 to 16 that applies, or 0 where the datagram is well-formed.
-pub(crate) fn refusal_of(datagram: &[u8]) -> Refusal
+// The lowest of 11 to 16 that applies to a datagram with this number and this count, or 0 where it is well-formed.
+fn refusal_of(datagram: &[u8], first: SequenceNumber, count: MessageCount) -> Refusal
+    requires { ⌜ (first .0 ≡ numberOf (now datagram)) × (count .0 ≡ countOf (now datagram)) ⌝ }
     ensures { λ r. ⌜ r .number ≡ refusalOf (now (datagram .entry)) ⌝ }
 {
     if datagram.len() < header::SIZE {
@@ -55,48 +54,43 @@ pub(crate) fn refusal_of(datagram: &[u8]) -> Refusal
     if header::LARGEST_DATAGRAM < datagram.len() {
         return refusal::DATAGRAM_LONG;
     }
-    let first = header::sequence_number(datagram);
-    let number = first.0;
-    if number == 0 {
+    if first.is_zero() {
         return refusal::NUMBER_ZERO;
     }
-    let count = block_count(datagram);
-    let c = count.0;
-    if LARGEST_NUMBER.0 - number < c as u64 {
+    let following = block_count(count);
+    if !first.has_room(following) {
         return refusal::NUMBERS_RUN_OUT;
     }
-    blocks::walk(&datagram[header::SIZE..], count)
+    blocks::walk(&datagram[header::SIZE..], following)
 }
 
-// Reads a datagram, with one walk over its blocks.
+// Reads a datagram, with one look at its header and one walk over its blocks.
 pub fn read(datagram: &[u8]) -> Downstream
     ensures { λ r. ⌜ downstreamWords r ≡ downstreamOf (now (datagram .entry)) ⌝ }
     ensures tells_apart { λ _. ⌜ Injective downstreamWords ⌝ }
 {
-    let refused = refusal_of(datagram);
+    let first = header::sequence_number(datagram);
+    let count = header::message_count(datagram);
+    let refused = refusal_of(datagram, first, count);
     if refused.number != 0 {
         return Downstream::Refused(refused);
     }
-    let number = header::sequence_number(datagram);
-    let count = header::message_count(datagram);
-    let c = count.0;
-    if c == 0 {
-        return Downstream::Heartbeat { next: number };
+    if count.is_zero() {
+        return Downstream::Heartbeat { next: first };
     }
-    if c == header::END_OF_SESSION.0 {
-        return Downstream::EndOfSession { next: number };
+    if count.equals(header::END_OF_SESSION) {
+        return Downstream::EndOfSession { next: first };
     }
-    Downstream::Data {
-        first: number,
-        count,
-    }
+    Downstream::Data { first, count }
 }
 
 // The session of a datagram, as a part of it; empty where the datagram is refused.
 pub fn session(datagram: &[u8]) -> &[u8]
     ensures { λ r. ⌜ now r ≡ downstreamSession (now (datagram .entry)) ⌝ }
 {
-    let refused = refusal_of(datagram);
+    let first = header::sequence_number(datagram);
+    let count = header::message_count(datagram);
+    let refused = refusal_of(datagram, first, count);
     if refused.number != 0 {
         return &datagram[..0];
     }

@@ -1,10 +1,15 @@
 -- The laws that the functions' proofs need, for `search`.
 use borrow.Author.Needs.{needs}
-use Rattle.moldudp64_messages.proofs.CursorLaws.{located-none, located-beyond, located-stub, located-over, located-there, size-two, found-within, found-fits, found-counted, found-part, moved-stays, moved-on, by-start, by-step, by-stuck, by-end, start-refused, start-heartbeat, start-end, start-data, count-is-messages, walks-the-messages, part-is-message, place-cursor, place-located, place-message}
+use Rattle.wire.proofs.TestLaws.{tests}
+use Rattle.moldudp64_messages.proofs.CursorLaws.{whole-none, whole-stub, whole-over, whole-there, whole-within, located-beyond, located-none, located-there, size-two, offset-fits, found-within, found-fits, found-part, moved-stays, moved-on, skip-beyond, skip-start, skip-step, skip-within, skip-stuck, skip-end, start-refused, start-heartbeat, start-end, start-data, count-is-messages, walks-the-messages, part-is-message, place-cursor, place-located, place-message}
 
-pub ruleset locating = (located-none, located-beyond, located-stub, located-over, located-there, size-two, found-within, found-fits, found-counted, found-part, needs)
+pub ruleset blocks = (whole-none, whole-stub, whole-over, whole-there, tests, needs)
 
-pub ruleset moving = (found-fits, found-counted, moved-stays, moved-on, by-start, by-step, by-stuck, by-end, needs)
+pub ruleset locating = (located-beyond, located-none, located-there, size-two, offset-fits, found-within, found-fits, found-part, needs)
+
+pub ruleset moving = (found-fits, moved-stays, moved-on, needs)
+
+pub ruleset skipping = (whole-within, skip-beyond, skip-start, skip-step, skip-within, skip-stuck, skip-end, tests, needs)
 
 pub ruleset starting = (start-refused, start-heartbeat, start-end, start-data, count-is-messages, walks-the-messages, part-is-message, needs)
 

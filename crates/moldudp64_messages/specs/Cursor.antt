@@ -9,7 +9,7 @@ use lib.ListN.{length, take, drop}
 use lib.Dec.{ltb, eqb}
 use Rattle.wire.specs.Choice.{if_then_else_}
 use Rattle.moldudp64.specs.Header.{headerSize}
-use Rattle.moldudp64.specs.Blocks.{blockLength, fits, blocksOf}
+use Rattle.moldudp64.specs.Blocks.{blockLength, blockSize, fits, blocksOf}
 use Rattle.moldudp64.specs.Downstream.{data-packet, downstreamOf, messagesOf, messageOf}
 use Rattle.moldudp64_messages.specs.declared.cursor.Located.{Located}
 use Rattle.moldudp64_messages.specs.declared.cursor.Cursor.{Cursor}
@@ -85,3 +85,9 @@ PartIsMessage = (l : List ℕ) (k : ℕ) → part l (locateOf l k) ≡ messageOf
 -- the count that the reader gives with data is how many messages there are
 unfoldable pub CountIsMessages : Type 0
 CountIsMessages = (l : List ℕ) (n c : ℕ) → downstreamOf l ≡ says data-packet (n ∷ c ∷ []) → startOf l ≡ firstOf c
+
+-- ---- for private helpers alone; no public promise uses it
+
+-- the bytes of the first block of what is left, with n blocks left; 0 where none is left or it runs past the end
+unfoldable pub wholeBlock : List ℕ → ℕ → ℕ
+wholeBlock l n = if eqb n 0 then 0 else if fits l then blockSize l else 0

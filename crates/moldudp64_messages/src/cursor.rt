@@ -7,9 +7,13 @@ use moldudp64::header;
 use wire::kinds::ByteOffset;
 use wire::kinds::LENGTH_SIZE;
 use wire::kinds::MessageCount;
+use wire::kinds::MessagePlace;
 ghost use mathlib.Core.Path.{_≡_};
-ghost use Rattle.moldudp64_messages.specs.Cursor.{located, advanced, advancedBy, firstOf, startOf, nowhere};
-ghost use Rattle.moldudp64_messages.specs.Cursor.{part, WalksTheMessages, PartIsMessage, CountIsMessages};
+ghost use Prim.Native.Nat.{_-_, _≤_};
+ghost use lib.ListN.{length};
+ghost use Rattle.moldudp64_messages.specs.Cursor.{wholeBlock, cursor, located, advanced, advancedBy, firstOf};
+ghost use Rattle.moldudp64_messages.specs.Cursor.{startOf, nowhere, part};
+ghost use Rattle.moldudp64_messages.specs.Cursor.{WalksTheMessages, PartIsMessage, CountIsMessages};
 
 // Whether a message is there, with the offset of its first data byte in the datagram and its length. Where none is,
 // both numbers are 0.
@@ -32,6 +36,34 @@ fn not_there() -> Located
         exists: false,
         offset: ByteOffset(0),
         length: 0,
+    }
+}
+
+// Bytes of the block in front of what is left of a datagram, with so many blocks left; 0 where no such block is there.
+fn whole_block(rest: &[u8], left: MessageCount) -> usize
+    ensures { λ r. ⌜ r ≡ wholeBlock (now (rest .entry)) (left .0) ⌝ }
+{
+    if left.is_zero() {
+        return 0;
+    }
+    if rest.len() < LENGTH_SIZE {
+        return 0;
+    }
+    let size = blocks::block_size(rest);
+    if rest.len() < size {
+        return 0;
+    }
+    size
+}
+
+// The cursor at what is left of a datagram, with so many blocks left.
+fn at_rest(datagram: &[u8], rest: &[u8], left: MessageCount) -> Cursor
+    requires { ⌜ length (now rest) ≤ length (now datagram) ⌝ }
+    ensures { λ r. ⌜ r ≡ cursor (length (now (datagram .entry)) - length (now (rest .entry))) (left .0) ⌝ }
+{
+    Cursor {
+        at: ByteOffset(datagram.len() - rest.len()),
+        left,
     }
 }
 
@@ -66,19 +98,11 @@ impl Cursor {
         ensures { λ r. ⌜ r ≡ located (now (datagram .entry)) self ⌝ }
     {
         let at = self.at.0;
-        let left = self.left.0;
-        if left == 0 {
-            return not_there();
-        }
         if datagram.len() < at {
             return not_there();
         }
-        let rest = &datagram[at..];
-        if rest.len() < LENGTH_SIZE {
-            return not_there();
-        }
-        let size = blocks::block_size(rest);
-        if rest.len() < size {
+        let size = whole_block(&datagram[at..], self.left);
+        if size == 0 {
             return not_there();
         }
         Located {
@@ -104,28 +128,36 @@ impl Cursor {
     {
         let found = self.locate(datagram);
         if found.exists {
+            let left = self.left;
             return Cursor {
                 at: ByteOffset(found.offset.0 + found.length),
-                left: MessageCount(self.left.0 - 1),
+                left: left.less_one(),
             };
         }
         self
     }
 
-    // The cursor after so many moves. A cursor that stays is not moved on.
-    pub fn skip(self, datagram: &[u8], count: MessageCount) -> Cursor
-        ensures { λ r. ⌜ r ≡ advancedBy (count .0) (now (datagram .entry)) self ⌝ }
+    // The cursor so many places further on: each turn takes what is left of the datagram after a block and goes on
+    // from there. It stops where no message is there.
+    pub fn skip(self, datagram: &[u8], places: MessagePlace) -> Cursor
+        ensures { λ r. ⌜ r ≡ advancedBy (places .0) (now (datagram .entry)) self ⌝ }
     {
-        let mut cursor = self;
-        let mut left = count.0;
-        while 0 < left {
-            if !cursor.locate(datagram).exists {
-                return cursor;
-            }
-            let next = cursor.next(datagram);
-            cursor = next;
-            left -= 1;
+        let at = self.at.0;
+        if datagram.len() < at {
+            return self;
         }
-        cursor
+        let mut rest = &datagram[at..];
+        let mut left = self.left;
+        let mut moves = places.before();
+        while !moves.is_zero() {
+            let size = whole_block(rest, left);
+            if size == 0 {
+                return at_rest(datagram, rest, left);
+            }
+            rest = &rest[size..];
+            left = left.less_one();
+            moves = moves.less_one();
+        }
+        at_rest(datagram, rest, left)
     }
 }

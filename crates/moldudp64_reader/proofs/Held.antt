@@ -34,6 +34,7 @@ use denote.Struct.Values.{intos}
 use denote.Triple.Statement.{Triple}
 use denote.Triple.Entry.{Args, Vals, onEntry}
 use Rattle.wire.proofs.kinds.MessageCount as N
+use Rattle.wire.proofs.kinds.MessagePlace as O
 use Rattle.moldudp64_messages.specs.declared.cursor.Cursor.{Cursor}
 use Rattle.moldudp64_messages.proofs.cursor.Cursor as K
 use Rattle.moldudp64_messages.proofs.cursor.Cursor.Laws as K′
@@ -52,7 +53,7 @@ D κs = T.the-type (namedLft 1 0 tt κs)
 abbrev pub L : (κs : Lfts 1) → LL.Laws (D κs)
 L κs = T′.the-laws (namedLft 1 0 tt κs)
 
--- places in a signature: a reader, a cursor, a slice of bytes, a count
+-- places in a signature: a reader, a cursor, a slice of bytes, a count, a message's place
 abbrev pub ReaderS : Slot 1
 ReaderS = plain B
 
@@ -64,6 +65,9 @@ SliceS = shrSliceOf (0 ∷ []) tt (plain (λ _. u8))
 
 abbrev pub CountS : Slot 1
 CountS = plain (λ _. N.the-row)
+
+abbrev pub PlaceS : Slot 1
+PlaceS = plain (λ _. O.the-row)
 
 -- a slice's MIR type
 abbrev pub slice-type : Ty

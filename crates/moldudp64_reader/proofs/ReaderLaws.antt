@@ -28,7 +28,7 @@ one-less l i c e f = below-or-not _ i (length (messagesOf l)) on stays
   where
     on : i < length (messagesOf l) → advanced l c .left .0 ≡ length (messagesOf l) - suc i
     on h =
-        let m : c .left .0 - 1 ≡ advanced l c .left .0 = ap (λ (d : Cursor). d .left .0) (moved-on l c (located l c) refl (ap (λ (p : Located). p .exists) e ∙ rw (lt-ltb _ _ h))) in
+        let m : c .left .0 - 1 ≡ advanced l c .left .0 = ap (λ (d : Cursor). d .left .0) (moved-on l c (located l c) (record { 0 = c .left .0 - 1 }) refl (ap (λ (p : Located). p .exists) e ∙ rw (lt-ltb _ _ h)) refl) in
         omega arith
 
     stays : length (messagesOf l) ≤ i → advanced l c .left .0 ≡ length (messagesOf l) - suc i

@@ -4,6 +4,7 @@ use moldudp64_messages::cursor::Cursor;
 use moldudp64_messages::cursor::Located;
 use receiver::delivery;
 use wire::kinds::MessageCount;
+use wire::kinds::MessagePlace;
 ghost use mathlib.Core.Path.{_≡_};
 ghost use Rattle.moldudp64_messages.specs.Cursor.{located, advanced, startOf, part};
 ghost use Rattle.receiver.specs.Delivery.{deliveryCursor, DeliveryVisits};
@@ -32,7 +33,7 @@ pub fn open<'a>(datagram: &'a [u8]) -> Reader<'a>
 }
 
 // A reader at the first message that a deliver answer doesn't skip: count and skipped are the answer's.
-pub fn deliver<'a>(datagram: &'a [u8], count: MessageCount, skipped: MessageCount) -> Reader<'a>
+pub fn deliver<'a>(datagram: &'a [u8], count: MessageCount, skipped: MessagePlace) -> Reader<'a>
     ensures { λ r. ⌜ (r .datagram ≡ datagram .entry)
         × (r .cursor ≡ deliveryCursor (now (datagram .entry)) (count .0) (skipped .0))
         × DeliveryVisits

@@ -20,7 +20,7 @@ use Rattle.moldudp64.specs.Downstream.{DownstreamKind, data-packet, heartbeat, 
 use Rattle.moldudp64.specs.Written.{encoded, encodedEnd}
 use Rattle.moldudp64_writer.specs.Writer.{encodedCut, cut, lengthsOf, packetGround, endGround}
 use Rattle.moldudp64.specs.Request.{requestGround, requestRefusal, requestOf, requestSession}
-use Rattle.moldudp64_writer.specs.RoundTrips.{DatagramReadsAs, WritesTo, kindOfMessages, valuesOfMessages, AsksFor, PacketReadsBack, PacketWritesBack, EndReadsBack, EndWritesBack, RequestReadsBack, RequestWritesBack, PacketFits, RequestFits, PacketRoundTrip, EndRoundTrip, RequestRoundTrip}
+use Rattle.moldudp64_writer.specs.RoundTrips.{DatagramReadsAs, WritesTo, kindOfMessages, valuesOfMessages, AsksFor, PacketReadsBack, PacketWritesBack, EndReadsBack, EndWritesBack, RequestReadsBack, RequestWritesBack, PacketFits, RequestFits, PacketRoundTrip, EndRoundTrip, RequestRoundTrip, PacketBytesReadBack, EndBytesReadBack, RequestBytesReadBack}
 use Rattle.moldudp64_writer.proofs.HeaderLaws.{length-header, header-session, header-number, header-count, header-rest, header-again, drop-bytes}
 use Rattle.moldudp64.proofs.BlockLaws.{fits-so, sound-fit, sound-end, first-fits, rest-fit}
 use Rattle.moldudp64.proofs.DownstreamLaws.{kind-heartbeat, kind-end, kind-data, count-end, count-blocks, sound, accepted, said, messages-sound, count-sound, sound-ten}
@@ -203,15 +203,13 @@ packet-reads s n ms p =
     rw (as-packed s n ms p)
     (record { says-so = packet-says s n ms p; its-session = packed-session s n ms p; its-messages = packed-messages s n ms p })
 
-packet-reads-back : PacketReadsBack
-unfolding PacketReadsBack
-packet-reads-back l s n ks d k ten fit short e =
-    let o = wrote-so (packetGround n ks d) l 0 (encodedCut s n ks d) k e in
-    let w = writable n ks d (o .no-ground) in
+packet-bytes-read-back : PacketBytesReadBack
+unfolding PacketBytesReadBack
+packet-bytes-read-back s n ks d ten fit short e =
+    let w = writable n ks d e in
     let c = cut-count ks d in
     let z = cut-size ks d (w .whole) in
-    rw (wrote-front (packetGround n ks d) l (encodedCut s n ks d) k e)
-    (packet-reads s n (cut ks d)
+    packet-reads s n (cut ks d)
     (record {
       ten = ten;
       fit = fit;
@@ -220,7 +218,13 @@ packet-reads-back l s n ks d k ten fit short e =
       nonzero = w .number-good;
       sum = let f = w .numbers-fit in omega arith;
       size = let f = w .small in omega arith;
-    }))
+    })
+
+packet-reads-back : PacketReadsBack
+unfolding PacketReadsBack PacketBytesReadBack
+packet-reads-back l s n ks d k ten fit short e =
+    let o = wrote-so (packetGround n ks d) l 0 (encodedCut s n ks d) k e in
+    rw (wrote-front (packetGround n ks d) l (encodedCut s n ks d) k e) (packet-bytes-read-back s n ks d ten fit short (o .no-ground))
 
 -- ---- a writer with no ground whose bytes are the datagram
 
@@ -315,6 +319,10 @@ end-nonzero : (n : ℕ) → endGround n ≡ 0 → n ≡ 0 → ⊥
 unfolding endGround
 end-nonzero n e z = let k : _≡_ {A = ℕ} 13 0 = rw z at e in omega arith
 
+end-bytes-read-back : EndBytesReadBack
+unfolding EndBytesReadBack
+end-bytes-read-back s n ten fit e = end-reads s n ten fit (end-nonzero n e)
+
 end-reads-back : EndReadsBack
 unfolding EndReadsBack
 end-reads-back l s n k ten fit e =
@@ -360,6 +368,10 @@ request-reads s n c ten fit small e =
       says-so = rw (eq-eqb _ _ k, a, b, e);
       its-session = rw (eq-eqb _ _ k, a, b, e) d;
     })
+
+request-bytes-read-back : RequestBytesReadBack
+unfolding RequestBytesReadBack
+request-bytes-read-back s n c ten fit small e = request-reads s n c ten fit small e
 
 request-reads-back : RequestReadsBack
 unfolding RequestReadsBack
@@ -413,15 +425,28 @@ request-fits l small e =
     }
 
 pub packet-round-trip : PacketRoundTrip
-packet-round-trip = record { reads-back = packet-reads-back; writes-back = packet-writes-back; may-be-given = packet-fits }
+packet-round-trip =
+    record {
+      reads-back = packet-reads-back;
+      bytes-read-back = packet-bytes-read-back;
+      writes-back = packet-writes-back;
+      may-be-given = packet-fits;
+    }
 
 pub end-round-trip : EndRoundTrip
 end-round-trip =
     record {
       reads-back = end-reads-back;
+      bytes-read-back = end-bytes-read-back;
       writes-back = end-writes-back;
       may-be-given = λ l small e. record { session-size = session-fits l e; number-fits = number-fits l small };
     }
 
 pub request-round-trip : RequestRoundTrip
-request-round-trip = record { reads-back = request-reads-back; writes-back = request-writes-back; may-be-given = request-fits }
+request-round-trip =
+    record {
+      reads-back = request-reads-back;
+      bytes-read-back = request-bytes-read-back;
+      writes-back = request-writes-back;
+      may-be-given = request-fits;
+    }

@@ -107,29 +107,23 @@ unfolding packetGround
 packet-13 n ks d b h e f z = rw (le-ltb _ _ h, ← e, f, z)
 
 pub packet-14 : (n : ℕ) (ks d : List ℕ) (b : Bool) → length ks ≤ 65534 → b ≡ addUp ks d → not b ≡ false → (n ≡ 0 → ⊥)
-    → 18446744073709551615 - n < length ks → 14 ≡ packetGround n ks d
+    → 18446744073709551615 < n + length ks → 14 ≡ packetGround n ks d
 unfolding packetGround
-packet-14 n ks d b h e f z i =
-    let j : 18446744073709551615 < n + length ks = omega arith in
-    rw (le-ltb _ _ h, ← e, f, ne-eqb _ _ z, lt-ltb _ _ j)
+packet-14 n ks d b h e f z j = rw (le-ltb _ _ h, ← e, f, ne-eqb _ _ z, lt-ltb _ _ j)
 
-pub packet-12 : (n : ℕ) (ks d : List ℕ) (b : Bool) → length ks ≤ 65534 → b ≡ addUp ks d → not b ≡ false → (n ≡ 0 → ⊥) → Fits w64 n
-    → length ks ≤ 18446744073709551615 - n → 65507 < 20 + 2 * length ks + length d → 12 ≡ packetGround n ks d
+pub packet-12 : (n : ℕ) (ks d : List ℕ) (b : Bool) → length ks ≤ 65534 → b ≡ addUp ks d → not b ≡ false → (n ≡ 0 → ⊥)
+    → n + length ks ≤ 18446744073709551615 → 65507 < 20 + 2 * length ks + length d → 12 ≡ packetGround n ks d
 unfolding packetGround
-packet-12 n ks d b h e f z m i k =
-    let j : n + length ks ≤ 18446744073709551615 = omega arith in
-    rw (le-ltb _ _ h, ← e, f, ne-eqb _ _ z, le-ltb _ _ j, lt-ltb _ _ k)
+packet-12 n ks d b h e f z j k = rw (le-ltb _ _ h, ← e, f, ne-eqb _ _ z, le-ltb _ _ j, lt-ltb _ _ k)
 
-pub packet-12-data : (n : ℕ) (ks d : List ℕ) (b : Bool) → length ks ≤ 65534 → b ≡ addUp ks d → not b ≡ false → (n ≡ 0 → ⊥) → Fits w64 n
-    → length ks ≤ 18446744073709551615 - n → 65507 < length d → 12 ≡ packetGround n ks d
-packet-12-data n ks d b h e f z m i k = packet-12 n ks d b h e f z m i (omega arith)
+pub packet-12-data : (n : ℕ) (ks d : List ℕ) (b : Bool) → length ks ≤ 65534 → b ≡ addUp ks d → not b ≡ false → (n ≡ 0 → ⊥)
+    → n + length ks ≤ 18446744073709551615 → 65507 < length d → 12 ≡ packetGround n ks d
+packet-12-data n ks d b h e f z j k = packet-12 n ks d b h e f z j (omega arith)
 
-pub packet-good : (n : ℕ) (ks d : List ℕ) (b : Bool) → length ks ≤ 65534 → b ≡ addUp ks d → not b ≡ false → (n ≡ 0 → ⊥) → Fits w64 n
-    → length ks ≤ 18446744073709551615 - n → 20 + 2 * length ks + length d ≤ 65507 → 0 ≡ packetGround n ks d
+pub packet-good : (n : ℕ) (ks d : List ℕ) (b : Bool) → length ks ≤ 65534 → b ≡ addUp ks d → not b ≡ false → (n ≡ 0 → ⊥)
+    → n + length ks ≤ 18446744073709551615 → 20 + 2 * length ks + length d ≤ 65507 → 0 ≡ packetGround n ks d
 unfolding packetGround
-packet-good n ks d b h e f z m i k =
-    let j : n + length ks ≤ 18446744073709551615 = omega arith in
-    rw (le-ltb _ _ h, ← e, f, ne-eqb _ _ z, le-ltb _ _ j, le-ltb _ _ k)
+packet-good n ks d b h e f z j k = rw (le-ltb _ _ h, ← e, f, ne-eqb _ _ z, le-ltb _ _ j, le-ltb _ _ k)
 
 -- what is written has none of them
 pub record Writable (n : ℕ) (ks d : List ℕ) : Type 0 where

@@ -46,6 +46,13 @@ PacketReadsBack = (l session : List ℕ) (n : ℕ) (ks d : List ℕ) (size : ℕ
     → DatagramReadsAs (take size (writeOutput (packetGround n ks d) l 0 (encodedCut session n ks d))) session
     (kindOfMessages (cut ks d)) (valuesOfMessages n (cut ks d)) (cut ks d)
 
+-- a packet's bytes, whatever output they stand in, are a datagram of just those messages
+unfoldable pub PacketBytesReadBack : Type 0
+PacketBytesReadBack = (session : List ℕ) (n : ℕ) (ks d : List ℕ) → length session ≡ sessionSize → n < 2 ^ 64
+    → ((i : ℕ) → getD ks i 0 < 2 ^ 16) → packetGround n ks d ≡ 0
+    → DatagramReadsAs (encodedCut session n ks d) session (kindOfMessages (cut ks d)) (valuesOfMessages n (cut ks d))
+    (cut ks d)
+
 -- a datagram that is accepted and is no end of session is what the writer writes of its parts
 unfoldable pub PacketWritesBack : Type 0
 PacketWritesBack = (l : List ℕ) → AreBytes l → refusalOf l ≡ 0 → (kindOf l ≡ end-of-session → ⊥)
@@ -66,6 +73,11 @@ EndReadsBack = (l session : List ℕ) (n size : ℕ) → length session ≡ sess
     → writeAnswer (endGround n) l 0 (encodedEnd session n) ≡ says wrote (size ∷ [])
     → DatagramReadsAs (take size (writeOutput (endGround n) l 0 (encodedEnd session n))) session end-of-session
     (n ∷ []) []
+
+-- the bytes of an end of session, whatever output they stand in, are an end of session with that number
+unfoldable pub EndBytesReadBack : Type 0
+EndBytesReadBack = (session : List ℕ) (n : ℕ) → length session ≡ sessionSize → n < 2 ^ 64 → endGround n ≡ 0
+    → DatagramReadsAs (encodedEnd session n) session end-of-session (n ∷ []) []
 
 -- an end of session that is accepted is what the writer writes of its parts
 unfoldable pub EndWritesBack : Type 0
@@ -90,6 +102,11 @@ RequestReadsBack = (l session : List ℕ) (n c size : ℕ) → length session �
     → writeAnswer (requestGround n c) l 0 (header session n c) ≡ says wrote (size ∷ [])
     → AsksFor (take size (writeOutput (requestGround n c) l 0 (header session n c))) session n c
 
+-- a request's bytes, whatever output they stand in, are that request
+unfoldable pub RequestBytesReadBack : Type 0
+RequestBytesReadBack = (session : List ℕ) (n c : ℕ) → length session ≡ sessionSize → n < 2 ^ 64 → c < 2 ^ 16
+    → requestGround n c ≡ 0 → AsksFor (header session n c) session n c
+
 -- a request that is accepted is what the writer writes of its parts
 unfoldable pub RequestWritesBack : Type 0
 RequestWritesBack = (l : List ℕ) → AreBytes l → requestRefusal l ≡ 0
@@ -105,15 +122,18 @@ pub record RequestFits (l : List ℕ) : Type 0 where
 
 pub record PacketRoundTrip : Type 0 where
   pub reads-back : PacketReadsBack
+  pub bytes-read-back : PacketBytesReadBack
   pub writes-back : PacketWritesBack
   pub may-be-given : (l : List ℕ) → AreBytes l → refusalOf l ≡ 0 → PacketFits l
 
 pub record EndRoundTrip : Type 0 where
   pub reads-back : EndReadsBack
+  pub bytes-read-back : EndBytesReadBack
   pub writes-back : EndWritesBack
   pub may-be-given : (l : List ℕ) → AreBytes l → refusalOf l ≡ 0 → EndFits l
 
 pub record RequestRoundTrip : Type 0 where
   pub reads-back : RequestReadsBack
+  pub bytes-read-back : RequestBytesReadBack
   pub writes-back : RequestWritesBack
   pub may-be-given : (l : List ℕ) → AreBytes l → requestRefusal l ≡ 0 → RequestFits l

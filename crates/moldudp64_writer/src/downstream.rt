@@ -1,12 +1,10 @@
 // Downstream packets, written into a lent output. A success reports its size and changes those bytes alone; a refusal
 // changes none.
 use crate::header;
-use moldudp64::blocks;
 use moldudp64::header::END_OF_SESSION;
 use moldudp64::header::LARGEST_DATAGRAM;
 use moldudp64::header::SIZE;
 use wire::kinds::ByteOffset;
-use wire::kinds::LARGEST_NUMBER;
 use wire::kinds::LENGTH_SIZE;
 use wire::kinds::MessageCount;
 use wire::kinds::SESSION_SIZE;
@@ -29,7 +27,7 @@ ghost use Rattle.moldudp64_writer.specs.RoundTrips.{PacketRoundTrip, End
 pub const MOST_MESSAGES: MessageCount = MessageCount(u16::MAX - 1);
 
 // Whether the lengths add up to the data. It subtracts as it goes, so that no sum can wrap.
-fn add_up(lengths: &[u16], joined: &[u8]) -> bool
+pub fn add_up(lengths: &[u16], joined: &[u8]) -> bool
     ensures { λ r. ⌜ r ≡ addUp (now (lengths .entry)) (now (joined .entry)) ⌝ }
 {
     let mut left = joined.len();
@@ -49,7 +47,6 @@ fn add_up(lengths: &[u16], joined: &[u8]) -> bool
 fn ground(first: SequenceNumber, lengths: &[u16], joined: &[u8]) -> Refusal
     ensures { λ r. ⌜ r .number ≡ packetGround (first .0) (now (lengths .entry)) (now (joined .entry)) ⌝ }
 {
-    let number = first.0;
     let count = lengths.len();
     if (MOST_MESSAGES.0 as usize) < count {
         return refusal::TOO_MANY_MESSAGES;
@@ -57,10 +54,10 @@ fn ground(first: SequenceNumber, lengths: &[u16], joined: &[u8]) -> Refusal
     if !add_up(lengths, joined) {
         return refusal::LENGTHS_DIFFER;
     }
-    if number == 0 {
+    if first.is_zero() {
         return refusal::NUMBER_ZERO;
     }
-    if LARGEST_NUMBER.0 - number < count as u64 {
+    if !first.has_room(MessageCount(count as u16)) {
         return refusal::NUMBERS_RUN_OUT;
     }
     // tested first so that the sum below can't wrap
@@ -132,7 +129,7 @@ pub fn write_end_of_session(
         (encodedEnd session (next .0)) ⌝ }
     ensures round_trip { λ _. ⌜ EndRoundTrip ⌝ }
 {
-    if next.0 == 0 {
+    if next.is_zero() {
         return Written::Refused(refusal::NUMBER_ZERO);
     }
     if out.len() < SIZE {

@@ -2,13 +2,11 @@
 use mathlib.Core.Path.{_≡_, ap, sym, _∙_}
 use mathlib.Core.List.{List, [], _∷_}
 use mathlib.Core.Bool.{true, false}
-use Prim.Native.Nat.{ℕ, zero, suc, _+_, _-_, _≤_, _<_}
+use Prim.Native.Nat.{ℕ, zero, suc, _+_, _-_, _≤_, _<_, min}
 use native.Mathlib.Omega.{arith}
 use native.Mathlib.Nat.{zero-add, suc-add}
 use lib.ListN.{length, getD, drop, length-drop}
 use lib.Seq.{getD-drop}
-use mir.Val.{Fits}
-use mir.Syntax.{w16}
 use borrow.Author.Tests.{lt-ltb, le-ltb}
 use Rattle.wire.specs.Words.{answer, says}
 use Rattle.wire.specs.Bytes.{AreBytes}
@@ -95,13 +93,17 @@ message-at l k i = sym (getD-drop k (messagesOf l) i [])
 
 -- ---- as the code of `start` has it: c at the first block, d after the moves
 
-pub delivery-none : (l : List ℕ) (k s : ℕ) (c : Cursor) → 65535 - k < s → c ≡ firstOf 0 → c ≡ deliveryCursor l k s
+pub delivery-none : (l : List ℕ) (k s : ℕ) (c : Cursor) → 65535 < s + k → c ≡ firstOf 0 → c ≡ deliveryCursor l k s
 unfolding deliveryCursor
 delivery-none l k s c h e = let g : 65535 < k + s = omega arith in e ∙ rw (lt-ltb _ _ g)
 
-pub delivery-start : (l : List ℕ) (k s : ℕ) (c d : Cursor) → Fits w16 k → s ≤ 65535 - k → c ≡ firstOf (k + s) → d ≡ advancedBy s l c → d ≡ deliveryCursor l k s
+pub delivery-start : (l : List ℕ) (k s b : ℕ) (c d : Cursor) → s + k ≤ 65535 → b ≡ min 65535 (s + k) → c ≡ firstOf b → d ≡ advancedBy s l c
+    → d ≡ deliveryCursor l k s
 unfolding deliveryCursor
-delivery-start l k s c d i h e f = let g : k + s ≤ 65535 = omega arith in f ∙ ap (advancedBy s l) e ∙ rw (le-ltb _ _ g)
+delivery-start l k s b c d h i e f =
+    let g : k + s ≤ 65535 = omega arith in
+    let j : b ≡ k + s = omega arith in
+    f ∙ ap (advancedBy s l) (e ∙ ap firstOf j) ∙ rw (le-ltb _ _ g)
 
 -- i moves from where a delivery starts are skipped + i moves from the first message
 module _ (r : Receiver) (l : List ℕ) (first count skipped : ℕ) (small : AreBytes l) (e : answerOf r l ≡ says deliver (first ∷ count ∷ skipped ∷ [])) where

@@ -65,11 +65,11 @@ for-heartbeat r l p n k e f g =
     let s = kind-read l heartbeat (n .0 ∷ []) (sym (rw f at e)) in
     g ∙ past-16 r l heartbeat (s .0) (s .1)
 
-pub for-end : (r : Receiver) (l : List ℕ) (p : Downstream) (n : SequenceNumber) (k : ℕ) → downstreamWords p ≡ downstreamOf l → p ≡ EndOfSession n
-    → k ≡ ownRefusal r l (ltb (n .0) (r .next .0)) → k ≡ refusalFor r l
+pub for-end : (r : Receiver) (l : List ℕ) (p : Downstream) (n : SequenceNumber) (low : Bool) (k : ℕ) → downstreamWords p ≡ downstreamOf l
+    → p ≡ EndOfSession n → low ≡ ltb (n .0) (r .next .0) → k ≡ ownRefusal r l low → k ≡ refusalFor r l
 unfolding downstreamWords endBelow
-for-end r l p n k e f g =
+for-end r l p n low k e f d g =
     let h = sym (rw f at e) in
     let s = kind-read l end-of-session (n .0 ∷ []) h in
     let v = number-read l end-of-session (n .0) [] h in
-    g ∙ rw (← v) (past-16 r l end-of-session (s .0) (s .1))
+    g ∙ rw d (rw (← v) (past-16 r l end-of-session (s .0) (s .1)))

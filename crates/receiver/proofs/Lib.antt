@@ -5,6 +5,7 @@ pub mod Promises
 pub mod FeedLaws
 pub mod Sorts
 pub mod ConditionLaws
+pub mod CallLaws
 pub mod DeliveryLaws
 pub mod WitnessLaws
 pub mod Rules

@@ -10,6 +10,7 @@ use borrow.Author.Tests.{lt-ltb, le-ltb, ne-eqb}
 use Rattle.wire.specs.declared.refusal.Refusal.{Refusal}
 use Rattle.wire.specs.declared.kinds.SequenceNumber.{SequenceNumber}
 use Rattle.wire.specs.declared.kinds.MessageCount.{MessageCount}
+use Rattle.wire.specs.declared.kinds.MessagePlace.{MessagePlace}
 use Rattle.moldudp64.specs.declared.downstream.Downstream.{Downstream}
 use Rattle.moldudp64.specs.declared.downstream.Downstream.the-variants.{Data, Heartbeat, EndOfSession}
 use Rattle.moldudp64.specs.declared.downstream.Downstream.the-variants as found
@@ -28,13 +29,13 @@ stays r a = record { answer = a; receiver = r }
 
 -- ---- the row for a number above n
 
-pub ask-fits : (r : Receiver) (a k : ℕ) → Fits w16 (r .limit .0) → k ≡ min (a - r .next .0) (r .limit .0) → Fits w16 k
-ask-fits r a k f e = record { fits = omega arith }
-
-pub ask-for : (r : Receiver) (a k : ℕ) → k ≡ min (a - r .next .0) (r .limit .0)
-    → TakesRow (stays r (Ask (r .next) (record { 0 = k }))) r (askOutcome (r .limit .0) (r .next .0) a)
+-- g is the distance, at most the largest count, and k the smaller of it and the limit
+pub ask-for : (r : Receiver) (a g : ℕ) (k : MessageCount) → Fits w16 (r .limit .0) → g ≡ min 65535 (a - r .next .0) → k .0 ≡ min g (r .limit .0)
+    → TakesRow (stays r (Ask (r .next) k)) r (askOutcome (r .limit .0) (r .next .0) a)
 unfolding answerWords
-ask-for r a k e = rw (← e) (record { answers = refl; leaves = refl })
+ask-for r a g k f d e =
+    let h : min (a - r .next .0) (r .limit .0) ≡ k .0 = omega arith in
+    rw h (record { answers = refl; leaves = refl })
 
 -- and it is the row of every kind
 pub above-ask : (r : Receiver) (k : DownstreamKind) (f c : ℕ) (x : Taken) → r .next .0 < f → TakesRow x r (askOutcome (r .limit .0) (r .next .0) f)
@@ -46,15 +47,25 @@ above-ask r end-of-session f c x h t = rw (lt-ltb _ _ h) t
 
 -- ---- data
 
-pub data-deliver : (r m : Receiver) (f c : ℕ) → f ≤ r .next .0 → r .next .0 < f + c → m ≡ receiver (r .session) (f + c) (r .limit .0) (r .ended)
-    → TakesRow (record { answer = Deliver (record { 0 = r .next .0 }) (record { 0 = f + c - r .next .0 }) (record { 0 = r .next .0 - f }); receiver = m }) r
-    (table (r .limit .0) (r .next .0) data-packet f c)
+-- e is the number behind the data, k how many lie from n up to it, and p the place of n
+pub data-deliver : (r m : Receiver) (f c : ℕ) (e : SequenceNumber) (k : MessageCount) (p : MessagePlace) → f + c ≤ 18446744073709551615 → Fits w16 c
+    → f ≤ r .next .0 → e .0 ≡ min 18446744073709551615 (f + c) → r .next .0 < e .0 → k .0 ≡ min 65535 (e .0 - r .next .0)
+    → p .0 ≡ min 65535 (r .next .0 - f) → m ≡ receiver (r .session) (e .0) (r .limit .0) (r .ended)
+    → TakesRow (record { answer = Deliver (r .next) k p; receiver = m }) r (table (r .limit .0) (r .next .0) data-packet f c)
 unfolding table answerWords
-data-deliver r m f c h i e = rw (le-ltb _ _ h, lt-ltb _ _ i) (record { answers = refl; leaves = e })
+data-deliver r m f c e k p s w h d i a b g =
+    let u : e .0 ≡ f + c = omega arith in
+    let j : r .next .0 < f + c = omega arith in
+    let v : f + c - r .next .0 ≡ k .0 = omega arith in
+    let q : r .next .0 - f ≡ p .0 = omega arith in
+    rw (le-ltb _ _ h, lt-ltb _ _ j, v, q) (record { answers = refl; leaves = g ∙ rw u })
 
-pub data-old : (r : Receiver) (f c : ℕ) → f ≤ r .next .0 → f + c ≤ r .next .0 → TakesRow (stays r Old) r (table (r .limit .0) (r .next .0) data-packet f c)
+pub data-old : (r : Receiver) (f c e : ℕ) → f + c ≤ 18446744073709551615 → f ≤ r .next .0 → e ≡ min 18446744073709551615 (f + c) → e ≤ r .next .0
+    → TakesRow (stays r Old) r (table (r .limit .0) (r .next .0) data-packet f c)
 unfolding table answerWords
-data-old r f c h i = rw (le-ltb _ _ h, le-ltb _ _ i) (record { answers = refl; leaves = refl })
+data-old r f c e s h d i =
+    let j : f + c ≤ r .next .0 = omega arith in
+    rw (le-ltb _ _ h, le-ltb _ _ j) (record { answers = refl; leaves = refl })
 
 -- ---- heartbeat
 

@@ -4,4 +4,5 @@ pub mod Statements
 pub mod Delivery
 pub mod Feed
 pub mod Condition3
+pub mod Calls
 pub mod Witnesses

@@ -4,12 +4,13 @@ use moldudp64::downstream::Downstream;
 use moldudp64::header;
 use wire::kinds;
 use wire::kinds::MessageCount;
+use wire::kinds::MessagePlace;
 use wire::kinds::SESSION_SIZE;
 use wire::kinds::SequenceNumber;
 use wire::refusal;
 use wire::refusal::Refusal;
 ghost use mathlib.Core.Path.{_≡_};
-ghost use Prim.Native.Nat.{_+_, _≤_, _<_, min};
+ghost use Prim.Native.Nat.{_+_, _≤_};
 ghost use Rattle.wire.specs.Bounds.{largestNumber};
 ghost use Rattle.wire.specs.Refusals.{badSetting};
 ghost use Rattle.moldudp64.specs.Header.{endCount};
@@ -20,6 +21,7 @@ ghost use Rattle.receiver.specs.Receiver.{ownRefusal, refusalFor, answer
 ghost use Rattle.receiver.specs.Statements.{ReceiverPromises};
 ghost use Rattle.receiver.specs.Condition3.{Condition3};
 ghost use Rattle.receiver.specs.Witnesses.{NotVacuous, NotWeak};
+ghost use Rattle.receiver.specs.Calls.{CallsDeliverTrue};
 
 pub struct Receiver {
     pub session: [u8; SESSION_SIZE],
@@ -32,11 +34,12 @@ pub struct Receiver {
 
 // What the receiver answers to a datagram.
 pub enum Answer {
-    // Messages to deliver: the number of the first, how many, and how many of the datagram's are skipped before it.
+    // Messages to deliver: the number of the first, how many, and the place of the first in its datagram, which is how
+    // many are skipped before it.
     Deliver {
         first: SequenceNumber,
         count: MessageCount,
-        skipped: MessageCount,
+        skipped: MessagePlace,
     },
     Old,
     Quiet,
@@ -76,13 +79,6 @@ fn refused_start() -> Started
     }
 }
 
-// The smaller of two numbers.
-fn smaller(a: u64, b: u64) -> u64
-    ensures { λ r. ⌜ r ≡ min a b ⌝ }
-{
-    if a < b { a } else { b }
-}
-
 impl Receiver {
     // The settings that a start takes: the smallest and largest number, the smallest and largest asking limit.
     pub const LEAST_NUMBER: SequenceNumber = kinds::LEAST_NUMBER;
@@ -100,19 +96,18 @@ impl Receiver {
         ensures condition_3 { λ _. ⌜ Condition3 ⌝ }
         ensures not_vacuous { λ _. ⌜ NotVacuous ⌝ }
         ensures not_weak { λ _. ⌜ NotWeak ⌝ }
+        ensures calls { λ _. ⌜ CallsDeliverTrue ⌝ }
     {
-        let n = next.0;
-        let l = limit.0;
-        if n < Receiver::LEAST_NUMBER.0 {
+        if next.is_below(Receiver::LEAST_NUMBER) {
             return refused_start();
         }
-        if Receiver::LARGEST_NUMBER.0 < n {
+        if Receiver::LARGEST_NUMBER.is_below(next) {
             return refused_start();
         }
-        if l < Receiver::LEAST_LIMIT.0 {
+        if limit.is_below(Receiver::LEAST_LIMIT) {
             return refused_start();
         }
-        if Receiver::LARGEST_LIMIT.0 < l {
+        if Receiver::LARGEST_LIMIT.is_below(limit) {
             return refused_start();
         }
         Started {
@@ -160,7 +155,10 @@ impl Receiver {
             Downstream::Refused(r) => r,
             Downstream::Data { first: _, count: _ } => self.own_refusal(datagram, false),
             Downstream::Heartbeat { next: _ } => self.own_refusal(datagram, false),
-            Downstream::EndOfSession { next } => self.own_refusal(datagram, next.0 < self.next.0),
+            Downstream::EndOfSession { next } => self.own_refusal(
+                datagram,
+                next.is_below(self.next),
+            ),
         }
     }
 
@@ -197,17 +195,14 @@ impl Receiver {
 
     // The row for a number above n: ask from n, for the smaller of the distance and the limit.
     fn ask(self, above: SequenceNumber) -> Taken
-        requires { ⌜ self .next .0 < above .0 ⌝ }
         ensures { λ r. ⌜ TakesRow r self (askOutcome (self .limit .0) (self .next .0) (above .0)) ⌝ }
     {
         let next = self.next;
-        let gap = above.0 - next.0;
-        let most = self.limit.0 as u64;
-        let count = smaller(gap, most) as u16;
+        let limit = self.limit;
         Taken {
             answer: Answer::Ask {
                 from: next,
-                count: MessageCount(count),
+                count: next.gap(above).smaller(limit),
             },
             receiver: self,
         }
@@ -218,20 +213,19 @@ impl Receiver {
         requires { ⌜ first .0 + count .0 ≤ largestNumber ⌝ }
         ensures { λ r. ⌜ TakesRow r self (table (self .limit .0) (self .next .0) data-packet (first .0) (count .0)) ⌝ }
     {
-        let n = self.next.0;
-        let f = first.0;
-        let end = f + count.0 as u64;
-        if n < f {
+        let next = self.next;
+        if next.is_below(first) {
             return self.ask(first);
         }
-        if n < end {
+        let end = first.plus(count);
+        if next.is_below(end) {
             return Taken {
                 answer: Answer::Deliver {
-                    first: SequenceNumber(n),
-                    count: MessageCount((end - n) as u16),
-                    skipped: MessageCount((n - f) as u16),
+                    first: next,
+                    count: next.gap(end),
+                    skipped: first.place_of(next),
                 },
-                receiver: self.moved(SequenceNumber(end), self.ended),
+                receiver: self.moved(end, self.ended),
             };
         }
         Taken {
@@ -244,12 +238,11 @@ impl Receiver {
     fn take_heartbeat(self, at: SequenceNumber) -> Taken
         ensures { λ r. ⌜ TakesRow r self (table (self .limit .0) (self .next .0) heartbeat (at .0) 0) ⌝ }
     {
-        let n = self.next.0;
-        let f = at.0;
-        if n < f {
+        let next = self.next;
+        if next.is_below(at) {
             return self.ask(at);
         }
-        if f < n {
+        if at.is_below(next) {
             return Taken {
                 answer: Answer::Old,
                 receiver: self,
@@ -266,7 +259,7 @@ impl Receiver {
         ensures { λ r. ⌜ TakesRow r self (table (self .limit .0) (self .next .0) end-of-session (at .0) endCount) ⌝ }
     {
         let next = self.next;
-        if next.0 < at.0 {
+        if next.is_below(at) {
             return self.ask(at);
         }
         Taken {

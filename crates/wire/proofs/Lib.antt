@@ -7,4 +7,5 @@ pub mod Lowering
 pub mod Same
 pub mod PartLaws
 pub mod Rooms
+pub mod TestLaws
 pub mod Rules

@@ -15,7 +15,7 @@ use Rattle.wire.specs.Words.{Case, answer, refused, says, refuses}
 use Rattle.wire.specs.Bytes.{number, bytes}
 use Rattle.wire.specs.declared.output.Written.{Written}
 use Rattle.wire.specs.declared.output.Written.the-variants.{Wrote, Refused}
-use Rattle.wire.specs.Output.{WrittenKind, wrote, writtenWords, put, writeRefusal, writeAnswer, writeOutput, Writes, Outside, ReadsBack, AdjacentAreOne, OnlyWhatItReports, RefusalWritesNothing, TellsApart, OutputLaws}
+use Rattle.wire.specs.Output.{WrittenKind, wrote, writtenWords, put, writeRefusal, writeAnswer, writeOutput, Writes, Outside, ReadsBack, AdjacentAreOne, OnlyWhatItReports, StandsThere, RefusalWritesNothing, TellsApart, OutputLaws}
 use Rattle.wire.proofs.Words.{which-of, values-of, read-back}
 use Rattle.wire.proofs.Numbers.{length-bytes, number-bytes}
 
@@ -209,6 +209,18 @@ only-what-it-reports r l m g at bs k w e =
     let p : m ≡ put l at bs = w .leaves ∙ rw (s .no-ground) in
     rw (p, s .size) (only-its-bytes l at bs)
 
+-- the bytes that it reports stand at its place
+stands-there : StandsThere
+unfolding StandsThere
+stands-there r l m g at bs k w e =
+    let s = wrote-so g l at bs k (sym (w .answers) ∙ e) in
+    let f = s .room in
+    let t : length (take at l) ≡ at = length-take-le at l (omega arith) in
+    let p : m ≡ put l at bs = w .leaves ∙ rw (s .no-ground) in
+    let rest = drop (at + length bs) l in
+    let q : put l at bs ≡ take at l ++ (bs ++ rest) = put-room l at bs f ∙ append-assoc (take at l) bs rest in
+    rw (p, q, drop-at (take at l) (bs ++ rest) at t, s .size) (take-at bs rest (length bs) refl)
+
 -- the bytes that it reports are its bytes
 pub wrote-front : (g : ℕ) (l bs : List ℕ) (k : ℕ) → writeAnswer g l 0 bs ≡ says wrote (k ∷ []) → take k (writeOutput g l 0 bs) ≡ bs
 wrote-front g l bs k e =
@@ -250,6 +262,7 @@ output-laws =
       reads-back = reads-back;
       adjacent-are-one = adjacent-are-one;
       only-what-it-reports = only-what-it-reports;
+      stands-there = stands-there;
       refusal-writes-nothing = refusal-nothing;
       tells-apart = tells-apart;
     }

@@ -67,6 +67,11 @@ unfoldable pub OnlyWhatItReports : Type 0
 OnlyWhatItReports = (r : Written) (l m : List ℕ) (g at : ℕ) (bs : List ℕ) (size : ℕ) → Writes r l m g at bs
     → writtenWords r ≡ says wrote (size ∷ []) → Outside l m at (at + size)
 
+-- what was written stands at its place in the output at exit
+unfoldable pub StandsThere : Type 0
+StandsThere = (r : Written) (l m : List ℕ) (g at : ℕ) (bs : List ℕ) (size : ℕ) → Writes r l m g at bs
+    → writtenWords r ≡ says wrote (size ∷ []) → take size (drop at m) ≡ bs
+
 -- a refusal writes nothing
 unfoldable pub RefusalWritesNothing : Type 0
 RefusalWritesNothing = (r : Written) (l m : List ℕ) (g at : ℕ) (bs : List ℕ) → Writes r l m g at bs
@@ -81,5 +86,6 @@ pub record OutputLaws : Type 0 where
   pub reads-back : ReadsBack
   pub adjacent-are-one : AdjacentAreOne
   pub only-what-it-reports : OnlyWhatItReports
+  pub stands-there : StandsThere
   pub refusal-writes-nothing : RefusalWritesNothing
   pub tells-apart : TellsApart

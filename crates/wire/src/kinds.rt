@@ -162,3 +162,12 @@ impl MessageCount {
         MessageCount(place.0 + self.0)
     }
 }
+
+impl MessagePlace {
+    // How many messages stand before this place.
+    pub fn before(self) -> MessageCount
+        ensures { λ r. ⌜ r .0 ≡ self .0 ⌝ }
+    {
+        MessageCount(self.0)
+    }
+}

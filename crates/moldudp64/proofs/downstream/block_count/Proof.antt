@@ -7,7 +7,7 @@ pub block-count-spec : {M : Type 1} → statement M
 block-count-spec =
     tie.close
     (tie.spec
-    (λ c κs. search downstreams)  -- message-count-requires
+    (λ c κs. search downstreams)  -- equals-requires
     (λ c. search downstreams)  -- returns
     (λ c. search downstreams)  -- returns-2
     )

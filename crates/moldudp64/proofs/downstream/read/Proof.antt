@@ -7,11 +7,13 @@ pub read-spec : {M : Type 1} → statement M
 read-spec =
     tie.close
     (tie.spec
-    (λ c κs. search downstreams)  -- refusal-of-requires
-    (λ c. search downstreams)  -- returns
     (λ c κs. search downstreams)  -- sequence-number-requires
     (λ c κs. search downstreams)  -- message-count-requires
+    (λ c κs. search downstreams)  -- refusal-of-requires
+    (λ c. search downstreams)  -- returns
+    (λ c κs. search downstreams)  -- is-zero-requires
     (λ c. search downstreams)  -- returns-2
+    (λ c κs. search downstreams)  -- equals-requires
     (λ c. search downstreams)  -- returns-3
     (λ c. search downstreams)  -- returns-4
     )

@@ -9,11 +9,10 @@ refusal-of-spec =
     (tie.spec
     (λ c. search downstreams)  -- returns
     (λ c. search downstreams)  -- returns-2
-    (λ c κs. search downstreams)  -- sequence-number-requires
+    (λ c κs. search downstreams)  -- is-zero-requires
     (λ c. search downstreams)  -- returns-3
     (λ c κs. search downstreams)  -- block-count-requires
-    (λ c. search downstreams)  -- sub-if4
-    (λ c. search downstreams)  -- cast-if4
+    (λ c κs. search downstreams)  -- has-room-requires
     (λ c. search downstreams)  -- returns-4
     (λ c. search downstreams)  -- sub-walk
     (λ c. search downstreams)  -- part-walk-start

@@ -7,9 +7,9 @@ pub read-spec : {M : Type 1} → statement M
 read-spec =
     tie.close
     (tie.spec
-    (λ c κs. search requests)  -- refusal-of-requires
-    (λ c. search requests)  -- returns
     (λ c κs. search requests)  -- sequence-number-requires
     (λ c κs. search requests)  -- message-count-requires
+    (λ c κs. search requests)  -- refusal-of-requires
+    (λ c. search requests)  -- returns
     (λ c. search requests)  -- returns-2
     )

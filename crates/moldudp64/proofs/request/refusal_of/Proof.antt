@@ -8,8 +8,6 @@ refusal-of-spec =
     tie.close
     (tie.spec
     (λ c. search requests)  -- returns
-    (λ c κs. search requests)  -- sequence-number-requires
-    (λ c κs. search requests)  -- message-count-requires
     (λ c κs. search requests)  -- ground-requires
     (λ c. search requests)  -- returns-2
     )

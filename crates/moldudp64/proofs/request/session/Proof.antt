@@ -7,6 +7,8 @@ pub session-spec : {M : Type 1} → statement M
 session-spec =
     tie.close
     (tie.spec
+    (λ c κs. search requests)  -- sequence-number-requires
+    (λ c κs. search requests)  -- message-count-requires
     (λ c κs. search requests)  -- refusal-of-requires
     (λ c. search requests)  -- slice-aggregate-result
     (λ c. search requests)  -- returns

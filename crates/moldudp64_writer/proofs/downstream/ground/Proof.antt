@@ -11,8 +11,10 @@ ground-spec =
     (λ c. search grounds)  -- returns
     (λ c κs. search grounds)  -- add-up-requires
     (λ c. search grounds)  -- returns-2
+    (λ c κs. search grounds)  -- is-zero-requires
     (λ c. search grounds)  -- returns-3
-    (λ c. search grounds)  -- sub-if4
+    (λ c. search grounds)  -- cast-t10
+    (λ c κs. search grounds)  -- has-room-requires
     (λ c. search grounds)  -- returns-4
     (λ c. search grounds)  -- returns-5
     (λ c. search grounds)  -- mul-if6

@@ -7,6 +7,7 @@ pub write-end-of-session-spec : {M : Type 1} → statement M
 write-end-of-session-spec =
     tie.close
     (tie.spec
+    (λ c κs. search ends)  -- is-zero-requires
     (λ c. search ends)  -- returns
     (λ c. search ends)  -- returns-2
     (λ c κs. search ends)  -- put-header-requires

@@ -7,10 +7,10 @@ pub start-spec : {M : Type 1} → statement M
 start-spec =
     tie.close
     (tie.spec
-    (λ c. search deliveries)  -- sub-if1
+    (λ c κs. search deliveries)  -- fits-behind-requires
     (λ c κs. search deliveries)  -- first-requires
     (λ c. search deliveries)  -- returns
-    (λ c. search deliveries)  -- add-t6
+    (λ c κs. search deliveries)  -- behind-requires
     (λ c κs. search deliveries)  -- first-requires-2
     (λ c κs. search deliveries)  -- skip-requires
     (λ c. search deliveries)  -- returns-2

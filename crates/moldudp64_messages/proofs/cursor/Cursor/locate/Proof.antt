@@ -9,17 +9,13 @@ locate-spec =
     (tie.spec
     (λ c κs. search locating)  -- not-there-requires
     (λ c. search locating)  -- returns
+    (λ c. search locating)  -- sub-whole-block
+    (λ c. search locating)  -- part-whole-block-start
+    (λ c. search locating)  -- part-whole-block-end
+    (λ c κs. search locating)  -- whole-block-requires
     (λ c κs. search locating)  -- not-there-requires-2
     (λ c. search locating)  -- returns-2
-    (λ c. search locating)  -- sub-rest
-    (λ c. search locating)  -- part-rest-start
-    (λ c. search locating)  -- part-rest-end
-    (λ c κs. search locating)  -- not-there-requires-3
+    (λ c. search locating)  -- add-t5
+    (λ c. search locating)  -- sub-t11
     (λ c. search locating)  -- returns-3
-    (λ c κs. search locating)  -- block-size-requires
-    (λ c κs. search locating)  -- not-there-requires-4
-    (λ c. search locating)  -- returns-4
-    (λ c. search locating)  -- add-t8
-    (λ c. search locating)  -- sub-t12
-    (λ c. search locating)  -- returns-5
     )

@@ -1,4 +1,4 @@
--- It moves exactly where a message is there, and then some were left.
+-- It moves exactly where a message is there.
 use Rattle.moldudp64_messages.proofs.Rules.{moving}
 use Rattle.moldudp64_messages.proofs.cursor.Cursor.next.Statement.{statement}
 use Rattle.moldudp64_messages.proofs.cursor.Cursor.next.Tie as tie
@@ -8,8 +8,8 @@ next-spec =
     tie.close
     (tie.spec
     (λ c κs. search moving)  -- locate-requires
-    (λ c. search moving)  -- add-t5
-    (λ c. search moving)  -- sub-t7
+    (λ c. search moving)  -- add-t6
+    (λ c κs. search moving)  -- less-one-requires
     (λ c. search moving)  -- returns
     (λ c. search moving)  -- returns-2
     )

@@ -7,9 +7,7 @@ pub ask-spec : {M : Type 1} → statement M
 ask-spec =
     tie.close
     (tie.spec
-    (λ c. search rows)  -- sub-gap
-    (λ c. search rows)  -- cast-most
+    (λ c κs. search rows)  -- gap-requires
     (λ c κs. search rows)  -- smaller-requires
-    (λ c. search rows)  -- cast-count
     (λ c. search rows)  -- returns
     )

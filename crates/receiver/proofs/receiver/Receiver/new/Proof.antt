@@ -1,25 +1,31 @@
 -- One law for each bound, and condition 3 with what it rules out.
 use Rattle.receiver.specs.Condition3.{Condition3}
 use Rattle.receiver.specs.Witnesses.{NotVacuous, NotWeak}
+use Rattle.receiver.specs.Calls.{CallsDeliverTrue}
 use Rattle.receiver.proofs.ConditionLaws.{condition-3}
+use Rattle.receiver.proofs.CallLaws.{calls-deliver-true}
 use Rattle.receiver.proofs.WitnessLaws.{not-vacuous, not-weak}
 use Rattle.receiver.proofs.Rules.{starts}
 use Rattle.receiver.proofs.receiver.Receiver.new.Statement.{statement}
 use Rattle.receiver.proofs.receiver.Receiver.new.Tie as tie
 
-promised : Condition3 × (NotVacuous × NotWeak)
-promised = (condition-3, (not-vacuous, not-weak))
+promised : Condition3 × (NotVacuous × (NotWeak × CallsDeliverTrue))
+promised = (condition-3, (not-vacuous, (not-weak, calls-deliver-true)))
 
 pub new-spec : {M : Type 1} → statement M
 new-spec =
     tie.close
     (tie.spec
+    (λ c κs. search starts)  -- is-below-requires
     (λ c κs. search starts)  -- refused-start-requires
     (λ c. ((search starts, search starts), promised))  -- returns
+    (λ c κs. search starts)  -- is-below-requires-2
     (λ c κs. search starts)  -- refused-start-requires-2
     (λ c. ((search starts, search starts), promised))  -- returns-2
+    (λ c κs. search starts)  -- is-below-requires-3
     (λ c κs. search starts)  -- refused-start-requires-3
     (λ c. ((search starts, search starts), promised))  -- returns-3
+    (λ c κs. search starts)  -- is-below-requires-4
     (λ c κs. search starts)  -- refused-start-requires-4
     (λ c. ((search starts, search starts), promised))  -- returns-4
     (λ c. ((search starts, search starts), promised))  -- returns-5

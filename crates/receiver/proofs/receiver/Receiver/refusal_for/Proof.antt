@@ -13,6 +13,7 @@ refusal-for-spec =
     (λ c. search ladder)  -- enum-told-2
     (λ c κs. search ladder)  -- own-refusal-requires-2
     (λ c. search ladder)  -- enum-known-packet-2
+    (λ c κs. search ladder)  -- is-below-requires
     (λ c κs. search ladder)  -- own-refusal-requires-3
     (λ c. search ladder)  -- returns
     (λ c. search ladder)  -- returns-2

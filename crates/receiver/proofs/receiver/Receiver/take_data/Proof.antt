@@ -7,13 +7,13 @@ pub take-data-spec : {M : Type 1} → statement M
 take-data-spec =
     tie.close
     (tie.spec
-    (λ c. search rows)  -- cast-end
-    (λ c. search rows)  -- add-end
+    (λ c κs. search rows)  -- is-below-requires
     (λ c κs. search rows)  -- ask-requires
     (λ c. search rows)  -- returns
-    (λ c. search rows)  -- sub-t10
-    (λ c. search rows)  -- cast-t11
-    (λ c. search rows)  -- cast-t14
+    (λ c κs. search rows)  -- plus-requires
+    (λ c κs. search rows)  -- is-below-requires-2
+    (λ c κs. search rows)  -- gap-requires
+    (λ c κs. search rows)  -- place-of-requires
     (λ c κs. search rows)  -- moved-requires
     (λ c. search rows)  -- returns-2
     (λ c. search rows)  -- returns-3

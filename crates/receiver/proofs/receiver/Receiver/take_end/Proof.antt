@@ -7,6 +7,7 @@ pub take-end-spec : {M : Type 1} → statement M
 take-end-spec =
     tie.close
     (tie.spec
+    (λ c κs. search rows)  -- is-below-requires
     (λ c κs. search rows)  -- ask-requires
     (λ c. search rows)  -- returns
     (λ c κs. search rows)  -- moved-requires

@@ -7,8 +7,10 @@ pub take-heartbeat-spec : {M : Type 1} → statement M
 take-heartbeat-spec =
     tie.close
     (tie.spec
+    (λ c κs. search rows)  -- is-below-requires
     (λ c κs. search rows)  -- ask-requires
     (λ c. search rows)  -- returns
+    (λ c κs. search rows)  -- is-below-requires-2
     (λ c. search rows)  -- returns-2
     (λ c. search rows)  -- returns-3
     )

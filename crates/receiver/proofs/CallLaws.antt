@@ -1,0 +1,49 @@
+-- Calls of `take` one after the other go the way of the receiver of the table, so condition 3 holds of what they return.
+use Prim.Native.Nat.{ℕ}
+use mathlib.Core.Path.{_≡_, refl}
+use mathlib.Core.List.{List}
+use Rattle.receiver.specs.declared.receiver.Receiver.{Receiver}
+use Rattle.receiver.specs.Feed.{Message, Datagram, Session, Faithful, after, delivered}
+use Rattle.receiver.specs.Condition3.{Condition3For, plain}
+use Rattle.receiver.specs.Calls.{Calls, none, call, StartCall, CallsDeliverTrue}
+use Rattle.receiver.proofs.ConditionLaws.{condition-3}
+
+-- the receiver that the last call returned, and what was delivered
+record Runs (r : Receiver) (ds : List Datagram) (x : Receiver) (ms : List Message) : Type 0 where
+  ends-at : after plain r ds ≡ x
+  gives : delivered plain r ds ≡ ms
+
+runs : {r x : Receiver} {ds : List Datagram} {ms : List Message} → Calls r ds x ms → Runs r ds x ms
+unfolding after delivered
+runs none = record { ends-at = refl; gives = refl }
+runs (call t c cs) =
+    let i = runs cs in
+    record {
+      ends-at = rw (← c .leaves) (i .ends-at);
+      gives = rw (← c .leaves, ← c .answers, i .gives);
+    }
+
+start-faithful : (s : Session) (start : ℕ) (r : Receiver) → StartCall s start r → Faithful plain s start r
+unfolding Condition3For
+start-faithful s start r c = rw (c .leaves) (condition-3 s start (c .limit) (c .not-refused) (c .from-one) (c .to-past-last))
+
+pub calls-deliver-true : CallsDeliverTrue
+calls-deliver-true =
+    record {
+      delivers-true = λ s start r x ds ms c all cs.
+          let f = start-faithful s start r c .delivers-true ds all in
+          let i = runs cs in
+          record {
+            from-start = rw (← i .ends-at) (f .from-start);
+            to-last = rw (← i .ends-at) (f .to-last);
+            exactly = rw (← i .gives, ← i .ends-at) (f .exactly);
+          };
+      one-more = λ s start r x y before rest d ms ns c all o cs cs′.
+          let f = start-faithful s start r c .one-more before rest d all o in
+          let i = runs cs in
+          let j = runs cs′ in
+          record {
+            as-many = rw (← i .gives, ← j .gives) (f .as-many);
+            ended-too = rw (← i .ends-at, ← j .ends-at) (f .ended-too);
+          };
+    }

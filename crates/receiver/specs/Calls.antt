@@ -1,0 +1,62 @@
+-- Calls of `new` and `take` themselves, one after the other: each record of a call is the very promise of the function.
+use Prim.Native.Nat.{ℕ, _+_, _≤_}
+use mathlib.Core.List.{List, [], _∷_, _++_}
+use mathlib.Core.Bool.{true}
+use mathlib.Core.Path.{_≡_}
+use lib.ListN.{length}
+use Rattle.receiver.specs.declared.receiver.Receiver.{Receiver}
+use Rattle.receiver.specs.declared.receiver.Taken.{Taken}
+use Rattle.receiver.specs.Table.{answerWords}
+use Rattle.receiver.specs.Receiver.{receiverStartRefusal, startReceiver, answerOf, receiverAfter}
+use Rattle.receiver.specs.Delivery.{messagesDelivered}
+use Rattle.receiver.specs.Feed.{Message, Datagram, Session, OfKind, AllOfKind, lastOf, messagesFrom}
+
+-- a call of `take` on the receiver r and the datagram d that returned t
+pub record TakeCall (r : Receiver) (d : Datagram) (t : Taken) : Type 0 where
+  pub answers : answerWords (t .answer) ≡ answerOf r d
+  pub leaves : t .receiver ≡ receiverAfter r d
+
+-- the first call takes the receiver r, each later one the receiver that the call before returned; the last returned x,
+-- and ms are the messages that the answers deliver
+pub data Calls : Receiver → List Datagram → Receiver → List Message → Type 0 where
+  none : {r : Receiver} → Calls r [] r []
+  call : {r x : Receiver} {d : Datagram} {ds : List Datagram} {ms : List Message} (t : Taken) → TakeCall r d t
+      → Calls (t .receiver) ds x ms
+      → Calls r (d ∷ ds) x (messagesDelivered (answerWords (t .answer)) d ++ ms)
+
+-- a call of `new` that isn't refused, at a number from 1 to one past the session's last, and returned the receiver r
+pub record StartCall (s : Session) (start : ℕ) (r : Receiver) : Type 0 where
+  pub limit : ℕ
+  pub not-refused : receiverStartRefusal start limit ≡ 0
+  pub leaves : r ≡ startReceiver (s .name) start limit
+  pub from-one : 1 ≤ start
+  pub to-past-last : start ≤ lastOf s + 1
+
+-- ms are exactly the true messages from the start number to just below the number of the receiver x
+pub record AreTrue (s : Session) (start : ℕ) (x : Receiver) (ms : List Message) : Type 0 where
+  pub from-start : start ≤ x .next .0
+  pub to-last : x .next .0 ≤ lastOf s + 1
+  pub exactly : ms ≡ messagesFrom s start (x .next .0)
+
+-- calls that returned y and delivered ns do no worse than calls that returned x and delivered ms: at least as many
+-- messages, and y is ended if x is
+pub record NoWorse (x y : Receiver) (ms ns : List Message) : Type 0 where
+  pub as-many : length ms ≤ length ns
+  pub ended-too : x .ended ≡ true → y .ended ≡ true
+
+-- condition 3: the calls deliver exactly the true messages from the start number to just below the number of the
+-- receiver that the last one returned; one more datagram at any place does no worse
+pub record CallsDeliverTrue : Type 0 where
+  pub delivers-true : (s : Session) (start : ℕ) (r x : Receiver) (ds : List Datagram) (ms : List Message)
+      → StartCall s start r
+      → AllOfKind s ds
+      → Calls r ds x ms
+      → AreTrue s start x ms
+  pub one-more : (s : Session) (start : ℕ) (r x y : Receiver) (before rest : List Datagram) (d : Datagram)
+      (ms ns : List Message)
+      → StartCall s start r
+      → AllOfKind s (before ++ rest)
+      → OfKind s d
+      → Calls r (before ++ rest) x ms
+      → Calls r (before ++ d ∷ rest) y ns
+      → NoWorse x y ms ns
