@@ -42,7 +42,7 @@ unsound-unknown (a ∷ t) e h = go (isOf a e) (unsound-unknown t e h)
 
 -- ---- a table
 
-pub record Found (t : List Account) (e : Account) : Type 0 where
+pub record KnownBy (t : List Account) (e : Account) : Type 0 where
   pub entry-sound : soundAccount e ≡ true
   pub place : ℕ
   pub named : Named t e place
@@ -62,7 +62,7 @@ module _ (a : Account) (t : List Account) (e : Account) where
   behind-named : (i : ℕ) → Named (a ∷ t) e (suc i) → Named t e i
   behind-named i n = record { there = let h = n .there in omega arith; sound = n .sound; username = n .username }
 
-  found-first : isOf a e ≡ true → hasPassword a e ≡ true → Found (a ∷ t) e
+  found-first : isOf a e ≡ true → hasPassword a e ≡ true → KnownBy (a ∷ t) e
   found-first h f =
       let s = password-so a e f in
       record {
@@ -77,7 +77,7 @@ module _ (a : Account) (t : List Account) (e : Account) where
   none-before k h f zero l n = let s = first-named n in let z : _≡_ {A = ℕ} 0 1 = cc in omega arith
   none-before k h f (suc i) l n = f i (omega arith) (behind-named i n)
 
-  found-behind : isOf a e ≡ false → Found t e → Found (a ∷ t) e
+  found-behind : isOf a e ≡ false → KnownBy t e → KnownBy (a ∷ t) e
   found-behind h f =
       record {
         entry-sound = f .entry-sound;
@@ -87,12 +87,12 @@ module _ (a : Account) (t : List Account) (e : Account) where
         password = f .password;
       }
 
-pub known-found : (t : List Account) (e : Account) → isKnown t e ≡ true → Found t e
+pub known-found : (t : List Account) (e : Account) → isKnown t e ≡ true → KnownBy t e
 unfolding isKnown
 known-found [] e h = let z : _≡_ {A = ℕ} 0 1 = cc in absurd (omega arith)
 known-found (a ∷ t) e h = go (isOf a e) refl (known-found t e) h
   where
-    go : (x : Bool) → isOf a e ≡ x → (isKnown t e ≡ true → Found t e) → if x then hasPassword a e else isKnown t e ≡ true → Found (a ∷ t) e
+    go : (x : Bool) → isOf a e ≡ x → (isKnown t e ≡ true → KnownBy t e) → if x then hasPassword a e else isKnown t e ≡ true → KnownBy (a ∷ t) e
     go true f g k = found-first a t e f k
     go false f g k = found-behind a t e f (g k)
 
@@ -109,5 +109,5 @@ decides (a ∷ t) e s (suc k) n f p =
     go true h g = absurd (f 0 (omega arith) (named-first a t e h))
     go false h g = g
 
-pub found-known : (t : List Account) (e : Account) → Found t e → isKnown t e ≡ true
+pub found-known : (t : List Account) (e : Account) → KnownBy t e → isKnown t e ≡ true
 found-known t e f = decides t e (f .entry-sound) (f .place) (f .named) (f .first) (f .password)

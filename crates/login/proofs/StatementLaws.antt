@@ -19,9 +19,10 @@ use Rattle.decimal.specs.Decimal.{isDigit}
 use Rattle.text_fields.specs.Letters.{isLetterOrDigit, space}
 use Rattle.text_fields.specs.Sound.{wordLength, areSpaces, sound}
 use Rattle.login.specs.declared.account.Account.{Account}
-use Rattle.login.specs.Account.{soundAccount, mostAccounts, isKnown, verdictOf, lookupOf}
-use Rattle.login.specs.Decision.{sessionHolds, numberHolds, granted, DecisionKind, accepted, decisionAt, rejects, Attempt, loginOf}
-use Rattle.login.specs.Statements.{AccountRule, SessionRule, asks-blank, asks-ours, NumberRule, NotRefused, Rules, LoginRules, AcceptedExactlyWhen, NoText, has-zero, all-spaces, NeverAccepted}
+use Rattle.login.specs.Account.{soundAccount, mostAccounts, isKnown, verdictOf, lookupOf, verdictOn}
+use Rattle.login.specs.Decision.{sessionHolds, numberHolds, granted, DecisionKind, accepted, decisionAt, decisionOf, rejects, Attempt, loginOf}
+use Rattle.login.specs.Statements.{AccountRule, SessionRule, asks-blank, asks-ours, NumberRule, NotRefused, Rules, LoginRules, AcceptedExactlyWhen, NoText, has-zero, all-spaces, NeverAccepted, attemptBy, ByItsRecord, OnlyByARecord}
+use Rattle.login.proofs.FoundLaws.{says-19, says-of-one}
 use Rattle.login.proofs.KnownLaws.{known-found, found-known, unsound-unknown}
 
 -- ---- the rules and their tests
@@ -158,6 +159,20 @@ accepted-exactly-when =
       from-one = from-one;
       up-to-next = up-to-next;
     }
+
+-- ---- whatever is said to be found, the rules hold with its record alone as the table
+
+refused-out : refuses {K = DecisionKind} badSetting .which ≡ answer accepted → ⊥
+refused-out e = let z : _≡_ {A = ℕ} 0 1 = cc in omega arith
+
+pub only-by-a-record : OnlyByARecord
+unfolding OnlyByARecord decisionAt
+only-by-a-record f e asked wanted session last = go (f .«too_many») refl
+  where
+    go : (b : Bool) → f .«too_many» ≡ b → decisionOf (verdictOn f e) asked wanted session last .which ≡ answer accepted
+        → ByItsRecord f (attemptBy f e asked wanted session last)
+    go true h w = absurd (refused-out (rw (says-19 f e h) at w))
+    go false h w = record { not-too-many = h; rules = only-when (attemptBy f e asked wanted session last) (rw (says-of-one f e h) at w) }
 
 -- ---- a sound field has a letter or digit in front, and no zero byte
 

@@ -1,7 +1,7 @@
 -- A login is accepted exactly when the account, session and number rules hold.
 use Prim.Native.Nat.{ℕ, _+_, _<_, _≤_}
 use mathlib.Core.List.{List, [], _∷_}
-use mathlib.Core.Bool.{true}
+use mathlib.Core.Bool.{true, false}
 use mathlib.Core.Path.{_≡_}
 use lib.ListN.{length, getD, replicate}
 use Rattle.wire.specs.Bounds.{leastNumber, blank}
@@ -11,8 +11,10 @@ use Rattle.wire.specs.Text.{letter}
 use Rattle.text_fields.specs.Letters.{space, toSmall}
 use Rattle.soupbintcp.specs.Fields.{notAuthorized, sessionNotAvailable}
 use Rattle.login.specs.declared.account.Account.{Account}
-use Rattle.login.specs.Account.{soundAccount, mostAccounts}
-use Rattle.login.specs.Decision.{DecisionKind, accepted, granted, decisionWords, rejects, Attempt, loginOf}
+use Rattle.login.specs.declared.account.Found.{Found}
+use Rattle.login.specs.Account.{soundAccount, mostAccounts, lookupOf, foundIn, verdictOn}
+use Rattle.login.specs.Decision.{DecisionKind, accepted, granted, decisionWords, decisionOf, rejects}
+use Rattle.login.specs.Decision.{Attempt, loginOf}
 
 -- ---- the rules, as document 01 says them
 
@@ -96,6 +98,25 @@ pub data NoText (l : List ℕ) : Type 0 where
 pub record NeverAccepted : Type 0 where
   pub username : (x : Attempt) → NotRefused x → NoText (x .entry .username) → loginOf x ≡ rejects notAuthorized
   pub password : (x : Attempt) → NotRefused x → NoText (x .entry .password) → loginOf x ≡ rejects notAuthorized
+
+-- what was found for an entry says of it what the whole table says
+unfoldable pub FoundDecides : Type 0
+FoundDecides = (t : List Account) (e : Account) → verdictOn (foundIn t e) e ≡ lookupOf t e
+
+-- the attempt at a table of one record, the one that is said to be found
+abbrev pub attemptBy : Found → Account → List ℕ → ℕ → List ℕ → ℕ → Attempt
+attemptBy f e asked wanted session last =
+    record { table = f .account ∷ []; entry = e; asked = asked; wanted = wanted; session = session; last = last }
+
+-- whatever is said to be found, who is let in has its record's username and password, and meets the other rules
+pub record ByItsRecord (f : Found) (x : Attempt) : Type 0 where
+  pub not-too-many : f .«too_many» ≡ false
+  pub rules : Rules x
+
+unfoldable pub OnlyByARecord : Type 0
+OnlyByARecord = (f : Found) (e : Account) (asked : List ℕ) (wanted : ℕ) (session : List ℕ) (last : ℕ)
+    → decisionOf (verdictOn f e) asked wanted session last .which ≡ answer accepted
+    → ByItsRecord f (attemptBy f e asked wanted session last)
 
 -- the words tell all decisions apart
 unfoldable pub DecisionsApart : Type 0

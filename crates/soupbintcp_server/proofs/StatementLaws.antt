@@ -14,10 +14,12 @@ use Rattle.soupbintcp.specs.Letters.{PacketKind, login, unsequenced, client-hea
 use Rattle.soupbintcp.specs.Fields.{hasFields, notAuthorized, sessionNotAvailable, goodReason}
 use Rattle.soupbintcp.specs.Front.{FrontKind, packet, wants-more, frontOf, sessionOf}
 use Rattle.login.specs.declared.account.Account.{Account}
-use Rattle.login.specs.Account.{VerdictKind, known, unknown, mostAccounts, verdictOf, isKnown, lookupOf}
+use Rattle.login.specs.declared.account.Found.{Found}
+use Rattle.login.specs.Account.{VerdictKind, known, unknown, mostAccounts, verdictOf, isKnown, lookupOf, verdictOn}
 use Rattle.login.specs.Decision.{loginOf}
 use Rattle.login.specs.Decision as decided
 use Rattle.login.specs.Statements.{NotRefused}
+use Rattle.login.proofs.FoundLaws.{says-19, says-of-one}
 use Rattle.login.proofs.StatementLaws.{accepted-exactly-when, never-accepted}
 use Rattle.soupbintcp_session.specs.Answer.{Incoming, incoming, StepOutcome, stays, takes}
 use Rattle.soupbintcp_session.specs.Statements.{StaysOver}
@@ -28,8 +30,9 @@ use Rattle.soupbintcp_session.proofs.RunLaws.{any-cutting, runs-on}
 use Rattle.soupbintcp_server.specs.declared.server.ServerState.the-variants.{Waiting, In, Closed}
 use Rattle.soupbintcp_server.specs.declared.server.ServerState.{ServerState}
 use Rattle.soupbintcp_server.specs.declared.server.Server.{Server}
-use Rattle.soupbintcp_server.specs.Server.{becomes, loginAt, loginRow, waitingRow, inRow, rowAt, frontRowAt, stepAt, stepWith, entryOf, serverStep}
-use Rattle.soupbintcp_server.specs.Statements.{LoginInFront, EntryIsItsFields, attemptOf, Accepts, Rejects, LoginExactlyWhen, WasIn, before, by-login, TakesTheOthers, ServerPromises}
+use Rattle.soupbintcp_server.specs.declared.server.Stepped.{Stepped}
+use Rattle.soupbintcp_server.specs.Server.{becomes, loginAt, loginRow, waitingRow, inRow, rowAt, frontRowAt, stepAt, stepWith, entryOf, serverStep, ServerSteps}
+use Rattle.soupbintcp_server.specs.Statements.{LoginInFront, EntryIsItsFields, attemptOf, Accepts, OnlyByTheRules, Rejects, LoginExactlyWhen, WasIn, before, by-login, TakesTheOthers, ServerPromises}
 use Rattle.soupbintcp_server.proofs.LoginLaws.{username-first, password-first}
 use Rattle.soupbintcp_server.proofs.ServerCases.{ServerDoes, server-does, keeps, server-rests-or-moves, server-steady, with-rests-or-moves}
 use Rattle.soupbintcp_server.proofs.ServerCases as cases
@@ -233,12 +236,40 @@ login-exactly-when =
       too-many = too-many;
     }
 
+-- ---- what is said to be found, whoever says so
+
+module _ (f : Found) (s : Server) (l : List ℕ) where
+  table-of-one : f .«too_many» ≡ false → stepWith s (verdictOn f (entryOf l)) l ≡ serverStep (f .account ∷ []) s l
+  unfolding serverStep
+  table-of-one h = rw (says-of-one f (entryOf l) h) refl
+
+  too-many-out : f .«too_many» ≡ true → stepWith s (verdictOn f (entryOf l)) l .reply .which ≡ answer reply.accepted → ⊥
+  unfolding stepAt
+  too-many-out h w =
+      let r : refuses {K = reply.SessionAnswerKind} badSetting .which ≡ answer reply.accepted = rw (says-19 f (entryOf l) h) at w in
+      let z : _≡_ {A = ℕ} 0 1 = cc in
+      omega arith
+
+  only-by-its-record : stepWith s (verdictOn f (entryOf l)) l .reply .which ≡ answer reply.accepted → Accepts (f .account ∷ []) s l
+  only-by-its-record w = go (f .«too_many») refl
+    where
+      go : (b : Bool) → f .«too_many» ≡ b → Accepts (f .account ∷ []) s l
+      go true h = absurd (too-many-out h w)
+      go false h = login-exactly-when .only-when (f .account ∷ []) s l (ap (λ (o : StepOutcome Server). o .reply .which) (sym (table-of-one h)) ∙ w)
+
+pub only-by-the-rules : (r : Stepped) (t : List Account) (s : Server) (l : List ℕ) → ServerSteps r (serverStep t s l) → OnlyByTheRules r t s l
+unfolding OnlyByTheRules
+only-by-the-rules r t s l o e =
+    login-exactly-when .only-when t s l (ap (λ (w : Words reply.SessionAnswerKind). w .which) (sym (o .answers)) ∙ e)
+
 pub server-promises : ServerPromises
 server-promises =
     record {
       login-exactly-when = login-exactly-when;
       only-in = only-in;
       hands-up-only-in = hands-up-only-in;
+      only-by-its-record = only-by-its-record;
+      made-up-is-a-table-of-one = table-of-one;
       only-rejects = only-rejects;
       takes-the-others = takes-the-others;
       stays-over = stays-over;

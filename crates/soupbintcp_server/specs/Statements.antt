@@ -1,7 +1,7 @@
 -- What is promised of the session at the server.
 use Prim.Native.Nat.{ℕ, _-_, _<_, _≤_}
 use mathlib.Core.List.{List, [], _∷_}
-use mathlib.Core.Bool.{true}
+use mathlib.Core.Bool.{true, false}
 use mathlib.Core.Path.{_≡_}
 use lib.ListN.{length}
 use Rattle.wire.specs.Refusals.{badSetting}
@@ -13,15 +13,18 @@ use Rattle.soupbintcp.specs.Head.{headSize}
 use Rattle.soupbintcp.specs.Fields.{notAuthorized, sessionNotAvailable, goodReason}
 use Rattle.soupbintcp.specs.Front.{packet, frontOf, sessionOf, usernameOf, passwordOf}
 use Rattle.login.specs.declared.account.Account.{Account}
-use Rattle.login.specs.Account.{VerdictKind, mostAccounts}
+use Rattle.login.specs.declared.account.Found.{Found}
+use Rattle.login.specs.Account.{VerdictKind, mostAccounts, verdictOn}
 use Rattle.login.specs.Decision.{granted, Attempt}
 use Rattle.login.specs.Statements.{AccountRule, NotRefused, Rules, NoText}
 use Rattle.soupbintcp_session.specs.Answer.{accepted, rejected, unsequenced, heartbeat, debug, logged-out, stays, takes}
+use Rattle.soupbintcp_session.specs.Answer.{sessionAnswerWords}
 use Rattle.soupbintcp_session.specs.Stream.{Run, run, packetsOf}
 use Rattle.soupbintcp_session.specs.Statements.{StaysOver}
 use Rattle.soupbintcp_session.specs.Statements.{ChangesNothing, TakesPackets, HandsUpPayload, AnyStreamCutting, RunsOn}
 use Rattle.soupbintcp_server.specs.declared.server.ServerState.the-variants.{Waiting, In, Closed}
 use Rattle.soupbintcp_server.specs.declared.server.Server.{Server}
+use Rattle.soupbintcp_server.specs.declared.server.Stepped.{Stepped}
 use Rattle.soupbintcp_server.specs.HandedUp.{handedUp, beforeLogin, unsequencedIn}
 use Rattle.soupbintcp_server.specs.Server.{becomes, entryOf, stepWith, serverStep}
 use Rattle.soupbintcp_server.specs.Examples.{ServerExample}
@@ -56,6 +59,10 @@ pub record Accepts (t : List Account) (s : Server) (l : List ℕ) : Type 0 where
   pub number : ℕ
   pub front : LoginInFront l size number
   pub rules : Rules (attemptOf t s l number)
+
+-- what a step over a table answers lets no one in but by such a request
+unfoldable pub OnlyByTheRules : Stepped → List Account → Server → List ℕ → Type 0
+OnlyByTheRules r t s l = sessionAnswerWords (r .answer) .which ≡ answer accepted → Accepts t s l
 
 -- a login that isn't refused is accepted exactly when the account, session and number rules hold; J with A where the
 -- account rule doesn't, and J with S where it does and another doesn't
@@ -140,6 +147,11 @@ pub record ServerPromises : Type 0 where
   pub only-in : (t : List Account) (s : Server) (l : List ℕ) → serverStep t s l .after .state ≡ In → WasIn t s l
   pub hands-up-only-in : (t : List Account) (s : Server) (l : List ℕ)
       → serverStep t s l .reply .which ≡ answer unsequenced → s .state ≡ In
+  -- whatever is said to be found, who is let in meets the rules with its record alone as the table
+  pub only-by-its-record : (f : Found) (s : Server) (l : List ℕ)
+      → stepWith s (verdictOn f (entryOf l)) l .reply .which ≡ answer accepted → Accepts (f .account ∷ []) s l
+  pub made-up-is-a-table-of-one : (f : Found) (s : Server) (l : List ℕ) → f .«too_many» ≡ false
+      → stepWith s (verdictOn f (entryOf l)) l ≡ serverStep (f .account ∷ []) s l
   -- nothing but a login request is rejected
   pub only-rejects : (t : List Account) (s : Server) (l : List ℕ)
       → serverStep t s l .reply .which ≡ answer rejected → Rejects t s l
