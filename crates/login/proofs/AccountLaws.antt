@@ -1,5 +1,5 @@
 -- Laws of account records: letters without case, two fields compared byte for byte, and what a record says of an entry.
-use mathlib.Core.Path.{_≡_, refl, ap}
+use mathlib.Core.Path.{_≡_, refl, ap, sym, _∙_}
 use mathlib.Core.List.{List, [], _∷_}
 use mathlib.Core.Bool.{Bool, true, false, _&&_}
 use Prim.Native.Nat.{ℕ, suc, _+_, _≤_, _<_}
@@ -90,13 +90,21 @@ module _ (a : Account) (t : Bool) where
   sound-not e f = rw (← e, f) refl
 
 module _ (a e : Account) (t : Bool) where
-  pub of-both : (r : Bool) → t ≡ soundAccount a → t ≡ true → r ≡ sameText (a .username) (e .username) → r ≡ isOf a e
+  pub of-both : (r : Bool) → t ≡ sameText (a .username) (e .username) → t ≡ true → r ≡ soundAccount a → r ≡ isOf a e
   unfolding isOf
-  of-both r f g h = rw (← f, g) h
+  of-both r f g h = go (soundAccount a) h
+    where
+      go : (x : Bool) → r ≡ x → r ≡ (if x then sameText (a .username) (e .username) else false)
+      go true i = i ∙ sym (sym f ∙ g)
+      go false i = i
 
-  pub of-not : t ≡ soundAccount a → t ≡ false → false ≡ isOf a e
+  pub of-not : t ≡ sameText (a .username) (e .username) → t ≡ false → false ≡ isOf a e
   unfolding isOf
-  of-not f g = rw (← f, g) refl
+  of-not f g = go (soundAccount a)
+    where
+      go : (x : Bool) → false ≡ (if x then sameText (a .username) (e .username) else false)
+      go true = sym (sym f ∙ g)
+      go false = refl
 
   pub password-both : (r : Bool) → t ≡ soundAccount e → t ≡ true → r ≡ sameText (a .password) (e .password) → r ≡ hasPassword a e
   unfolding hasPassword

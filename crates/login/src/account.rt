@@ -100,14 +100,15 @@ pub fn is_sound(account: Account) -> bool
     }
 }
 
-// Whether a record is sound and has the entry's username: the first such record of a table decides.
+// Whether a record is sound and has the entry's username: the first such record of a table decides. Few records have
+// the username, so it is looked at first.
 pub fn is_of(account: Account, entry: Account) -> bool
     ensures { λ r. ⌜ r ≡ isOf account entry ⌝ }
 {
     let a = account.username;
     let b = entry.username;
-    if is_sound(account) {
-        is_same(&a, &b)
+    if is_same(&a, &b) {
+        is_sound(account)
     } else {
         false
     }
