@@ -77,9 +77,9 @@ record Ordered (c : Client) (l : List ℕ) (r : Run Client) : Type 0 where
   counted : r .after .number .0 ≡ grantedIn (c .number .0) (packets r) + length (sequencedIn (packets r))
   no-login : (c .state ≡ Asked → ⊥) → (n : ℕ) → grantedIn n (packets r) ≡ n
 
-stops-ordered : (c : Client) (l : List ℕ) → Ordered c l (stopped c l)
+stops-ordered : (c : Client) (l : List ℕ) (w : Words SessionAnswerKind) → Ordered c l (stopped c l w)
 unfolding handedUp packetsOf sequencedIn grantedIn numberedFrom
-stops-ordered c l = record { in-order = refl; counted = omega arith; no-login = λ z n. refl }
+stops-ordered c l w = record { in-order = refl; counted = omega arith; no-login = λ z n. refl }
 
 -- the packet taken has the letter of the stream, and its size
 module _ (l : List ℕ) (k : ℕ) (vs : List ℕ) (i : InFront Server l k vs) where
@@ -156,7 +156,7 @@ module _ (c : Client) (l : List ℕ) (k : ℕ) (r : Run Client) where
 
 ordered : (c : Client) (l : List ℕ) → Ordered c l (run clientStep c l)
 ordered =
-    runs clientStep client-steady Ordered (λ c l e. stops-ordered c l) (λ c l k r e h o. by-step c l k r (clientStep c l) (client-does c l) e o)
+    runs clientStep client-steady Ordered (λ c l e. stops-ordered c l (clientStep c l .reply)) (λ c l k r e h o. by-step c l k r (clientStep c l) (client-does c l) e o)
 
 pub hands-up-in-order : (c : Client) (l : List ℕ) → HandsUpInOrder c (run clientStep c l)
 hands-up-in-order c l = let o = ordered c l in record { in-order = o .in-order; counted = o .counted }

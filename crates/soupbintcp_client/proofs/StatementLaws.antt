@@ -22,14 +22,14 @@ use Rattle.soupbintcp_session.specs.Statements.{StaysOver}
 use Rattle.soupbintcp_session.specs.Answer as reply
 use Rattle.soupbintcp_session.proofs.FrontCases.{numbered-in-front, accepted-takes, sequenced-takes, plain-not-accepted}
 use Rattle.soupbintcp_session.proofs.StepLaws.{never-rests, changes-nothing, takes-packets, hands-up}
-use Rattle.soupbintcp_session.proofs.RunLaws.{any-cutting, runs-on}
+use Rattle.soupbintcp_session.proofs.RunLaws.{any-cutting, runs-on, runs-by-step}
 use Rattle.soupbintcp_client.specs.declared.client.ClientState.the-variants.{Asked, In, Ended, Closed}
 use Rattle.soupbintcp_client.specs.declared.client.ClientState.{ClientState}
 use Rattle.soupbintcp_client.specs.declared.client.Client.{Client}
 use Rattle.soupbintcp_client.specs.Client.{client, becomes, sessionAsked, numberAsked, acceptedRow, sequencedRow, askedRow, inRow, rowAt, clientRow, frontRowAt, clientStep}
 use Rattle.soupbintcp_client.specs.Statements.{AcceptedInFront, AcceptsA, SequencedInFront, SessionFits, any-session, this-session, NumberFits, any-number, this-number, Fits, TakesTheOthers, ClientStaysOver, ClientPromises}
 use Rattle.soupbintcp_client.proofs.AcceptedLaws.{session-first}
-use Rattle.soupbintcp_client.proofs.ClientCases.{ClientDoes, client-rests-or-moves, client-steady}
+use Rattle.soupbintcp_client.proofs.ClientCases.{ClientDoes, client-rests-or-moves, client-stable, client-steady}
 use Rattle.soupbintcp_client.proofs.ClientCases as cases
 use Rattle.soupbintcp_client.proofs.OrderLaws.{hands-up-in-order}
 use Rattle.soupbintcp_client.proofs.ExampleLaws.{client-example}
@@ -188,7 +188,9 @@ client-promises =
       changes-nothing = changes-nothing clientStep Server reply.sequenced client-rests-or-moves;
       takes-packets = takes-packets clientStep Server reply.sequenced client-rests-or-moves;
       hands-up-payload = hands-up clientStep Server reply.sequenced client-rests-or-moves sequenced-takes;
+      step-stable = client-stable;
       runs-on = runs-on clientStep client-steady;
+      runs-by-step = runs-by-step clientStep client-steady;
       any-cutting = any-cutting clientStep client-steady;
       example = client-example;
       hands-up-in-order = hands-up-in-order;

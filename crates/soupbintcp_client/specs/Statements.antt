@@ -12,7 +12,7 @@ use Rattle.soupbintcp.specs.Head.{headSize}
 use Rattle.soupbintcp.specs.Front.{packet, frontOf, sessionOf}
 use Rattle.soupbintcp_session.specs.Answer.{accepted, rejected, sequenced, heartbeat, debug, end-of-session, stays, takes}
 use Rattle.soupbintcp_session.specs.Stream.{Run, run, packetsOf}
-use Rattle.soupbintcp_session.specs.Statements.{StaysOver}
+use Rattle.soupbintcp_session.specs.Statements.{StaysOver, StepStable, RunsByStep}
 use Rattle.soupbintcp_session.specs.Statements.{ChangesNothing, TakesPackets, HandsUpPayload, AnyStreamCutting, RunsOn}
 use Rattle.soupbintcp_client.specs.declared.client.ClientState.the-variants.{Asked, In, Ended, Closed}
 use Rattle.soupbintcp_client.specs.declared.client.Client.{Client}
@@ -108,7 +108,9 @@ pub record ClientPromises : Type 0 where
   pub changes-nothing : ChangesNothing Client clientStep
   pub takes-packets : TakesPackets Client clientStep Server
   pub hands-up-payload : HandsUpPayload Client clientStep Server sequenced
+  pub step-stable : StepStable Client clientStep
   pub runs-on : (c : Client) (l : List ℕ) → RunsOn Client clientStep c l
+  pub runs-by-step : (c : Client) (l : List ℕ) → RunsByStep Client clientStep c l
   pub any-cutting : AnyStreamCutting Client clientStep
   pub example : ClientExample
   pub hands-up-in-order : (c : Client) (l : List ℕ) → HandsUpInOrder c (run clientStep c l)

@@ -2,10 +2,10 @@
 use mathlib.Core.Path.{_≡_, refl, ap, sym, _∙_}
 use mathlib.Core.List.{List, [], _∷_}
 use mathlib.Core.Bool.{Bool, true, false}
-use Prim.Native.Nat.{ℕ, _<_, _≤_}
+use Prim.Native.Nat.{ℕ, _≤_}
 use native.Mathlib.Omega.{arith}
 use lib.ListN.{length, drop, getD}
-use borrow.Author.Tests.{le-ltb, lt-ltb}
+use borrow.Author.Tests.{le-ltb}
 use Rattle.wire.specs.Refusals.{badSetting}
 use Rattle.wire.specs.Choice.{if_then_else_}
 use Rattle.wire.specs.Words.{Words, Case, answer, refused, says, refuses}
@@ -21,12 +21,12 @@ use Rattle.login.specs.Decision as decided
 use Rattle.login.specs.Statements.{NotRefused}
 use Rattle.login.proofs.FoundLaws.{says-19, says-of-one}
 use Rattle.login.proofs.StatementLaws.{accepted-exactly-when, never-accepted}
-use Rattle.soupbintcp_session.specs.Answer.{Incoming, incoming, StepOutcome, stays, takes}
+use Rattle.soupbintcp_session.specs.Answer.{Incoming, incoming, StepOutcome, takes}
 use Rattle.soupbintcp_session.specs.Statements.{StaysOver}
 use Rattle.soupbintcp_session.specs.Answer as reply
 use Rattle.soupbintcp_session.proofs.FrontCases.{a-rejection, numbered-in-front, accepted-takes, unsequenced-takes, plain-takes, plain-not-accepted, plain-not-unsequenced}
 use Rattle.soupbintcp_session.proofs.StepLaws.{never-rests, changes-nothing, takes-packets, hands-up}
-use Rattle.soupbintcp_session.proofs.RunLaws.{any-cutting, runs-on}
+use Rattle.soupbintcp_session.proofs.RunLaws.{any-cutting, runs-on, runs-by-step}
 use Rattle.soupbintcp_server.specs.declared.server.ServerState.the-variants.{Waiting, In, Closed}
 use Rattle.soupbintcp_server.specs.declared.server.ServerState.{ServerState}
 use Rattle.soupbintcp_server.specs.declared.server.Server.{Server}
@@ -36,6 +36,7 @@ use Rattle.soupbintcp_server.specs.Statements.{LoginInFront, EntryIsItsF
 use Rattle.soupbintcp_server.proofs.LoginLaws.{username-first, password-first}
 use Rattle.soupbintcp_server.proofs.ServerCases.{ServerDoes, server-does, keeps, server-rests-or-moves, server-steady, with-rests-or-moves}
 use Rattle.soupbintcp_server.proofs.ServerCases as cases
+use Rattle.soupbintcp_server.proofs.StableLaws.{too-many, server-stable}
 use Rattle.soupbintcp_server.proofs.OrderLaws.{hands-up-in-order}
 use Rattle.soupbintcp_server.proofs.ExampleLaws.{server-example}
 
@@ -67,10 +68,6 @@ module _ (t : List Account) (s : Server) (l : List ℕ) (size n : ℕ) (q : s .s
 
 unsequenced-apart : answer reply.unsequenced ≡ answer reply.accepted → ⊥
 unsequenced-apart e = let z : _≡_ {A = ℕ} 0 1 = cc in omega arith
-
-too-many : (t : List Account) (s : Server) (l : List ℕ) → mostAccounts < length t → serverStep t s l ≡ stays s (refuses badSetting)
-unfolding serverStep lookupOf stepAt
-too-many t s l h = rw (lt-ltb _ _ h) refl
 
 accepts : (t : List Account) (s : Server) (l : List ℕ) (o : StepOutcome Server) → ServerDoes s l (lookupOf t (entryOf l)) o
     → o .reply .which ≡ answer reply.accepted → Accepts t s l
@@ -280,6 +277,8 @@ server-promises =
       keeps = keeps;
       hands-up-in-order = hands-up-in-order;
       hands-up-payload = λ t. hands-up (serverStep t) Client reply.unsequenced (server-rests-or-moves t) unsequenced-takes;
+      step-stable = server-stable;
       runs-on = λ t. runs-on (serverStep t) (server-steady t);
+      runs-by-step = λ t. runs-by-step (serverStep t) (server-steady t);
       any-cutting = λ t. any-cutting (serverStep t) (server-steady t);
     }

@@ -20,7 +20,7 @@ use Rattle.login.specs.Statements.{AccountRule, NotRefused, Rules, NoText}
 use Rattle.soupbintcp_session.specs.Answer.{accepted, rejected, unsequenced, heartbeat, debug, logged-out, stays, takes}
 use Rattle.soupbintcp_session.specs.Answer.{sessionAnswerWords}
 use Rattle.soupbintcp_session.specs.Stream.{Run, run, packetsOf}
-use Rattle.soupbintcp_session.specs.Statements.{StaysOver}
+use Rattle.soupbintcp_session.specs.Statements.{StaysOver, StepStable, RunsByStep}
 use Rattle.soupbintcp_session.specs.Statements.{ChangesNothing, TakesPackets, HandsUpPayload, AnyStreamCutting, RunsOn}
 use Rattle.soupbintcp_server.specs.declared.server.ServerState.the-variants.{Waiting, In, Closed}
 use Rattle.soupbintcp_server.specs.declared.server.Server.{Server}
@@ -168,5 +168,7 @@ pub record ServerPromises : Type 0 where
   pub keeps : (t : List Account) (s : Server) (l : List ℕ) → KeepsItsSettings s (serverStep t s l .after)
   pub hands-up-in-order : (t : List Account) (s : Server) (l : List ℕ) → HandsUpInOrder s (run (serverStep t) s l)
   pub hands-up-payload : (t : List Account) → HandsUpPayload Server (serverStep t) Client unsequenced
+  pub step-stable : (t : List Account) → StepStable Server (serverStep t)
   pub runs-on : (t : List Account) (s : Server) (l : List ℕ) → RunsOn Server (serverStep t) s l
+  pub runs-by-step : (t : List Account) (s : Server) (l : List ℕ) → RunsByStep Server (serverStep t) s l
   pub any-cutting : (t : List Account) → AnyStreamCutting Server (serverStep t)
