@@ -102,7 +102,7 @@ module _ (c : Client) (l : List ℕ) (k : ℕ) (vs : List ℕ) (i : InFront Serv
 -- ---- the step by the front
 
 module _ (c : Client) (l : List ℕ) where
-  short-rests : frontOf Server l ≡ says front.wants-more [] → clientStep c l ≡ stays c (says wants-more [])
+  pub short-rests : frontOf Server l ≡ says front.wants-more [] → clientStep c l ≡ stays c (says wants-more [])
   unfolding clientStep frontRowAt
   short-rests e = rw e refl
 

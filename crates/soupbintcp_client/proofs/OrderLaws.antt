@@ -28,11 +28,11 @@ use Rattle.soupbintcp_client.proofs.ClientCases.{ClientDoes, rests, log
 -- ---- one more packet p before ps
 
 module _ (p : List ℕ) (ps : List (List ℕ)) where
-  one-S : letterOf p ≡ 83 → sequencedIn (p ∷ ps) ≡ drop 3 p ∷ sequencedIn ps
+  pub one-S : letterOf p ≡ 83 → sequencedIn (p ∷ ps) ≡ drop 3 p ∷ sequencedIn ps
   unfolding sequencedIn
   one-S e = rw e refl
 
-  no-S : (letterOf p ≡ 83 → ⊥) → sequencedIn (p ∷ ps) ≡ sequencedIn ps
+  pub no-S : (letterOf p ≡ 83 → ⊥) → sequencedIn (p ∷ ps) ≡ sequencedIn ps
   unfolding sequencedIn
   no-S e = rw (ne-eqb _ _ e) refl
 
@@ -54,12 +54,12 @@ plain-quiet w a-logout = refl
 plain-quiet w an-end = refl
 
 -- a step that hands up nothing
-handed-none : (b : List ℕ) (w : Words SessionAnswerKind) (xs : List Taking) → isSequenced (w .which) ≡ false → handedUp (record { bytes = b; reply = w } ∷ xs) ≡ handedUp xs
+pub handed-none : (b : List ℕ) (w : Words SessionAnswerKind) (xs : List Taking) → isSequenced (w .which) ≡ false → handedUp (record { bytes = b; reply = w } ∷ xs) ≡ handedUp xs
 unfolding handedUp
 handed-none b w xs e = rw e refl
 
 -- a step that hands up what stands behind the head
-handed-one : (b : List ℕ) (n k : ℕ) (xs : List Taking) → length b ≡ k
+pub handed-one : (b : List ℕ) (n k : ℕ) (xs : List Taking) → length b ≡ k
     → handedUp (record { bytes = b; reply = says sequenced (n ∷ 3 ∷ (k - 3) ∷ []) } ∷ xs) ≡ record { number = n; message = drop 3 b } ∷ handedUp xs
 unfolding handedUp isSequenced answerMessageAt
 handed-one b n k xs e =

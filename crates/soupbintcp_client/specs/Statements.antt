@@ -1,16 +1,18 @@
 -- What is promised of the session at the client.
-use Prim.Native.Nat.{ℕ, _+_, _-_}
-use mathlib.Core.List.{List, [], _∷_}
+use Prim.Native.Nat.{ℕ, _+_, _-_, _≤_}
+use mathlib.Core.List.{List, [], _∷_, List·Memᴰ}
 use mathlib.Core.Path.{_≡_}
 use lib.ListN.{length}
 use Rattle.wire.specs.Bounds.{blank, largestNumber}
 use Rattle.wire.specs.Refusals.{loginNotAsked, numbersUsedUp}
+use Rattle.wire.specs.Bytes.{joined}
 use Rattle.wire.specs.Words.{answer, says, refuses}
 use Rattle.soupbintcp.specs.declared.packet.Sender.the-variants.{Server}
 use Rattle.soupbintcp.specs.Letters as Letters
 use Rattle.soupbintcp.specs.Head.{headSize}
 use Rattle.soupbintcp.specs.Front.{packet, frontOf, sessionOf}
-use Rattle.soupbintcp_session.specs.Answer.{accepted, rejected, sequenced, heartbeat, debug, end-of-session, stays, takes}
+use Rattle.soupbintcp_session.specs.Answer.{wants-more, accepted, rejected, sequenced, heartbeat, debug, end-of-session}
+use Rattle.soupbintcp_session.specs.Answer.{stays, takes}
 use Rattle.soupbintcp_session.specs.Stream.{Run, run, packetsOf}
 use Rattle.soupbintcp_session.specs.Statements.{StaysOver, StepStable, RunsByStep}
 use Rattle.soupbintcp_session.specs.Statements.{ChangesNothing, TakesPackets, HandsUpPayload, AnyStreamCutting, RunsOn}
@@ -52,6 +54,8 @@ pub record TakesFromA : Type 0 where
   pub else-33 : (c : Client) (l : List ℕ) (size n : ℕ) → c .state ≡ Asked → AcceptedInFront l size n → (Fits c l n → ⊥)
       → clientStep c l ≡ stays c (refuses loginNotAsked)
   pub only-when : (c : Client) (l : List ℕ) → clientStep c l .reply .which ≡ answer accepted → AcceptsA c l
+  -- an A is 33 bytes
+  pub its-size : (l : List ℕ) (size n : ℕ) → AcceptedInFront l size n → size ≡ 33
 
 -- S in front
 abbrev pub SequencedInFront : List ℕ → ℕ → Type 0
@@ -100,6 +104,23 @@ pub record HandsUpInOrder (c : Client) (r : Run Client) : Type 0 where
   pub counted : r .after .number .0
       ≡ grantedIn (c .number .0) (packetsOf (r .taken)) + length (sequencedIn (packetsOf (r .taken)))
 
+-- ---- whole streams
+
+-- a whole packet of those that a client takes again and again: S, H or +
+pub data Running (p : List ℕ) : Type 0 where
+  is-S : frontOf Server p ≡ says (packet Letters.sequenced) (length p ∷ []) → Running p
+  is-H : frontOf Server p ≡ says (packet Letters.server-heartbeat) (length p ∷ []) → Running p
+  is-debug : frontOf Server p ≡ says (packet Letters.debug) (length p ∷ []) → Running p
+
+-- over such packets, while numbers last: all are taken, the payloads of S are handed up under their numbers, and
+-- nothing is left
+pub record TakesAll (c : Client) (ps : List (List ℕ)) (r : Run Client) : Type 0 where
+  pub all : packetsOf (r .taken) ≡ ps
+  pub handed : handedUp (r .taken) ≡ numberedFrom (c .number .0) (sequencedIn ps)
+  pub after : r .after ≡ client (c .session) (c .number .0 + length (sequencedIn ps)) In
+  pub left : r .rest ≡ []
+  pub why : r .why ≡ says wants-more []
+
 pub record ClientPromises : Type 0 where
   pub takes-from-A : TakesFromA
   pub takes-S : TakesS
@@ -114,3 +135,7 @@ pub record ClientPromises : Type 0 where
   pub any-cutting : AnyStreamCutting Client clientStep
   pub example : ClientExample
   pub hands-up-in-order : (c : Client) (l : List ℕ) → HandsUpInOrder c (run clientStep c l)
+  pub takes-all : (c : Client) (ps : List (List ℕ)) → c .state ≡ In
+      → ((p : List ℕ) → List·Memᴰ p ps → Running p)
+      → c .number .0 + length (sequencedIn ps) ≤ largestNumber
+      → TakesAll c ps (run clientStep c (joined ps))
