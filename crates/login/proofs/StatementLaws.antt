@@ -4,7 +4,7 @@ use mathlib.Core.List.{List, [], _∷_}
 use mathlib.Core.Bool.{Bool, true, false, _&&_}
 use Prim.Native.Nat.{ℕ, zero, suc, _+_, _≤_, _<_, max}
 use native.Mathlib.Omega.{arith}
-use lib.ListN.{length, drop, getD, replicate}
+use lib.ListN.{length, drop, getD}
 use lib.Dec.{ltb, eqb}
 use borrow.Author.Tests.{le-ltb, lt-ltb, le-leb, leb-true, eqb-true, eqb-false}
 use Rattle.wire.specs.Choice.{if_then_else_}
@@ -18,6 +18,7 @@ use Rattle.soupbintcp.specs.Fields.{notAuthorized, sessionNotAvailable}
 use Rattle.decimal.specs.Decimal.{isDigit}
 use Rattle.text_fields.specs.Letters.{isLetterOrDigit, space}
 use Rattle.text_fields.specs.Sound.{wordLength, areSpaces, sound}
+use Rattle.text_fields.proofs.SoundLaws.{spaces-word}
 use Rattle.login.specs.declared.account.Account.{Account}
 use Rattle.login.specs.Account.{soundAccount, mostAccounts, isKnown, verdictOf, lookupOf, verdictOn}
 use Rattle.login.specs.Decision.{sessionHolds, numberHolds, granted, DecisionKind, accepted, decisionAt, decisionOf, rejects, Attempt, loginOf}
@@ -176,11 +177,6 @@ only-by-a-record f e asked wanted session last = go (f .«too_many») refl
 
 -- ---- a sound field has a letter or digit in front, and no zero byte
 
-blank-word : (k : ℕ) → wordLength (replicate k space) ≡ 0
-unfolding wordLength isLetterOrDigit isDigit
-blank-word zero = refl
-blank-word (suc k) = refl
-
 spaces-no-zero : (l : List ℕ) (i : ℕ) → areSpaces l ≡ true → i < length l → getD l i 0 ≡ 0 → ⊥
 unfolding areSpaces
 spaces-no-zero [] i e h z = omega arith
@@ -223,7 +219,7 @@ no-text l (has-zero i h z) = go (sound 1 l) refl
     go : (t : Bool) → sound 1 l ≡ t → t ≡ false
     go true e = absurd (no-zero l e i h z)
     go false e = refl
-no-text l (all-spaces k e) = rw (e, blank-word k) refl
+no-text l (all-spaces k e) = rw (e, spaces-word k) refl
 
 -- ---- an entry with such a field
 

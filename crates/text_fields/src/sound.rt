@@ -1,7 +1,7 @@
 // Username and password: letters or digits from the left end on, then spaces.
 use crate::letters;
 ghost use mathlib.Core.Path.{_≡_};
-ghost use Rattle.text_fields.specs.Sound.{sound, soundUsername, soundPassword};
+ghost use Rattle.text_fields.specs.Sound.{sound, SoundExactlyWhen, soundUsername, soundPassword};
 
 // Bytes of a username and of a password.
 pub const USERNAME_SIZE: usize = 6;
@@ -35,6 +35,7 @@ fn is_sound(field: &[u8], least: usize) -> bool
 // Whether a field is a sound username.
 pub fn is_username(field: &[u8]) -> bool
     ensures { λ r. ⌜ r ≡ soundUsername (now (field .entry)) ⌝ }
+    ensures exactly_when { λ _. ⌜ SoundExactlyWhen ⌝ }
 {
     is_sound(field, LEAST_USERNAME)
 }
@@ -42,6 +43,7 @@ pub fn is_username(field: &[u8]) -> bool
 // Whether a field is a sound password.
 pub fn is_password(field: &[u8]) -> bool
     ensures { λ r. ⌜ r ≡ soundPassword (now (field .entry)) ⌝ }
+    ensures exactly_when { λ _. ⌜ SoundExactlyWhen ⌝ }
 {
     is_sound(field, LEAST_PASSWORD)
 }
