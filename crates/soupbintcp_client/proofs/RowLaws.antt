@@ -7,7 +7,7 @@ use borrow.Author.Tests.{eq-eqb, ne-eqb}
 use Rattle.wire.specs.Bounds.{largestNumber}
 use Rattle.wire.specs.Words.{Words, Case, answer, refused, says, refuses}
 use Rattle.soupbintcp.specs.declared.packet.Sender.the-variants.{Server}
-use Rattle.soupbintcp.specs.Letters.{PacketKind, rejected, sequenced, server-heartbeat, debug, end-of-session, letterFor}
+use Rattle.soupbintcp.specs.Letters.{PacketKind, accepted, rejected, sequenced, server-heartbeat, debug, end-of-session, letterFor}
 use Rattle.soupbintcp.specs.Front.{FrontKind, packet, wants-more, frontOf, sessionOf}
 use Rattle.soupbintcp_session.specs.Answer.{Incoming, incoming, stays, takes}
 use Rattle.soupbintcp_session.specs.Statements.{StaysOver}
@@ -16,7 +16,7 @@ use Rattle.soupbintcp_client.specs.declared.client.ClientState.the-varia
 use Rattle.soupbintcp_client.specs.declared.client.ClientState.{ClientState}
 use Rattle.soupbintcp_client.specs.declared.client.Client.{Client}
 use Rattle.soupbintcp_client.specs.Client.{client, becomes, sequencedRow, askedRow, inRow, rowAt, frontRowAt, clientStep}
-use Rattle.soupbintcp_client.specs.Statements.{SequencedInFront, TakesTheOthers, ClientStaysOver}
+use Rattle.soupbintcp_client.specs.Statements.{SequencedInFront, TakesTheOthers, RefusesTheOthers, ClientStaysOver}
 use Rattle.soupbintcp_client.proofs.ClientCases as cases
 
 -- ---- S in state in
@@ -54,6 +54,19 @@ takes-the-others =
       end-in = λ c l size q e. row c l end-of-session size [] e In q;
       debug-asked = λ c l size q e. row c l debug size [] e Asked q ∙ own-state c size _ Asked q;
       rejected-asked = λ c l size reason q e. row c l rejected size (reason ∷ []) e Asked q;
+    }
+
+pub refuses-the-others : RefusesTheOthers
+unfolding letterFor rowAt askedRow inRow
+refuses-the-others =
+    record {
+      sequenced-asked = λ c l size q e. row c l sequenced size [] e Asked q;
+      heartbeat-asked = λ c l size q e. row c l server-heartbeat size [] e Asked q;
+      end-asked = λ c l size q e. row c l end-of-session size [] e Asked q;
+      accepted-in = λ c l size n q e. row c l accepted size (n ∷ []) e In q;
+      rejected-in = λ c l size reason q e. row c l rejected size (reason ∷ []) e In q;
+      any-ended = λ c l kind size vs q e. row c l kind size vs e Ended q;
+      any-closed = λ c l kind size vs q e. row c l kind size vs e Closed q;
     }
 
 -- ---- ended and closed refuse every packet

@@ -29,7 +29,7 @@ use Rattle.soupbintcp_client.specs.Statements.{AcceptedInFront, AcceptsA
 use Rattle.soupbintcp_client.proofs.AcceptedLaws.{accepted-size, session-first}
 use Rattle.soupbintcp_client.proofs.ClientCases.{ClientDoes, client-rests-or-moves, client-stable, client-steady}
 use Rattle.soupbintcp_client.proofs.ClientCases as cases
-use Rattle.soupbintcp_client.proofs.RowLaws.{when-S, else-34, takes-the-others, stays-over}
+use Rattle.soupbintcp_client.proofs.RowLaws.{when-S, else-34, takes-the-others, refuses-the-others, stays-over}
 use Rattle.soupbintcp_client.proofs.WholeLaws.{takes-all}
 use Rattle.soupbintcp_client.proofs.OrderLaws.{hands-up-in-order}
 use Rattle.soupbintcp_client.proofs.ExampleLaws.{client-example}
@@ -127,6 +127,7 @@ client-promises =
             its-size = λ l size n e. accepted-size l size (n ∷ []) e;
           };
       takes-the-others = takes-the-others;
+      refuses-the-others = refuses-the-others;
       stays-over = stays-over;
       takes-S = record { when = when-S; else-34 = else-34 };
       changes-nothing = changes-nothing clientStep Server reply.sequenced client-rests-or-moves;

@@ -4,7 +4,7 @@ use mathlib.Core.List.{List, [], _∷_, List·Memᴰ}
 use mathlib.Core.Path.{_≡_}
 use lib.ListN.{length}
 use Rattle.wire.specs.Bounds.{blank, largestNumber}
-use Rattle.wire.specs.Refusals.{loginNotAsked, numbersUsedUp}
+use Rattle.wire.specs.Refusals.{packetNotTaken, stateClosed, loginNotAsked, numbersUsedUp}
 use Rattle.wire.specs.Bytes.{joined}
 use Rattle.wire.specs.Words.{answer, says, refuses}
 use Rattle.soupbintcp.specs.declared.packet.Sender.the-variants.{Server}
@@ -91,6 +91,25 @@ pub record TakesTheOthers : Type 0 where
       → frontOf Server l ≡ says (packet Letters.rejected) (size ∷ reason ∷ [])
       → clientStep c l ≡ takes size (says rejected (reason ∷ [])) (becomes c Closed)
 
+-- and what no row takes: asked refuses S, H and Z by 31, in refuses A and J by 31, and ended and closed refuse every
+-- packet by 32
+pub record RefusesTheOthers : Type 0 where
+  pub sequenced-asked : (c : Client) (l : List ℕ) (size : ℕ) → c .state ≡ Asked
+      → SequencedInFront l size → clientStep c l ≡ stays c (refuses packetNotTaken)
+  pub heartbeat-asked : (c : Client) (l : List ℕ) (size : ℕ) → c .state ≡ Asked
+      → PlainInFront l Letters.server-heartbeat size → clientStep c l ≡ stays c (refuses packetNotTaken)
+  pub end-asked : (c : Client) (l : List ℕ) (size : ℕ) → c .state ≡ Asked
+      → PlainInFront l Letters.end-of-session size → clientStep c l ≡ stays c (refuses packetNotTaken)
+  pub accepted-in : (c : Client) (l : List ℕ) (size n : ℕ) → c .state ≡ In
+      → AcceptedInFront l size n → clientStep c l ≡ stays c (refuses packetNotTaken)
+  pub rejected-in : (c : Client) (l : List ℕ) (size reason : ℕ) → c .state ≡ In
+      → frontOf Server l ≡ says (packet Letters.rejected) (size ∷ reason ∷ [])
+      → clientStep c l ≡ stays c (refuses packetNotTaken)
+  pub any-ended : (c : Client) (l : List ℕ) (kind : Letters.PacketKind) (size : ℕ) (vs : List ℕ) → c .state ≡ Ended
+      → frontOf Server l ≡ says (packet kind) (size ∷ vs) → clientStep c l ≡ stays c (refuses stateClosed)
+  pub any-closed : (c : Client) (l : List ℕ) (kind : Letters.PacketKind) (size : ℕ) (vs : List ℕ) → c .state ≡ Closed
+      → frontOf Server l ≡ says (packet kind) (size ∷ vs) → clientStep c l ≡ stays c (refuses stateClosed)
+
 -- ended or closed, whatever comes
 pub record ClientStaysOver : Type 0 where
   pub ended : (c : Client) (l : List ℕ) → c .state ≡ Ended → StaysOver Client c (clientStep c l)
@@ -125,6 +144,7 @@ pub record ClientPromises : Type 0 where
   pub takes-from-A : TakesFromA
   pub takes-S : TakesS
   pub takes-the-others : TakesTheOthers
+  pub refuses-the-others : RefusesTheOthers
   pub stays-over : ClientStaysOver
   pub changes-nothing : ChangesNothing Client clientStep
   pub takes-packets : TakesPackets Client clientStep Server

@@ -32,7 +32,7 @@ use Rattle.soupbintcp_server.specs.declared.server.ServerState.{ServerSt
 use Rattle.soupbintcp_server.specs.declared.server.Server.{Server}
 use Rattle.soupbintcp_server.specs.declared.server.Stepped.{Stepped}
 use Rattle.soupbintcp_server.specs.Server.{becomes, loginAt, loginRow, waitingRow, inRow, rowAt, frontRowAt, stepAt, stepWith, entryOf, serverStep, ServerSteps}
-use Rattle.soupbintcp_server.specs.Statements.{LoginInFront, EntryIsItsFields, attemptOf, Accepts, OnlyByTheRules, Rejects, LoginExactlyWhen, WasIn, before, by-login, TakesTheOthers, ServerPromises}
+use Rattle.soupbintcp_server.specs.Statements.{LoginInFront, EntryIsItsFields, attemptOf, Accepts, OnlyByTheRules, Rejects, LoginExactlyWhen, WasIn, before, by-login, TakesTheOthers, RefusesTheOthers, ServerPromises}
 use Rattle.soupbintcp_server.proofs.LoginLaws.{username-first, password-first}
 use Rattle.soupbintcp_server.proofs.ServerCases.{ServerDoes, server-does, keeps, server-rests-or-moves, server-steady, with-rests-or-moves}
 use Rattle.soupbintcp_server.proofs.ServerCases as cases
@@ -170,18 +170,18 @@ only-rejects t s l z = rejects-so t s l (server-does s (lookupOf t (entryOf l)) 
 
 -- ---- the other packets: a row of the state q, with a table that isn't too long
 
-told-other : (s : Server) (x : Words VerdictKind) (l : List ℕ) (kind : PacketKind) (size : ℕ) (state : ServerState) (b : Bool) → s .state ≡ state
-    → frontOf Client l ≡ says (packet kind) (size ∷ []) → x ≡ verdictOf b
-    → stepWith s x l ≡ rowAt state s x (incoming size (letterFor kind) [] (sessionOf Client l))
+told-other : (s : Server) (x : Words VerdictKind) (l : List ℕ) (kind : PacketKind) (size : ℕ) (vs : List ℕ) (state : ServerState) (b : Bool) → s .state ≡ state
+    → frontOf Client l ≡ says (packet kind) (size ∷ vs) → x ≡ verdictOf b
+    → stepWith s x l ≡ rowAt state s x (incoming size (letterFor kind) vs (sessionOf Client l))
 unfolding stepAt verdictOf
-told-other s x l kind size state true q e f = rw f (cases.packet-row s (says known []) l kind size [] e ∙ ap (λ (y : ServerState). rowAt y s (says known []) (incoming size (letterFor kind) [] (sessionOf Client l))) q)
-told-other s x l kind size state false q e f = rw f (cases.packet-row s (says unknown []) l kind size [] e ∙ ap (λ (y : ServerState). rowAt y s (says unknown []) (incoming size (letterFor kind) [] (sessionOf Client l))) q)
+told-other s x l kind size vs state true q e f = rw f (cases.packet-row s (says known []) l kind size vs e ∙ ap (λ (y : ServerState). rowAt y s (says known []) (incoming size (letterFor kind) vs (sessionOf Client l))) q)
+told-other s x l kind size vs state false q e f = rw f (cases.packet-row s (says unknown []) l kind size vs e ∙ ap (λ (y : ServerState). rowAt y s (says unknown []) (incoming size (letterFor kind) vs (sessionOf Client l))) q)
 
-row : (t : List Account) (s : Server) (l : List ℕ) (kind : PacketKind) (size : ℕ) (state : ServerState) → length t ≤ mostAccounts → s .state ≡ state
-    → frontOf Client l ≡ says (packet kind) (size ∷ [])
-    → serverStep t s l ≡ rowAt state s (lookupOf t (entryOf l)) (incoming size (letterFor kind) [] (sessionOf Client l))
+row : (t : List Account) (s : Server) (l : List ℕ) (kind : PacketKind) (size : ℕ) (vs : List ℕ) (state : ServerState) → length t ≤ mostAccounts → s .state ≡ state
+    → frontOf Client l ≡ says (packet kind) (size ∷ vs)
+    → serverStep t s l ≡ rowAt state s (lookupOf t (entryOf l)) (incoming size (letterFor kind) vs (sessionOf Client l))
 unfolding serverStep lookupOf
-row t s l kind size state z q e = told-other s (lookupOf t (entryOf l)) l kind size state (isKnown t (entryOf l)) q e (rw (le-ltb _ _ z) refl)
+row t s l kind size vs state z q e = told-other s (lookupOf t (entryOf l)) l kind size vs state (isKnown t (entryOf l)) q e (rw (le-ltb _ _ z) refl)
 
 -- a state that stays is the server's own
 own-state : (s : Server) (size : ℕ) (w : Words reply.SessionAnswerKind) (state : ServerState) → s .state ≡ state → takes size w (becomes s state) ≡ takes size w s
@@ -191,11 +191,22 @@ takes-the-others : TakesTheOthers
 unfolding letterFor rowAt waitingRow inRow
 takes-the-others =
     record {
-      unsequenced-in = λ t s l size z q e. row t s l unsequenced size In z q e ∙ own-state s size _ In q;
-      heartbeat-in = λ t s l size z q e. row t s l client-heartbeat size In z q e ∙ own-state s size _ In q;
-      debug-in = λ t s l size z q e. row t s l debug size In z q e ∙ own-state s size _ In q;
-      logout-in = λ t s l size z q e. row t s l logout size In z q e;
-      debug-waiting = λ t s l size z q e. row t s l debug size Waiting z q e ∙ own-state s size _ Waiting q;
+      unsequenced-in = λ t s l size z q e. row t s l unsequenced size [] In z q e ∙ own-state s size _ In q;
+      heartbeat-in = λ t s l size z q e. row t s l client-heartbeat size [] In z q e ∙ own-state s size _ In q;
+      debug-in = λ t s l size z q e. row t s l debug size [] In z q e ∙ own-state s size _ In q;
+      logout-in = λ t s l size z q e. row t s l logout size [] In z q e;
+      debug-waiting = λ t s l size z q e. row t s l debug size [] Waiting z q e ∙ own-state s size _ Waiting q;
+    }
+
+refuses-the-others : RefusesTheOthers
+unfolding letterFor rowAt waitingRow inRow
+refuses-the-others =
+    record {
+      unsequenced-waiting = λ t s l size z q e. row t s l unsequenced size [] Waiting z q e;
+      heartbeat-waiting = λ t s l size z q e. row t s l client-heartbeat size [] Waiting z q e;
+      logout-waiting = λ t s l size z q e. row t s l logout size [] Waiting z q e;
+      login-in = λ t s l size n z q e. row t s l login size (n ∷ []) In z q e;
+      any-closed = λ t s l kind size vs z q e. row t s l kind size vs Closed z q e;
     }
 
 -- ---- closed refuses every packet
@@ -269,6 +280,7 @@ server-promises =
       made-up-is-a-table-of-one = table-of-one;
       only-rejects = only-rejects;
       takes-the-others = takes-the-others;
+      refuses-the-others = refuses-the-others;
       stays-over = stays-over;
       example = server-example;
       changes-nothing = λ t. changes-nothing (serverStep t) Client reply.unsequenced (server-rests-or-moves t);

@@ -4,7 +4,7 @@ use mathlib.Core.List.{List, [], _∷_}
 use mathlib.Core.Bool.{true, false}
 use mathlib.Core.Path.{_≡_}
 use lib.ListN.{length}
-use Rattle.wire.specs.Refusals.{badSetting}
+use Rattle.wire.specs.Refusals.{badSetting, packetNotTaken, stateClosed}
 use Rattle.wire.specs.Words.{Words, answer, says, refuses}
 use Rattle.soupbintcp.specs.declared.packet.Sender.the-variants.{Client}
 use Rattle.soupbintcp.specs.Letters.{login}
@@ -134,6 +134,25 @@ pub record TakesTheOthers : Type 0 where
       → s .state ≡ Waiting → PlainInFront l Letters.debug size
       → serverStep t s l ≡ takes size (says debug []) s
 
+-- and what no row takes, with such a table: waiting refuses U, R and O by 31, in refuses L by 31, and closed refuses
+-- every packet by 32
+pub record RefusesTheOthers : Type 0 where
+  pub unsequenced-waiting : (t : List Account) (s : Server) (l : List ℕ) (size : ℕ) → length t ≤ mostAccounts
+      → s .state ≡ Waiting → PlainInFront l Letters.unsequenced size
+      → serverStep t s l ≡ stays s (refuses packetNotTaken)
+  pub heartbeat-waiting : (t : List Account) (s : Server) (l : List ℕ) (size : ℕ) → length t ≤ mostAccounts
+      → s .state ≡ Waiting → PlainInFront l Letters.client-heartbeat size
+      → serverStep t s l ≡ stays s (refuses packetNotTaken)
+  pub logout-waiting : (t : List Account) (s : Server) (l : List ℕ) (size : ℕ) → length t ≤ mostAccounts
+      → s .state ≡ Waiting → PlainInFront l Letters.logout size
+      → serverStep t s l ≡ stays s (refuses packetNotTaken)
+  pub login-in : (t : List Account) (s : Server) (l : List ℕ) (size n : ℕ) → length t ≤ mostAccounts
+      → s .state ≡ In → LoginInFront l size n
+      → serverStep t s l ≡ stays s (refuses packetNotTaken)
+  pub any-closed : (t : List Account) (s : Server) (l : List ℕ) (kind : Letters.PacketKind) (size : ℕ) (vs : List ℕ)
+      → length t ≤ mostAccounts → s .state ≡ Closed → frontOf Client l ≡ says (packet kind) (size ∷ vs)
+      → serverStep t s l ≡ stays s (refuses stateClosed)
+
 -- over a stream: the payloads of U in the packets taken are handed up, each once and in order, and, where the server
 -- wasn't in, none before an accepted login
 pub record HandsUpInOrder (s : Server) (r : Run Server) : Type 0 where
@@ -156,6 +175,7 @@ pub record ServerPromises : Type 0 where
   pub only-rejects : (t : List Account) (s : Server) (l : List ℕ)
       → serverStep t s l .reply .which ≡ answer rejected → Rejects t s l
   pub takes-the-others : TakesTheOthers
+  pub refuses-the-others : RefusesTheOthers
   -- closed, whatever comes
   pub stays-over : (t : List Account) (s : Server) (l : List ℕ) → s .state ≡ Closed
       → StaysOver Server s (serverStep t s l)
