@@ -1,19 +1,18 @@
--- What a scan of a table knows where it stands at a record: with none of those before it of the entry, the rest of the table says what the whole says.
+-- What a scan of a table knows where it stands at a record: with none of those before it of the entry, the rest of the table decides as the whole does.
 use Prim.Native.Nat.{ℕ, suc, _+_, _≤_, _<_}
 use native.Mathlib.Numerals.{add-one}
 use mathlib.Core.Path.{_≡_, refl, sym, _∙_, ap}
 use mathlib.Core.List.{List, []}
-use mathlib.Core.Bool.{not}
+use mathlib.Core.Bool.{Bool, true, false, not}
 use lib.Dec.{T}
 use lib.Ieee.Bits.{is-true, is-false}
 use lib.ListN.{length, getD, drop, drop-of-length-le}
 use lib.Seq.{drop-cons}
-use borrow.Author.Tests.{le-ltb, lt-ltb}
 use Rattle.wire.specs.Choice.{if_then_else_}
 use Rattle.login.specs.declared.account.Account.{Account}
-use Rattle.login.specs.declared.account.Verdict.{Verdict}
-use Rattle.login.specs.declared.account.Verdict.the-variants.{Unknown, TooMany}
-use Rattle.login.specs.Account.{isOf, hasPassword, mostAccounts, isKnown, verdictWords, verdictOf, lookupOf}
+use Rattle.login.specs.declared.account.Found.{Found}
+use Rattle.login.specs.Account.{soundAccount, isOf, mostAccounts, blankAccount, deciding, foundIn}
+use Rattle.login.proofs.FoundLaws.{found-many, found-unsound, found-sound}
 
 -- past the end, so that there is a record at every index
 abbrev pub noAccount : Account
@@ -22,30 +21,36 @@ noAccount = record { username = []; password = [] }
 abbrev pub recordAt : List Account → ℕ → Account
 recordAt t i = getD t i noAccount
 
+-- what is found
+abbrev pub found : Account → Bool → Found
+found a many = record { account = a; «too_many» = many }
+
+module _ (t : List Account) (e : Account) (r : Found) where
+  pub scan-many : mostAccounts < length t → r ≡ found blankAccount true → r ≡ foundIn t e
+  scan-many h f = f ∙ sym (found-many t e h)
+
+  pub scan-unsound : length t ≤ mostAccounts → T (not (soundAccount e)) → r ≡ found blankAccount false → r ≡ foundIn t e
+  scan-unsound h z f = f ∙ sym (found-unsound t e h (is-false (soundAccount e) z))
+
 module _ (t : List Account) (e : Account) where
-  pub scan-many : mostAccounts < length t → verdictWords TooMany ≡ lookupOf t e
-  unfolding lookupOf verdictWords
-  scan-many h = simp (lt-ltb _ _ h)
+  abbrev pub Undecided : ℕ → Type 0
+  Undecided i = deciding (drop i t) e ≡ deciding t e
 
-  scan-few : length t ≤ mostAccounts → lookupOf t e ≡ verdictOf (isKnown t e)
-  unfolding lookupOf
-  scan-few h = simp (le-ltb _ _ h)
+  at-record : (i : ℕ) → i < length t → deciding (drop i t) e ≡ (if isOf (recordAt t i) e then recordAt t i else deciding (drop (suc i) t) e)
+  unfolding deciding
+  at-record i l = ap (λ (u : List Account). deciding u e) (drop-cons t i noAccount l)
 
-  abbrev pub Known : ℕ → Type 0
-  Known i = isKnown (drop i t) e ≡ isKnown t e
+  module _ (few : length t ≤ mostAccounts) (good : soundAccount e ≡ true) (i : ℕ) (k : Undecided i) where
+    decided : (r : Found) (a : Account) → deciding (drop i t) e ≡ a → r ≡ found a false → r ≡ foundIn t e
+    decided r a d f = f ∙ ap (λ (x : Account). found x false) (sym d ∙ k) ∙ sym (found-sound t e few good)
 
-  at-record : (i : ℕ) → i < length t → isKnown (drop i t) e ≡ (if isOf (recordAt t i) e then hasPassword (recordAt t i) e else isKnown (drop (suc i) t) e)
-  unfolding isKnown
-  at-record i l = ap (λ (u : List Account). isKnown u e) (drop-cons t i noAccount l)
-
-  module _ (few : length t ≤ mostAccounts) (i : ℕ) (k : Known i) where
-    pub scan-over : length t ≤ i → verdictWords Unknown ≡ lookupOf t e
-    unfolding isKnown verdictWords verdictOf
-    scan-over l = rw (scan-few few, ← k, drop-of-length-le t l) refl
+    pub scan-over : (r : Found) → length t ≤ i → r ≡ found blankAccount false → r ≡ foundIn t e
+    unfolding deciding
+    scan-over r l f = decided r blankAccount (rw (drop-of-length-le t l) refl) f
 
     module _ (l : i < length t) where
-      pub scan-hit : (r : Verdict) → T (isOf (recordAt t i) e) → verdictWords r ≡ verdictOf (hasPassword (recordAt t i) e) → verdictWords r ≡ lookupOf t e
-      scan-hit r h f = rw (scan-few few, ← k, at-record i l, is-true (isOf (recordAt t i) e) h) f
+      pub scan-hit : (r : Found) → T (isOf (recordAt t i) e) → r ≡ found (recordAt t i) false → r ≡ foundIn t e
+      scan-hit r h f = decided r (recordAt t i) (rw (is-true (isOf (recordAt t i) e) h) at (at-record i l)) f
 
-      pub scan-miss : T (not (isOf (recordAt t i) e)) → Known (i + 1)
+      pub scan-miss : T (not (isOf (recordAt t i) e)) → Undecided (i + 1)
       scan-miss h = rw (add-one i) (sym (rw (is-false (isOf (recordAt t i) e) h) at (at-record i l)) ∙ k)

@@ -1,5 +1,5 @@
 -- Laws of account records: letters without case, two fields compared byte for byte, and what a record says of an entry.
-use mathlib.Core.Path.{_≡_, refl, ap}
+use mathlib.Core.Path.{_≡_, refl, ap, sym, _∙_}
 use mathlib.Core.List.{List, [], _∷_}
 use mathlib.Core.Bool.{Bool, true, false, _&&_}
 use Prim.Native.Nat.{ℕ, suc, _+_, _≤_, _<_}
@@ -8,18 +8,22 @@ use native.Mathlib.Numerals.{add-one}
 use lib.ListN.{length, drop, getD, drop-of-length-le}
 use lib.Seq.{drop-cons}
 use lib.Dec.{eqb}
-use borrow.Author.Tests.{le-ltb, lt-ltb, le-leb, lt-leb}
 use Rattle.wire.specs.Choice.{if_then_else_}
 use Rattle.wire.specs.Bytes.{sameBytes}
-use Rattle.wire.specs.Words.{Case, answer, refused, Injective}
 use Rattle.wire.proofs.Same.{same-length, false-or-true}
-use Rattle.wire.proofs.Words.{read-back}
 use Rattle.text_fields.specs.Sound.{soundUsername, soundPassword}
 use Rattle.text_fields.specs.Letters.{lower}
 use Rattle.login.specs.declared.account.Account.{Account}
-use Rattle.login.specs.declared.account.Verdict.{Verdict}
-use Rattle.login.specs.declared.account.Verdict.the-variants.{Known, Unknown, TooMany}
-use Rattle.login.specs.Account.{lowered, sameText, soundAccount, isOf, hasPassword, VerdictKind, known, unknown, verdictWords, VerdictsApart, verdictOf}
+use Rattle.login.specs.declared.account.Found.{Found}
+use Rattle.login.specs.Account.{lowered, sameText, soundAccount, isOf, hasPassword, isKnown}
+
+-- ---- what is found, made of a blank record
+
+abbrev found : Account → Bool → Found
+found a t = record { account = a; «too_many» = t }
+
+pub found-as : (a b : Account) (t : Bool) → a ≡ b → found a t ≡ found b t
+found-as a b t e = ap (λ (x : Account). found x t) e
 
 -- ---- two fields: of i bytes same tells whether they agree, and the bytes from i on decide the rest
 
@@ -86,13 +90,21 @@ module _ (a : Account) (t : Bool) where
   sound-not e f = rw (← e, f) refl
 
 module _ (a e : Account) (t : Bool) where
-  pub of-both : (r : Bool) → t ≡ soundAccount a → t ≡ true → r ≡ sameText (a .username) (e .username) → r ≡ isOf a e
+  pub of-both : (r : Bool) → t ≡ sameText (a .username) (e .username) → t ≡ true → r ≡ soundAccount a → r ≡ isOf a e
   unfolding isOf
-  of-both r f g h = rw (← f, g) h
+  of-both r f g h = go (soundAccount a) h
+    where
+      go : (x : Bool) → r ≡ x → r ≡ (if x then sameText (a .username) (e .username) else false)
+      go true i = i ∙ sym (sym f ∙ g)
+      go false i = i
 
-  pub of-not : t ≡ soundAccount a → t ≡ false → false ≡ isOf a e
+  pub of-not : t ≡ sameText (a .username) (e .username) → t ≡ false → false ≡ isOf a e
   unfolding isOf
-  of-not f g = rw (← f, g) refl
+  of-not f g = go (soundAccount a)
+    where
+      go : (x : Bool) → false ≡ (if x then sameText (a .username) (e .username) else false)
+      go true = sym (sym f ∙ g)
+      go false = refl
 
   pub password-both : (r : Bool) → t ≡ soundAccount e → t ≡ true → r ≡ sameText (a .password) (e .password) → r ≡ hasPassword a e
   unfolding hasPassword
@@ -102,30 +114,10 @@ module _ (a e : Account) (t : Bool) where
   unfolding hasPassword
   password-not f g = rw (← f, g) refl
 
-  pub compared-known : t ≡ hasPassword a e → t ≡ true → verdictWords Known ≡ verdictOf (hasPassword a e)
-  unfolding verdictWords verdictOf
-  compared-known f g = rw (← f, g) refl
+  pub known-both : (r : Bool) → t ≡ isOf a e → t ≡ true → r ≡ hasPassword a e → r ≡ isKnown (a ∷ []) e
+  unfolding isKnown
+  known-both r f g h = rw (← f, g) h
 
-  pub compared-unknown : t ≡ hasPassword a e → t ≡ false → verdictWords Unknown ≡ verdictOf (hasPassword a e)
-  unfolding verdictWords verdictOf
-  compared-unknown f g = rw (← f, g) refl
-
--- ---- the words of a verdict read back
-
-verdict-of : Case VerdictKind → Verdict
-verdict-of (answer known) = Known
-verdict-of (answer unknown) = Unknown
-verdict-of refused = TooMany
-
-verdicts-apart : Injective verdictWords
-unfolding verdictWords verdict-of
-verdicts-apart = read-back verdictWords (λ w. verdict-of (w .which)) back
-  where
-    back : (v : Verdict) → verdict-of (verdictWords v .which) ≡ v
-    back Known = refl
-    back Unknown = refl
-    back TooMany = refl
-
-pub verdicts : VerdictsApart
-unfolding VerdictsApart
-verdicts = verdicts-apart
+  pub known-not : t ≡ isOf a e → t ≡ false → false ≡ isKnown (a ∷ []) e
+  unfolding isKnown
+  known-not f g = rw (← f, g) refl

@@ -1,6 +1,6 @@
 -- Laws of the decision, as the code has it: the session asked for, the number, and each way through the rules.
 use mathlib.Core.Path.{_≡_, refl, sym, _∙_}
-use mathlib.Core.List.{List}
+use mathlib.Core.List.{List, [], _∷_}
 use mathlib.Core.Bool.{Bool, true, false, not}
 use Prim.Native.Nat.{ℕ, _+_, _-_, _≤_, _<_, max}
 use native.Mathlib.Omega.{arith}
@@ -12,13 +12,14 @@ use Rattle.wire.specs.Bounds.{blank}
 use Rattle.wire.specs.Bytes.{sameBytes}
 use Rattle.wire.specs.Words.{Case, answer, refused, Injective}
 use Rattle.wire.proofs.Words.{read-back}
-use Rattle.login.specs.declared.account.Verdict.{Verdict}
-use Rattle.login.specs.declared.account.Verdict.the-variants as verdict
+use Rattle.login.specs.declared.account.Account.{Account}
+use Rattle.login.specs.declared.account.Found.{Found}
 use Rattle.login.specs.declared.decision.Decision.{Decision}
 use Rattle.login.specs.declared.decision.Decision.the-variants.{Accepted, Rejected, Refused}
-use Rattle.login.specs.Account.{verdictWords}
+use Rattle.login.specs.Account.{isKnown, verdictOf, verdictOn}
 use Rattle.login.specs.Decision.{sessionHolds, numberHolds, granted, DecisionKind, accepted, rejected, decisionWords, decisionAt, decisionOf}
 use Rattle.login.specs.Statements.{DecisionsApart}
+use Rattle.login.proofs.FoundLaws.{says-19, says-known}
 
 -- ---- the session: l is what is asked for, m the server's, t what the comparison gave
 
@@ -58,38 +59,41 @@ module _ (wanted last : ℕ) where
   unfolding granted
   grant-last e h = let m : max 1 last ≡ last = omega arith in simp (eq-eqb _ _ e, m)
 
--- ---- the decision: v is what the table says, t the session rule, u the number rule
+-- ---- the decision: f is what was found for the entry e, k whether its record opens to it, t the session rule, u the number rule
 
-module _ (v : Verdict) (l m : List ℕ) (wanted last : ℕ) where
-  pub decide-refused : v ≡ verdict.TooMany → decisionWords (Refused (record { number = 19 })) ≡ decisionOf (verdictWords v) l wanted m last
-  unfolding decisionWords decisionAt verdictWords
-  decide-refused e = rw e refl
+module _ (f : Found) (e : Account) (l m : List ℕ) (wanted last : ℕ) where
+  pub decide-refused : f .«too_many» ≡ true → decisionWords (Refused (record { number = 19 })) ≡ decisionOf (verdictOn f e) l wanted m last
+  unfolding decisionWords decisionAt
+  decide-refused h = rw (says-19 f e h) refl
 
-  pub decide-unknown : v ≡ verdict.Unknown → decisionWords (Rejected 65) ≡ decisionOf (verdictWords v) l wanted m last
-  unfolding decisionWords decisionAt verdictWords
-  decide-unknown e = rw e refl
+  module _ (few : f .«too_many» ≡ false) (k : Bool) (is : k ≡ isKnown (f .account ∷ []) e) where
+    said : (b : Bool) → k ≡ b → verdictOn f e ≡ verdictOf b
+    said b h = says-known f e few ∙ rw (← is, h) refl
 
-  pub decide-session : (t : Bool) → v ≡ verdict.Known → t ≡ sessionHolds l m → not t ≡ true
-      → decisionWords (Rejected 83) ≡ decisionOf (verdictWords v) l wanted m last
-  unfolding decisionWords decisionAt verdictWords
-  decide-session t e f g = let s : sessionHolds l m ≡ false = sym f ∙ not-true t g in rw (e, s) refl
+    pub decide-unknown : not k ≡ true → decisionWords (Rejected 65) ≡ decisionOf (verdictOn f e) l wanted m last
+    unfolding decisionWords decisionAt verdictOf
+    decide-unknown h = rw (said false (not-true k h)) refl
 
-  pub decide-number : (t u : Bool) → v ≡ verdict.Known → t ≡ sessionHolds l m → not t ≡ false → u ≡ numberHolds wanted last → not u ≡ true
-      → decisionWords (Rejected 83) ≡ decisionOf (verdictWords v) l wanted m last
-  unfolding decisionWords decisionAt verdictWords
-  decide-number t u e f g h i =
-      let s : sessionHolds l m ≡ true = sym f ∙ not-false t g in
-      let n : numberHolds wanted last ≡ false = sym h ∙ not-true u i in
-      rw (e, s, n) refl
+    module _ (yes : not k ≡ false) (t : Bool) (holds : t ≡ sessionHolds l m) where
+      pub decide-session : not t ≡ true → decisionWords (Rejected 83) ≡ decisionOf (verdictOn f e) l wanted m last
+      unfolding decisionWords decisionAt verdictOf
+      decide-session g = let s : sessionHolds l m ≡ false = sym holds ∙ not-true t g in rw (said true (not-false k yes), s) refl
 
-  pub decide-accepted : (t u : Bool) (n : SequenceNumber) → v ≡ verdict.Known → t ≡ sessionHolds l m → not t ≡ false
-      → u ≡ numberHolds wanted last → not u ≡ false → n .0 ≡ granted wanted last
-      → decisionWords (Accepted n) ≡ decisionOf (verdictWords v) l wanted m last
-  unfolding decisionWords decisionAt verdictWords
-  decide-accepted t u n e f g h i j =
-      let s : sessionHolds l m ≡ true = sym f ∙ not-false t g in
-      let o : numberHolds wanted last ≡ true = sym h ∙ not-false u i in
-      rw (e, s, o, j) refl
+      pub decide-number : (u : Bool) → not t ≡ false → u ≡ numberHolds wanted last → not u ≡ true
+          → decisionWords (Rejected 83) ≡ decisionOf (verdictOn f e) l wanted m last
+      unfolding decisionWords decisionAt verdictOf
+      decide-number u g h i =
+          let s : sessionHolds l m ≡ true = sym holds ∙ not-false t g in
+          let n : numberHolds wanted last ≡ false = sym h ∙ not-true u i in
+          rw (said true (not-false k yes), s, n) refl
+
+      pub decide-accepted : (u : Bool) (n : SequenceNumber) → not t ≡ false → u ≡ numberHolds wanted last → not u ≡ false → n .0 ≡ granted wanted last
+          → decisionWords (Accepted n) ≡ decisionOf (verdictOn f e) l wanted m last
+      unfolding decisionWords decisionAt verdictOf
+      decide-accepted u n g h i j =
+          let s : sessionHolds l m ≡ true = sym holds ∙ not-false t g in
+          let o : numberHolds wanted last ≡ true = sym h ∙ not-false u i in
+          rw (said true (not-false k yes), s, o, j) refl
 
 -- ---- the words of a decision read back
 

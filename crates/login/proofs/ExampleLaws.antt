@@ -9,7 +9,7 @@ use Rattle.login.specs.Decision.{sessionHolds, numberHolds, granted, dec
 use Rattle.login.specs.Examples.{LoginExamples}
 use Rattle.login.specs.Promises.{LoginPromises}
 use Rattle.login.proofs.DecisionLaws.{decisions-apart}
-use Rattle.login.proofs.StatementLaws.{accepted-exactly-when, never-accepted}
+use Rattle.login.proofs.StatementLaws.{accepted-exactly-when, never-accepted, only-by-a-record}
 use Rattle.login.proofs.LockLaws.{wrong-locks}
 
 pub login-examples : LoginExamples
@@ -34,6 +34,7 @@ login-promises =
     record {
       accepted-exactly-when = accepted-exactly-when;
       never-accepted = never-accepted;
+      only-by-a-record = only-by-a-record;
       tells-apart = decisions-apart;
       examples = login-examples;
       wrong-locks = wrong-locks;

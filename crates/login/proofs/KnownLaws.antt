@@ -5,29 +5,42 @@ use mathlib.Core.Bool.{Bool, true, false}
 use Prim.Native.Nat.{ℕ, zero, suc, _<_}
 use native.Mathlib.Omega.{arith}
 use Rattle.wire.specs.Choice.{if_then_else_}
+use Rattle.text_fields.specs.Sound.{soundUsername, soundPassword}
+use Rattle.text_fields.proofs.SoundLaws.{sound-exactly-when}
 use Rattle.login.specs.declared.account.Account.{Account}
 use Rattle.login.specs.Account.{sameText, soundAccount, isOf, hasPassword, isKnown}
-use Rattle.login.specs.Statements.{SameText, recordAt, Named}
+use Rattle.login.specs.Statements.{SameText, recordAt, SoundAccount, Named}
 use Rattle.login.proofs.TextLaws.{both, text-so, text-same}
 
 -- ---- one record
 
+-- its test is the rule
+sound-so : (a : Account) → soundAccount a ≡ true → SoundAccount a
+unfolding soundAccount
+sound-so a h =
+    let s = both (soundUsername (a .username)) (soundPassword (a .password)) h in
+    record { username = sound-exactly-when .only-when 1 (a .username) (s .0); password = sound-exactly-when .only-when 1 (a .password) (s .1) }
+
+is-sound : (a : Account) → SoundAccount a → soundAccount a ≡ true
+unfolding soundAccount
+is-sound a s = rw (sound-exactly-when .when 1 (a .username) (s .username)) (sound-exactly-when .when 1 (a .password) (s .password))
+
 module _ (a e : Account) where
-  of-so : isOf a e ≡ true → (soundAccount a ≡ true) × (SameText (a .username) (e .username))
+  of-so : isOf a e ≡ true → SoundAccount a × (SameText (a .username) (e .username))
   unfolding isOf
-  of-so h = let s = both (soundAccount a) (sameText (a .username) (e .username)) h in (s .0, text-so (a .username) (e .username) (s .1))
+  of-so h = let s = both (soundAccount a) (sameText (a .username) (e .username)) h in (sound-so a (s .0), text-so (a .username) (e .username) (s .1))
 
-  is-of : soundAccount a ≡ true → SameText (a .username) (e .username) → isOf a e ≡ true
+  is-of : SoundAccount a → SameText (a .username) (e .username) → isOf a e ≡ true
   unfolding isOf
-  is-of h f = rw h (text-same (a .username) (e .username) f)
+  is-of h f = rw (is-sound a h) (text-same (a .username) (e .username) f)
 
-  password-so : hasPassword a e ≡ true → (soundAccount e ≡ true) × (SameText (a .password) (e .password))
+  password-so : hasPassword a e ≡ true → SoundAccount e × (SameText (a .password) (e .password))
   unfolding hasPassword
-  password-so h = let s = both (soundAccount e) (sameText (a .password) (e .password)) h in (s .0, text-so (a .password) (e .password) (s .1))
+  password-so h = let s = both (soundAccount e) (sameText (a .password) (e .password)) h in (sound-so e (s .0), text-so (a .password) (e .password) (s .1))
 
-  has-it : soundAccount e ≡ true → SameText (a .password) (e .password) → hasPassword a e ≡ true
+  has-it : SoundAccount e → SameText (a .password) (e .password) → hasPassword a e ≡ true
   unfolding hasPassword
-  has-it h f = rw h (text-same (a .password) (e .password) f)
+  has-it h f = rw (is-sound e h) (text-same (a .password) (e .password) f)
 
 -- ---- an unsound entry is never known
 
@@ -42,8 +55,8 @@ unsound-unknown (a ∷ t) e h = go (isOf a e) (unsound-unknown t e h)
 
 -- ---- a table
 
-pub record Found (t : List Account) (e : Account) : Type 0 where
-  pub entry-sound : soundAccount e ≡ true
+pub record KnownBy (t : List Account) (e : Account) : Type 0 where
+  pub entry-sound : SoundAccount e
   pub place : ℕ
   pub named : Named t e place
   pub first : (i : ℕ) → i < place → Named t e i → ⊥
@@ -62,7 +75,7 @@ module _ (a : Account) (t : List Account) (e : Account) where
   behind-named : (i : ℕ) → Named (a ∷ t) e (suc i) → Named t e i
   behind-named i n = record { there = let h = n .there in omega arith; sound = n .sound; username = n .username }
 
-  found-first : isOf a e ≡ true → hasPassword a e ≡ true → Found (a ∷ t) e
+  found-first : isOf a e ≡ true → hasPassword a e ≡ true → KnownBy (a ∷ t) e
   found-first h f =
       let s = password-so a e f in
       record {
@@ -77,7 +90,7 @@ module _ (a : Account) (t : List Account) (e : Account) where
   none-before k h f zero l n = let s = first-named n in let z : _≡_ {A = ℕ} 0 1 = cc in omega arith
   none-before k h f (suc i) l n = f i (omega arith) (behind-named i n)
 
-  found-behind : isOf a e ≡ false → Found t e → Found (a ∷ t) e
+  found-behind : isOf a e ≡ false → KnownBy t e → KnownBy (a ∷ t) e
   found-behind h f =
       record {
         entry-sound = f .entry-sound;
@@ -87,17 +100,17 @@ module _ (a : Account) (t : List Account) (e : Account) where
         password = f .password;
       }
 
-pub known-found : (t : List Account) (e : Account) → isKnown t e ≡ true → Found t e
+pub known-found : (t : List Account) (e : Account) → isKnown t e ≡ true → KnownBy t e
 unfolding isKnown
 known-found [] e h = let z : _≡_ {A = ℕ} 0 1 = cc in absurd (omega arith)
 known-found (a ∷ t) e h = go (isOf a e) refl (known-found t e) h
   where
-    go : (x : Bool) → isOf a e ≡ x → (isKnown t e ≡ true → Found t e) → if x then hasPassword a e else isKnown t e ≡ true → Found (a ∷ t) e
+    go : (x : Bool) → isOf a e ≡ x → (isKnown t e ≡ true → KnownBy t e) → if x then hasPassword a e else isKnown t e ≡ true → KnownBy (a ∷ t) e
     go true f g k = found-first a t e f k
     go false f g k = found-behind a t e f (g k)
 
 -- the record at this place decides
-decides : (t : List Account) (e : Account) → soundAccount e ≡ true → (k : ℕ) → Named t e k → ((i : ℕ) → i < k → Named t e i → ⊥)
+decides : (t : List Account) (e : Account) → SoundAccount e → (k : ℕ) → Named t e k → ((i : ℕ) → i < k → Named t e i → ⊥)
     → SameText (recordAt t k .password) (e .password) → isKnown t e ≡ true
 unfolding isKnown
 decides [] e s k n f p = let h = n .there in absurd (omega arith)
@@ -109,5 +122,5 @@ decides (a ∷ t) e s (suc k) n f p =
     go true h g = absurd (f 0 (omega arith) (named-first a t e h))
     go false h g = g
 
-pub found-known : (t : List Account) (e : Account) → Found t e → isKnown t e ≡ true
+pub found-known : (t : List Account) (e : Account) → KnownBy t e → isKnown t e ≡ true
 found-known t e f = decides t e (f .entry-sound) (f .place) (f .named) (f .first) (f .password)

@@ -1,4 +1,5 @@
 pub mod AccountLaws
+pub mod FoundLaws
 pub mod TableLaws
 pub mod DecisionLaws
 pub mod TextLaws

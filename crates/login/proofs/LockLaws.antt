@@ -3,7 +3,6 @@ use Prim.Native.Nat.{ℕ}
 use mathlib.Core.Path.{_≡_, refl, sym, _∙_}
 use native.Mathlib.Omega.{arith}
 use Rattle.wire.specs.Bytes.{sameBytes}
-use Rattle.wire.specs.Text.{ascii}
 use Rattle.wire.specs.Words.{answer}
 use Rattle.wire.proofs.Words.{which-of}
 use Rattle.soupbintcp.specs.Fields.{notAuthorized}
@@ -13,7 +12,7 @@ use Rattle.text_fields.specs.Sound.{wordLength, areSpaces, sound}
 use Rattle.login.specs.Account.{lowered, sameText, soundAccount, isOf, hasPassword, isKnown, verdictOf, lookupOf}
 use Rattle.login.specs.Decision.{accepted, rejected, rejects, sessionHolds, numberHolds, granted, decisionAt, Attempt, loginOf}
 use Rattle.login.specs.Statements.{Lock, NotRefused, Rules, LoginRules}
-use Rattle.login.specs.Locks.{letsEveryoneIn, letsNoOneIn, frontOf, sameFront, stopsEarly, stopsAtZeroOrSpace, annWith, tooShort, behindAZero, empty, WrongLocks}
+use Rattle.login.specs.Locks.{letsEveryoneIn, letsNoOneIn, frontOf, sameFront, stopsEarly, stopsAtZeroOrSpace, herOwn, tooShort, behindAZero, empty, WrongLocks}
 use Rattle.login.proofs.StatementLaws.{accepted-exactly-when}
 
 -- what ours rejects breaks the rules
@@ -39,9 +38,9 @@ unfolding sameBytes isDigit isLetterOrDigit wordLength areSpaces sound lower low
 wrong-locks =
     record {
       everyone = lets-in letsEveryoneIn tooShort (omega arith) refl refl;
-      no-one = keeps-out letsNoOneIn (annWith (ascii "cafe7")) (omega arith) refl refl;
+      no-one = keeps-out letsNoOneIn herOwn (omega arith) refl refl;
       stops-early = lets-in stopsAtZeroOrSpace tooShort (omega arith) refl refl;
-      her-own = accepted-exactly-when .rules .only-when (annWith (ascii "cafe7")) refl;
+      her-own = accepted-exactly-when .rules .only-when herOwn refl;
       too-short = breaks tooShort (omega arith) refl;
       behind-a-zero = breaks behindAZero (omega arith) refl;
       nothing = breaks empty (omega arith) refl;

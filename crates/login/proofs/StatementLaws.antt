@@ -4,7 +4,7 @@ use mathlib.Core.List.{List, [], _∷_}
 use mathlib.Core.Bool.{Bool, true, false, _&&_}
 use Prim.Native.Nat.{ℕ, zero, suc, _+_, _≤_, _<_, max}
 use native.Mathlib.Omega.{arith}
-use lib.ListN.{length, drop, getD, replicate}
+use lib.ListN.{length, drop, getD}
 use lib.Dec.{ltb, eqb}
 use borrow.Author.Tests.{le-ltb, lt-ltb, le-leb, leb-true, eqb-true, eqb-false}
 use Rattle.wire.specs.Choice.{if_then_else_}
@@ -18,10 +18,12 @@ use Rattle.soupbintcp.specs.Fields.{notAuthorized, sessionNotAvailable}
 use Rattle.decimal.specs.Decimal.{isDigit}
 use Rattle.text_fields.specs.Letters.{isLetterOrDigit, space}
 use Rattle.text_fields.specs.Sound.{wordLength, areSpaces, sound}
+use Rattle.text_fields.proofs.SoundLaws.{spaces-word}
 use Rattle.login.specs.declared.account.Account.{Account}
-use Rattle.login.specs.Account.{soundAccount, mostAccounts, isKnown, verdictOf, lookupOf}
-use Rattle.login.specs.Decision.{sessionHolds, numberHolds, granted, DecisionKind, accepted, decisionAt, rejects, Attempt, loginOf}
-use Rattle.login.specs.Statements.{AccountRule, SessionRule, asks-blank, asks-ours, NumberRule, NotRefused, Rules, LoginRules, AcceptedExactlyWhen, NoText, has-zero, all-spaces, NeverAccepted}
+use Rattle.login.specs.Account.{soundAccount, mostAccounts, isKnown, verdictOf, lookupOf, verdictOn}
+use Rattle.login.specs.Decision.{sessionHolds, numberHolds, granted, DecisionKind, accepted, decisionAt, decisionOf, rejects, Attempt, loginOf}
+use Rattle.login.specs.Statements.{AccountRule, SessionRule, asks-blank, asks-ours, NumberRule, NotRefused, Rules, LoginRules, AcceptedExactlyWhen, NoText, has-zero, all-spaces, NeverAccepted, attemptBy, ByItsRecord, OnlyByARecord}
+use Rattle.login.proofs.FoundLaws.{says-19, says-of-one}
 use Rattle.login.proofs.KnownLaws.{known-found, found-known, unsound-unknown}
 
 -- ---- the rules and their tests
@@ -159,12 +161,21 @@ accepted-exactly-when =
       up-to-next = up-to-next;
     }
 
--- ---- a sound field has a letter or digit in front, and no zero byte
+-- ---- whatever is said to be found, the rules hold with its record alone as the table
 
-blank-word : (k : ℕ) → wordLength (replicate k space) ≡ 0
-unfolding wordLength isLetterOrDigit isDigit
-blank-word zero = refl
-blank-word (suc k) = refl
+refused-out : refuses {K = DecisionKind} badSetting .which ≡ answer accepted → ⊥
+refused-out e = let z : _≡_ {A = ℕ} 0 1 = cc in omega arith
+
+pub only-by-a-record : OnlyByARecord
+unfolding OnlyByARecord decisionAt
+only-by-a-record f e asked wanted session last = go (f .«too_many») refl
+  where
+    go : (b : Bool) → f .«too_many» ≡ b → decisionOf (verdictOn f e) asked wanted session last .which ≡ answer accepted
+        → ByItsRecord f (attemptBy f e asked wanted session last)
+    go true h w = absurd (refused-out (rw (says-19 f e h) at w))
+    go false h w = record { not-too-many = h; rules = only-when (attemptBy f e asked wanted session last) (rw (says-of-one f e h) at w) }
+
+-- ---- a sound field has a letter or digit in front, and no zero byte
 
 spaces-no-zero : (l : List ℕ) (i : ℕ) → areSpaces l ≡ true → i < length l → getD l i 0 ≡ 0 → ⊥
 unfolding areSpaces
@@ -208,7 +219,7 @@ no-text l (has-zero i h z) = go (sound 1 l) refl
     go : (t : Bool) → sound 1 l ≡ t → t ≡ false
     go true e = absurd (no-zero l e i h z)
     go false e = refl
-no-text l (all-spaces k e) = rw (e, blank-word k) refl
+no-text l (all-spaces k e) = rw (e, spaces-word k) refl
 
 -- ---- an entry with such a field
 

@@ -5,16 +5,15 @@ use mathlib.Core.Bool.{Bool, true, false, not}
 use Prim.Native.Nat.{ℕ, zero, suc, _-_, _/_, _≤_, _<_}
 use native.Mathlib.Omega.{arith}
 use lib.ListN.{length, take, drop, length-drop}
-use borrow.Author.Tests.{le-ltb, lt-ltb, not-true}
+use borrow.Author.Tests.{lt-ltb, not-true, not-false}
 use Rattle.wire.proofs.Numbers.{part-to-end}
 use Rattle.wire.specs.Parts.{firstBytes}
 use Rattle.wire.proofs.PartLaws.{first-there}
 use Rattle.login.specs.declared.account.Account.{Account}
-use Rattle.login.specs.declared.account.Verdict.{Verdict}
-use Rattle.login.specs.declared.account.Verdict.the-variants.{Unknown, TooMany}
-use Rattle.login.specs.Account.{soundAccount, isOf, hasPassword, mostAccounts, isKnown, verdictWords, verdictOf, lookupOf}
+use Rattle.login.specs.declared.account.Found.{Found}
+use Rattle.login.specs.Account.{soundAccount, isOf, mostAccounts, blankAccount, deciding, foundIn}
 use Rattle.login.specs.Table.{accountSize, accountOf, accountsUpTo, accountsOf}
-use Rattle.login.proofs.KnownLaws.{unsound-unknown}
+use Rattle.login.proofs.FoundLaws.{found-unsound, found-sound}
 
 -- ---- the records of a table
 
@@ -51,48 +50,49 @@ module _ (l : List ℕ) where
 pub rest-less : (l : List ℕ) → 16 ≤ length l → length (take (length l - 16) (drop 16 l)) < length l
 rest-less l h = rw (part-to-end 16 l, length-drop 16 l) (omega arith)
 
--- ---- the lookup: l is the table, rest what is left of it
+-- ---- the lookup: l is the table, e the entry, rest what is left of the table, r what is found
 
 pub record LookedIn (l : List ℕ) (e : Account) (rest : List ℕ) : Type 0 where
   pub few : length l / 16 ≤ 1024
-  pub same : isKnown (accountsOf rest) e ≡ isKnown (accountsOf l) e
+  pub entry-sound : soundAccount e ≡ true
+  pub same : deciding (accountsOf rest) e ≡ deciding (accountsOf l) e
 
-lookup-few : (l : List ℕ) (e : Account) → length l / 16 ≤ 1024 → lookupOf (accountsOf l) e ≡ verdictOf (isKnown (accountsOf l) e)
-unfolding lookupOf
-lookup-few l e h =
-    let n : length (accountsOf l) ≤ mostAccounts = omega (arith, records-length l) in
-    simp (le-ltb _ _ n)
+few-records : (l : List ℕ) → length l / 16 ≤ 1024 → length (accountsOf l) ≤ mostAccounts
+few-records l h = omega (arith, records-length l)
 
 module _ (l : List ℕ) (e : Account) where
-  pub lookup-many : 1024 < length l / 16 → verdictWords TooMany ≡ lookupOf (accountsOf l) e
-  unfolding lookupOf verdictWords
-  lookup-many h =
+  pub lookup-many : (r : Found) → 1024 < length l / 16 → r ≡ record { account = blankAccount; «too_many» = true } → r ≡ foundIn (accountsOf l) e
+  unfolding foundIn
+  lookup-many r h f =
       let n : mostAccounts < length (accountsOf l) = omega (arith, records-length l) in
-      simp (lt-ltb _ _ n)
+      f ∙ rw (lt-ltb _ _ n) refl
 
-  pub lookup-unsound : (t : Bool) → length l / 16 ≤ 1024 → t ≡ soundAccount e → not t ≡ true → verdictWords Unknown ≡ lookupOf (accountsOf l) e
-  unfolding verdictWords verdictOf
-  lookup-unsound t h f g = rw (lookup-few l e h, unsound-unknown (accountsOf l) e (sym f ∙ not-true t g)) refl
+  pub lookup-unsound : (t : Bool) (r : Found) → length l / 16 ≤ 1024 → t ≡ soundAccount e → not t ≡ true
+      → r ≡ record { account = blankAccount; «too_many» = false } → r ≡ foundIn (accountsOf l) e
+  lookup-unsound t r h f g i = i ∙ sym (found-unsound (accountsOf l) e (few-records l h) (sym f ∙ not-true t g))
 
-  pub lookup-start : length l / 16 ≤ 1024 → LookedIn l e l
-  lookup-start h = record { few = h; same = refl }
+  pub lookup-start : (t : Bool) → length l / 16 ≤ 1024 → t ≡ soundAccount e → not t ≡ false → LookedIn l e l
+  lookup-start t h f g = record { few = h; entry-sound = sym f ∙ not-false t g; same = refl }
 
   module _ (rest : List ℕ) (s : LookedIn l e rest) where
-    pub lookup-decides : (a : Account) (t : Bool) (r : Verdict) → 16 ≤ length rest → a ≡ accountOf rest → t ≡ isOf a e → t ≡ true
-        → verdictWords r ≡ verdictOf (hasPassword a e) → verdictWords r ≡ lookupOf (accountsOf l) e
-    unfolding isKnown
-    lookup-decides a t r h f g i j =
-        let k : hasPassword a e ≡ isKnown (accountsOf l) e = rw (records-more rest h, ← f, ← g, i) at (s .same) in
-        rw (lookup-few l e (s .few), ← k) j
+    looked : (a : Account) (r : Found) → deciding (accountsOf rest) e ≡ a → r ≡ record { account = a; «too_many» = false } → r ≡ foundIn (accountsOf l) e
+    looked a r f g = g ∙ rw (← f, s .same) (sym (found-sound (accountsOf l) e (few-records l (s .few)) (s .entry-sound)))
+
+    pub lookup-decides : (a : Account) (t : Bool) (r : Found) → 16 ≤ length rest → a ≡ accountOf rest → t ≡ isOf a e → t ≡ true
+        → r ≡ record { account = a; «too_many» = false } → r ≡ foundIn (accountsOf l) e
+    unfolding deciding
+    lookup-decides a t r h f g i j = looked a r (rw (records-more rest h, ← f, ← g, i) refl) j
 
     pub lookup-again : (a : Account) (t : Bool) → 16 ≤ length rest → a ≡ accountOf rest → t ≡ isOf a e → t ≡ false
         → LookedIn l e (take (length rest - 16) (drop 16 rest))
-    unfolding isKnown
+    unfolding deciding
     lookup-again a t h f g i =
-        record { few = s .few; same = rw (part-to-end 16 rest) (rw (records-more rest h, ← f, ← g, i) at (s .same)) }
+        record {
+          few = s .few;
+          entry-sound = s .entry-sound;
+          same = rw (part-to-end 16 rest) (rw (records-more rest h, ← f, ← g, i) at (s .same));
+        }
 
-    pub lookup-end : length rest < 16 → verdictWords Unknown ≡ lookupOf (accountsOf l) e
-    unfolding verdictWords verdictOf isKnown
-    lookup-end h =
-        let k : false ≡ isKnown (accountsOf l) e = rw (records-none rest h) at (s .same) in
-        rw (lookup-few l e (s .few), ← k) refl
+    pub lookup-end : (r : Found) → length rest < 16 → r ≡ record { account = blankAccount; «too_many» = false } → r ≡ foundIn (accountsOf l) e
+    unfolding deciding
+    lookup-end r h f = looked blankAccount r (rw (records-none rest h) refl) f

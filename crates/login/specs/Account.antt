@@ -2,17 +2,16 @@
 use Prim.Native.Nat.{ℕ}
 use mathlib.Core.List.{List, [], _∷_}
 use mathlib.Core.Bool.{Bool, true, false}
-use lib.ListN.{length}
+use lib.ListN.{length, replicate}
 use lib.Dec.{ltb}
 use Rattle.wire.specs.Choice.{if_then_else_}
 use Rattle.wire.specs.Refusals.{badSetting}
 use Rattle.wire.specs.Bytes.{sameBytes}
-use Rattle.wire.specs.Words.{Words, says, refuses, Injective}
-use Rattle.text_fields.specs.Letters.{lower}
-use Rattle.text_fields.specs.Sound.{soundUsername, soundPassword}
+use Rattle.wire.specs.Words.{Words, says, refuses}
+use Rattle.text_fields.specs.Letters.{lower, space}
+use Rattle.text_fields.specs.Sound.{usernameSize, passwordSize, soundUsername, soundPassword}
 use Rattle.login.specs.declared.account.Account.{Account}
-use Rattle.login.specs.declared.account.Verdict.{Verdict}
-use Rattle.login.specs.declared.account.Verdict.the-variants.{Known, Unknown, TooMany}
+use Rattle.login.specs.declared.account.Found.{Found}
 
 -- ---- letters compare without case
 
@@ -54,14 +53,6 @@ isKnown (a ∷ t) e = if isOf a e then hasPassword a e else isKnown t e
 pub data VerdictKind : Type 0 where
   known unknown : VerdictKind
 
-unfoldable pub verdictWords : Verdict → Words VerdictKind
-verdictWords Known = says known []
-verdictWords Unknown = says unknown []
-verdictWords TooMany = refuses badSetting
-
-unfoldable pub VerdictsApart : Type 0
-VerdictsApart = Injective verdictWords
-
 unfoldable pub verdictOf : Bool → Words VerdictKind
 verdictOf true = says known []
 verdictOf false = says unknown []
@@ -69,3 +60,24 @@ verdictOf false = says unknown []
 -- 19 for a table of too many records
 unfoldable pub lookupOf : List Account → Account → Words VerdictKind
 lookupOf t e = if ltb mostAccounts (length t) then refuses badSetting else verdictOf (isKnown t e)
+
+-- ---- what a lookup finds
+
+-- a record of spaces alone, which is of nobody
+abbrev pub blankAccount : Account
+blankAccount = record { username = replicate usernameSize space; password = replicate passwordSize space }
+
+-- the record that decides on an entry: the first sound one with its username; a blank one where there is none
+unfoldable pub deciding : List Account → Account → Account
+deciding [] e = blankAccount
+deciding (a ∷ t) e = if isOf a e then a else deciding t e
+
+-- nothing in a table of too many records, and for an unsound entry it looks at none
+unfoldable pub foundIn : List Account → Account → Found
+foundIn t e =
+    if ltb mostAccounts (length t) then record { account = blankAccount; «too_many» = true }
+    else record { account = if soundAccount e then deciding t e else blankAccount; «too_many» = false }
+
+-- what a record that was found says of an entry: a made-up one is no more than a table of one
+unfoldable pub verdictOn : Found → Account → Words VerdictKind
+verdictOn f e = if f .«too_many» then refuses badSetting else lookupOf (f .account ∷ []) e

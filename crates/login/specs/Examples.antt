@@ -19,16 +19,16 @@ filled size text = text ++ replicate (size - length text) space
 abbrev pub account : List ℕ → List ℕ → Account
 account username password = record { username = filled usernameSize username; password = filled passwordSize password }
 
--- `ann` with the password `pw1`, in small letters and in capitals; with another password; and with none, which isn't
+-- `ann` with the password `cafe7`, in small letters and in capitals; with another password; and with none, which isn't
 -- sound
 abbrev pub ann : Account
-ann = account (ascii "ann") (ascii "pw1")
+ann = account (ascii "ann") (ascii "cafe7")
 
 abbrev pub ANN : Account
-ANN = account (ascii "ANN") (ascii "PW1")
+ANN = account (ascii "ANN") (ascii "CAFE7")
 
 abbrev pub annOther : Account
-annOther = account (ascii "ann") (ascii "pw2")
+annOther = account (ascii "ann") (ascii "cafe8")
 
 abbrev pub annNone : Account
 annNone = account (ascii "ann") []

@@ -14,7 +14,7 @@ use Rattle.login.specs.declared.account.Account.{Account}
 use Rattle.login.specs.Account.{sameText}
 use Rattle.login.specs.Decision.{accepted, granted, rejects, Attempt}
 use Rattle.login.specs.Statements.{Lock, Rules, LoginRules}
-use Rattle.login.specs.Examples.{account, attempts}
+use Rattle.login.specs.Examples.{account, ann, attempts}
 
 -- ---- wrong locks
 
@@ -46,12 +46,15 @@ abbrev pub stopsAtZeroOrSpace : Lock
 stopsAtZeroOrSpace x =
     if stopsEarly (x .table) (x .entry) then letsEveryoneIn x else letsNoOneIn x
 
--- ---- `ann`, whose password is `cafe7`, and entries for her
+-- ---- entries for `ann`, whose password is `cafe7`
 
 -- what this password opens, where the session and the number are good
 abbrev pub annWith : List ℕ → Attempt
-annWith password =
-    attempts (account (ascii "ann") (ascii "cafe7") ∷ []) (account (ascii "ann") password) readroom 3
+annWith password = attempts (ann ∷ []) (account (ascii "ann") password) readroom 3
+
+-- her own entry
+abbrev pub herOwn : Attempt
+herOwn = attempts (ann ∷ []) ann readroom 3
 
 -- a front of the password; the whole of it, a zero byte and an `x`; and nothing
 abbrev pub tooShort : Attempt
@@ -68,7 +71,7 @@ pub record WrongLocks : Type 0 where
   pub everyone : LoginRules letsEveryoneIn → ⊥
   pub no-one : LoginRules letsNoOneIn → ⊥
   pub stops-early : LoginRules stopsAtZeroOrSpace → ⊥
-  pub her-own : Rules (annWith (ascii "cafe7"))
+  pub her-own : Rules herOwn
   pub too-short : Rules tooShort → ⊥
   pub behind-a-zero : Rules behindAZero → ⊥
   pub nothing : Rules empty → ⊥

@@ -1,7 +1,7 @@
 -- A login is accepted exactly when the account, session and number rules hold.
 use Prim.Native.Nat.{ℕ, _+_, _<_, _≤_}
 use mathlib.Core.List.{List, [], _∷_}
-use mathlib.Core.Bool.{true}
+use mathlib.Core.Bool.{false}
 use mathlib.Core.Path.{_≡_}
 use lib.ListN.{length, getD, replicate}
 use Rattle.wire.specs.Bounds.{leastNumber, blank}
@@ -9,10 +9,13 @@ use Rattle.wire.specs.Refusals.{badSetting}
 use Rattle.wire.specs.Words.{Words, answer, says, refuses, Injective}
 use Rattle.wire.specs.Text.{letter}
 use Rattle.text_fields.specs.Letters.{space, toSmall}
+use Rattle.text_fields.specs.Sound.{Sound, leastUsername, leastPassword}
 use Rattle.soupbintcp.specs.Fields.{notAuthorized, sessionNotAvailable}
 use Rattle.login.specs.declared.account.Account.{Account}
-use Rattle.login.specs.Account.{soundAccount, mostAccounts}
-use Rattle.login.specs.Decision.{DecisionKind, accepted, granted, decisionWords, rejects, Attempt, loginOf}
+use Rattle.login.specs.declared.account.Found.{Found}
+use Rattle.login.specs.Account.{mostAccounts, lookupOf, foundIn, verdictOn}
+use Rattle.login.specs.Decision.{DecisionKind, accepted, granted, decisionWords, decisionOf, rejects}
+use Rattle.login.specs.Decision.{Attempt, loginOf}
 
 -- ---- the rules, as document 01 says them
 
@@ -34,15 +37,20 @@ pub record SameText (a b : List ℕ) : Type 0 where
   pub size : length a ≡ length b
   pub each : (i : ℕ) → i < length a → SameLetter (getD a i 0) (getD b i 0)
 
+-- both fields of a record, or of an entry, are sound
+pub record SoundAccount (a : Account) : Type 0 where
+  pub username : Sound leastUsername (a .username)
+  pub password : Sound leastPassword (a .password)
+
 -- the record at this place is sound and has the entry's username
 pub record Named (t : List Account) (e : Account) (i : ℕ) : Type 0 where
   pub there : i < length t
-  pub sound : soundAccount (recordAt t i) ≡ true
+  pub sound : SoundAccount (recordAt t i)
   pub username : SameText (recordAt t i .username) (e .username)
 
 -- the account rule: the entry is sound, and the first sound record with its username has its password
 pub record AccountRule (x : Attempt) : Type 0 where
-  pub entry-sound : soundAccount (x .entry) ≡ true
+  pub entry-sound : SoundAccount (x .entry)
   pub place : ℕ
   pub named : Named (x .table) (x .entry) place
   pub first : (i : ℕ) → i < place → Named (x .table) (x .entry) i → ⊥
@@ -96,6 +104,25 @@ pub data NoText (l : List ℕ) : Type 0 where
 pub record NeverAccepted : Type 0 where
   pub username : (x : Attempt) → NotRefused x → NoText (x .entry .username) → loginOf x ≡ rejects notAuthorized
   pub password : (x : Attempt) → NotRefused x → NoText (x .entry .password) → loginOf x ≡ rejects notAuthorized
+
+-- what was found for an entry says of it what the whole table says
+unfoldable pub FoundDecides : Type 0
+FoundDecides = (t : List Account) (e : Account) → verdictOn (foundIn t e) e ≡ lookupOf t e
+
+-- the attempt at a table of one record, the one that is said to be found
+abbrev pub attemptBy : Found → Account → List ℕ → ℕ → List ℕ → ℕ → Attempt
+attemptBy f e asked wanted session last =
+    record { table = f .account ∷ []; entry = e; asked = asked; wanted = wanted; session = session; last = last }
+
+-- whatever is said to be found, who is let in has its record's username and password, and meets the other rules
+pub record ByItsRecord (f : Found) (x : Attempt) : Type 0 where
+  pub not-too-many : f .«too_many» ≡ false
+  pub rules : Rules x
+
+unfoldable pub OnlyByARecord : Type 0
+OnlyByARecord = (f : Found) (e : Account) (asked : List ℕ) (wanted : ℕ) (session : List ℕ) (last : ℕ)
+    → decisionOf (verdictOn f e) asked wanted session last .which ≡ answer accepted
+    → ByItsRecord f (attemptBy f e asked wanted session last)
 
 -- the words tell all decisions apart
 unfoldable pub DecisionsApart : Type 0

@@ -4,8 +4,9 @@ use text_fields::sound;
 use text_fields::sound::PASSWORD_SIZE;
 use text_fields::sound::USERNAME_SIZE;
 ghost use mathlib.Core.Path.{_≡_};
-ghost use Rattle.login.specs.Account.{sameText, soundAccount, isOf, hasPassword, verdictWords, verdictOf};
-ghost use Rattle.login.specs.Account.{VerdictsApart};
+ghost use mathlib.Core.Bool.{true, false};
+ghost use mathlib.Core.List.{[], _∷_};
+ghost use Rattle.login.specs.Account.{sameText, soundAccount, isOf, hasPassword, isKnown, blankAccount};
 
 pub struct Account {
     pub username: [u8; USERNAME_SIZE],
@@ -15,13 +16,56 @@ pub struct Account {
 // The most records of a table.
 pub const MOST_ACCOUNTS: usize = 1024;
 
-// What a table says of an entry.
-pub enum Verdict {
-    // The record that decides has its password.
-    Known,
-    Unknown,
+const SPACE: u8 = b' ';
+
+// What a lookup finds. Whoever made it up, it lets no one in but an entry with this record's username and password.
+pub struct Found {
+    // The record that decides; a blank one, which is of nobody, where there is none.
+    pub account: Account,
     // The table has too many records: 19.
-    TooMany,
+    pub too_many: bool,
+}
+
+impl Found {
+    // The record that decides.
+    pub fn decided_by(account: Account) -> Found
+        ensures { λ r. ⌜ r ≡ record { account = account; «too_many» = false } ⌝ }
+    {
+        Found {
+            account,
+            too_many: false,
+        }
+    }
+
+    // No record decides.
+    pub fn nobody() -> Found
+        ensures { λ r. ⌜ r ≡ record { account = blankAccount; «too_many» = false } ⌝ }
+    {
+        Found {
+            account: blank(),
+            too_many: false,
+        }
+    }
+
+    // A table of too many records.
+    pub fn in_too_many() -> Found
+        ensures { λ r. ⌜ r ≡ record { account = blankAccount; «too_many» = true } ⌝ }
+    {
+        Found {
+            account: blank(),
+            too_many: true,
+        }
+    }
+}
+
+// A record of spaces alone.
+fn blank() -> Account
+    ensures { λ r. ⌜ r ≡ blankAccount ⌝ }
+{
+    Account {
+        username: [SPACE; USERNAME_SIZE],
+        password: [SPACE; PASSWORD_SIZE],
+    }
 }
 
 // Whether two fields have the same text. Every byte is compared, so that neither a zero, a space nor a difference
@@ -56,14 +100,15 @@ pub fn is_sound(account: Account) -> bool
     }
 }
 
-// Whether a record is sound and has the entry's username: the first such record of a table decides.
+// Whether a record is sound and has the entry's username: the first such record of a table decides. Few records have
+// the username, so it is looked at first.
 pub fn is_of(account: Account, entry: Account) -> bool
     ensures { λ r. ⌜ r ≡ isOf account entry ⌝ }
 {
     let a = account.username;
     let b = entry.username;
-    if is_sound(account) {
-        is_same(&a, &b)
+    if is_same(&a, &b) {
+        is_sound(account)
     } else {
         false
     }
@@ -82,14 +127,13 @@ fn has_password(account: Account, entry: Account) -> bool
     }
 }
 
-// What the record that decides says.
-pub fn compared(account: Account, entry: Account) -> Verdict
-    ensures { λ r. ⌜ verdictWords r ≡ verdictOf (hasPassword account entry) ⌝ }
-    ensures tells_apart { λ _. ⌜ VerdictsApart ⌝ }
+// Whether a record opens the door to an entry: it is of the entry, and has its password.
+pub fn is_known(account: Account, entry: Account) -> bool
+    ensures { λ r. ⌜ r ≡ isKnown (account ∷ []) entry ⌝ }
 {
-    if has_password(account, entry) {
-        Verdict::Known
+    if is_of(account, entry) {
+        has_password(account, entry)
     } else {
-        Verdict::Unknown
+        false
     }
 }

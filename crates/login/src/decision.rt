@@ -1,6 +1,8 @@
-// The decision on a login, from what the table says of its entry, the session and number that it asks for, and the
-// server's session and last number.
-use crate::account::Verdict;
+// The decision on a login, from its entry and the record that was found for it, the session and number that it asks
+// for, and the server's session and last number.
+use crate::account;
+use crate::account::Account;
+use crate::account::Found;
 use soupbintcp::packet;
 use wire::compare;
 use wire::kinds;
@@ -9,7 +11,7 @@ use wire::kinds::SequenceNumber;
 use wire::refusal;
 use wire::refusal::Refusal;
 ghost use mathlib.Core.Path.{_≡_};
-ghost use Rattle.login.specs.Account.{verdictWords};
+ghost use Rattle.login.specs.Account.{verdictOn};
 ghost use Rattle.login.specs.Decision.{sessionHolds, numberHolds, granted, decisionWords, decisionOf};
 ghost use Rattle.login.specs.Promises.{LoginPromises};
 
@@ -57,37 +59,40 @@ fn grant(wanted: SequenceNumber, last: SequenceNumber) -> SequenceNumber
     last
 }
 
-// The decision: the account, then the session, then the number.
+// The decision: the account, then the session, then the number. The record is compared with the entry here, so that no
+// caller's word for it is needed.
 pub fn decide(
-    verdict: Verdict,
+    found: Found,
+    entry: Account,
     asked: &[u8],
     wanted: SequenceNumber,
     session: [u8; SESSION_SIZE],
     last: SequenceNumber,
 ) -> Decision
-    ensures { λ r. ⌜ decisionWords r ≡ decisionOf (verdictWords verdict) (now (asked .entry)) (wanted .0)
+    ensures { λ r. ⌜ decisionWords r ≡ decisionOf (verdictOn found entry) (now (asked .entry)) (wanted .0)
         session (last .0) ⌝ }
     ensures promises { λ _. ⌜ LoginPromises ⌝ }
 {
-    match verdict {
-        Verdict::Known => {
-            if !session_holds(asked, session) {
-                return Decision::Rejected {
-                    reason: packet::SESSION_NOT_AVAILABLE,
-                };
-            }
-            if !number_holds(wanted, last) {
-                return Decision::Rejected {
-                    reason: packet::SESSION_NOT_AVAILABLE,
-                };
-            }
-            Decision::Accepted {
-                number: grant(wanted, last),
-            }
-        }
-        Verdict::Unknown => Decision::Rejected {
+    if found.too_many {
+        return Decision::Refused(refusal::BAD_SETTING);
+    }
+    let account = found.account;
+    if !account::is_known(account, entry) {
+        return Decision::Rejected {
             reason: packet::NOT_AUTHORIZED,
-        },
-        Verdict::TooMany => Decision::Refused(refusal::BAD_SETTING),
+        };
+    }
+    if !session_holds(asked, session) {
+        return Decision::Rejected {
+            reason: packet::SESSION_NOT_AVAILABLE,
+        };
+    }
+    if !number_holds(wanted, last) {
+        return Decision::Rejected {
+            reason: packet::SESSION_NOT_AVAILABLE,
+        };
+    }
+    Decision::Accepted {
+        number: grant(wanted, last),
     }
 }

@@ -1,16 +1,17 @@
 // The lookup in a table that is lent as bytes, 16 to a record: username, then password. Bytes left over are no record.
 use crate::account;
 use crate::account::Account;
+use crate::account::Found;
 use crate::account::MOST_ACCOUNTS;
-use crate::account::Verdict;
 use text_fields::sound::PASSWORD_SIZE;
 use text_fields::sound::USERNAME_SIZE;
 use wire::parts;
 ghost use mathlib.Core.Path.{_≡_};
 ghost use Prim.Native.Nat.{_≤_};
 ghost use lib.ListN.{length};
-ghost use Rattle.login.specs.Account.{verdictWords, lookupOf};
+ghost use Rattle.login.specs.Account.{foundIn};
 ghost use Rattle.login.specs.Table.{accountSize, accountOf, accountsOf};
+ghost use Rattle.login.specs.Statements.{FoundDecides};
 
 // Bytes of a record.
 pub const RECORD_SIZE: usize = USERNAME_SIZE + PASSWORD_SIZE;
@@ -26,23 +27,25 @@ fn first(table: &[u8]) -> Account
     }
 }
 
-// What a table says of an entry: the first sound record with its username decides. An unsound entry is not looked for.
-pub fn lookup(table: &[u8], entry: Account) -> Verdict
-    ensures { λ r. ⌜ verdictWords r ≡ lookupOf (accountsOf (now (table .entry))) entry ⌝ }
+// The record of a table that decides on an entry: the first sound one with its username. An unsound entry is not looked
+// for.
+pub fn lookup(table: &[u8], entry: Account) -> Found
+    ensures { λ r. ⌜ r ≡ foundIn (accountsOf (now (table .entry))) entry ⌝ }
+    ensures decides { λ _. ⌜ FoundDecides ⌝ }
 {
     if MOST_ACCOUNTS < table.len() / RECORD_SIZE {
-        return Verdict::TooMany;
+        return Found::in_too_many();
     }
     if !account::is_sound(entry) {
-        return Verdict::Unknown;
+        return Found::nobody();
     }
     let mut rest = table;
     while RECORD_SIZE <= rest.len() {
         let account = first(rest);
         if account::is_of(account, entry) {
-            return account::compared(account, entry);
+            return Found::decided_by(account);
         }
         rest = &rest[RECORD_SIZE..];
     }
-    Verdict::Unknown
+    Found::nobody()
 }

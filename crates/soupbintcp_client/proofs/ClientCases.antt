@@ -1,5 +1,5 @@
 -- What a client's step does, by its cases: c is the client, l the stream, k and vs the size and the values of the packet in front.
-use mathlib.Core.Path.{_≡_, refl}
+use mathlib.Core.Path.{_≡_, refl, ap}
 use mathlib.Core.List.{List, [], _∷_, _++_}
 use mathlib.Core.Bool.{true}
 use Prim.Native.Nat.{ℕ, suc, _+_, _-_}
@@ -19,7 +19,8 @@ use Rattle.soupbintcp.proofs.LetterLaws.{choice}
 use Rattle.soupbintcp.proofs.KindLaws.{its-letter}
 use Rattle.soupbintcp.proofs.ScanLaws.{FrontIs, stops-short, stops-at, passes, front-is}
 use Rattle.soupbintcp_session.specs.Answer.{incoming, SessionAnswerKind, wants-more, accepted, rejected, sequenced, heartbeat, debug, end-of-session, answerMessageAt, StepOutcome, stays, takes}
-use Rattle.soupbintcp_session.proofs.FrontCases.{apart, InFront, front-stays, session-stays, Plain, a-rejection, a-heartbeat, a-debug, an-end, plain-takes, accepted-takes, sequenced-takes, plain-not-sequenced}
+use Rattle.soupbintcp_session.specs.Statements.{StepStable}
+use Rattle.soupbintcp_session.proofs.FrontCases.{apart, InFront, no-more, at-fault, front-stays, session-stays, Plain, a-rejection, a-heartbeat, a-debug, an-end, plain-takes, accepted-takes, sequenced-takes, plain-not-sequenced}
 use Rattle.soupbintcp_session.proofs.StepLaws.{Rests, waits, refusing, Does}
 use Rattle.soupbintcp_session.proofs.StepLaws as does
 use Rattle.soupbintcp_session.proofs.RunLaws.{Steady}
@@ -101,7 +102,7 @@ module _ (c : Client) (l : List ℕ) (k : ℕ) (vs : List ℕ) (i : InFront Serv
 -- ---- the step by the front
 
 module _ (c : Client) (l : List ℕ) where
-  short-rests : frontOf Server l ≡ says front.wants-more [] → clientStep c l ≡ stays c (says wants-more [])
+  pub short-rests : frontOf Server l ≡ says front.wants-more [] → clientStep c l ≡ stays c (says wants-more [])
   unfolding clientStep frontRowAt
   short-rests e = rw e refl
 
@@ -142,16 +143,25 @@ client-moves c l o (goes-by k vs w t i a b p q e) =
 pub client-rests-or-moves : (c : Client) (l : List ℕ) → Does c l Server sequenced (clientStep c l)
 client-rests-or-moves c l = client-moves c l (clientStep c l) (client-does c l)
 
-step-stays : (c : Client) (l m : List ℕ) (k : ℕ) (vs : List ℕ) → InFront Server l k vs → clientStep c (l ++ m) ≡ clientStep c l
+step-stays : (c : Client) (l m : List ℕ) → (frontOf Server l .which ≡ answer front.wants-more → ⊥) → clientStep c (l ++ m) ≡ clientStep c l
 unfolding clientStep
-step-stays c l m k vs i = rw (front-stays Server l m k vs i, session-stays Server l m k vs i) refl
+step-stays c l m z = rw (front-stays Server l m z, session-stays Server l m z) refl
+
+-- a step that isn't need more gives the same on a longer stream
+pub client-stable : StepStable Client clientStep
+client-stable c l m z = go (front-is Server l)
+  where
+    go : FrontIs Server l → clientStep c (l ++ m) ≡ clientStep c l
+    go (stops-short e) = absurd (z (ap (λ (o : StepOutcome Client). o .reply .which) (short-rests c l e)))
+    go (stops-at r e) = step-stays c l m (at-fault Server l r e)
+    go (passes p k vs e a b) = step-stays c l m (no-more Server l k vs (record { kind = p; front = e; some = a; within = b }))
 
 client-keeps : (c : Client) (l m : List ℕ) (k : ℕ) → clientStep c l .size ≡ suc k → clientStep c (l ++ m) ≡ clientStep c l
 client-keeps c l m k e = go (client-rests-or-moves c l)
   where
     go : Does c l Server sequenced (clientStep c l) → clientStep c (l ++ m) ≡ clientStep c l
     go (does.rests w n f) = let z : 0 ≡ suc k = rw f at e in absurd (omega arith)
-    go (does.moves n vs w t i y x f) = step-stays c l m n vs i
+    go (does.moves n vs w t i y x f) = step-stays c l m (no-more Server l n vs i)
 
 pub client-steady : Steady Client clientStep
 client-steady =
@@ -159,4 +169,5 @@ client-steady =
       fits = λ c l. does.takes-what-is-there (client-rests-or-moves c l);
       keeps = client-keeps;
       silent = λ c l. does.rests-by (client-rests-or-moves c l);
+      idle = λ c l. does.takes-none (client-rests-or-moves c l);
     }

@@ -18,4 +18,4 @@ use Rattle.soupbintcp_client.specs.Examples.{ClientExample}
 
 pub client-example : ClientExample
 unfolding number sameBytes firstBytes isDigit areDigits valueFrom isLetterOrDigit areLettersOrDigits leadingSpaces goodSession isNumber readNumber letterFor letterRow sends allows plainOf packetLength letterOf headOf hasFields sessionAt sessionBytes numberBytes blankAllowed leastNumberOf numberedOf numberFields withNumber fieldsAt fieldsOf frontPacket frontAt frontOf packetAt packetBytes sessionOf answerMessageAt sessionAsked numberAsked acceptedRow sequencedRow askedRow inRow rowAt frontRowAt clientStep runAt runUpTo run numberedFrom isSequenced handedUp clientStartRefusal startClient
-client-example = record { hands-up = refl; ends = refl; leaves = refl }
+client-example = record { hands-up = refl; ends = refl; leaves = refl; why = refl }

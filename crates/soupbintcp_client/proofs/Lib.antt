@@ -1,7 +1,9 @@
 pub mod ClientLaws
 pub mod AcceptedLaws
 pub mod ClientCases
+pub mod RowLaws
 pub mod OrderLaws
+pub mod WholeLaws
 pub mod ExampleLaws
 pub mod StatementLaws
 pub mod Rules

@@ -28,11 +28,11 @@ use Rattle.soupbintcp_client.proofs.ClientCases.{ClientDoes, rests, log
 -- ---- one more packet p before ps
 
 module _ (p : List ℕ) (ps : List (List ℕ)) where
-  one-S : letterOf p ≡ 83 → sequencedIn (p ∷ ps) ≡ drop 3 p ∷ sequencedIn ps
+  pub one-S : letterOf p ≡ 83 → sequencedIn (p ∷ ps) ≡ drop 3 p ∷ sequencedIn ps
   unfolding sequencedIn
   one-S e = rw e refl
 
-  no-S : (letterOf p ≡ 83 → ⊥) → sequencedIn (p ∷ ps) ≡ sequencedIn ps
+  pub no-S : (letterOf p ≡ 83 → ⊥) → sequencedIn (p ∷ ps) ≡ sequencedIn ps
   unfolding sequencedIn
   no-S e = rw (ne-eqb _ _ e) refl
 
@@ -54,12 +54,12 @@ plain-quiet w a-logout = refl
 plain-quiet w an-end = refl
 
 -- a step that hands up nothing
-handed-none : (b : List ℕ) (w : Words SessionAnswerKind) (xs : List Taking) → isSequenced (w .which) ≡ false → handedUp (record { bytes = b; reply = w } ∷ xs) ≡ handedUp xs
+pub handed-none : (b : List ℕ) (w : Words SessionAnswerKind) (xs : List Taking) → isSequenced (w .which) ≡ false → handedUp (record { bytes = b; reply = w } ∷ xs) ≡ handedUp xs
 unfolding handedUp
 handed-none b w xs e = rw e refl
 
 -- a step that hands up what stands behind the head
-handed-one : (b : List ℕ) (n k : ℕ) (xs : List Taking) → length b ≡ k
+pub handed-one : (b : List ℕ) (n k : ℕ) (xs : List Taking) → length b ≡ k
     → handedUp (record { bytes = b; reply = says sequenced (n ∷ 3 ∷ (k - 3) ∷ []) } ∷ xs) ≡ record { number = n; message = drop 3 b } ∷ handedUp xs
 unfolding handedUp isSequenced answerMessageAt
 handed-one b n k xs e =
@@ -77,9 +77,9 @@ record Ordered (c : Client) (l : List ℕ) (r : Run Client) : Type 0 where
   counted : r .after .number .0 ≡ grantedIn (c .number .0) (packets r) + length (sequencedIn (packets r))
   no-login : (c .state ≡ Asked → ⊥) → (n : ℕ) → grantedIn n (packets r) ≡ n
 
-stops-ordered : (c : Client) (l : List ℕ) → Ordered c l (stopped c l)
+stops-ordered : (c : Client) (l : List ℕ) (w : Words SessionAnswerKind) → Ordered c l (stopped c l w)
 unfolding handedUp packetsOf sequencedIn grantedIn numberedFrom
-stops-ordered c l = record { in-order = refl; counted = omega arith; no-login = λ z n. refl }
+stops-ordered c l w = record { in-order = refl; counted = omega arith; no-login = λ z n. refl }
 
 -- the packet taken has the letter of the stream, and its size
 module _ (l : List ℕ) (k : ℕ) (vs : List ℕ) (i : InFront Server l k vs) where
@@ -156,7 +156,7 @@ module _ (c : Client) (l : List ℕ) (k : ℕ) (r : Run Client) where
 
 ordered : (c : Client) (l : List ℕ) → Ordered c l (run clientStep c l)
 ordered =
-    runs clientStep client-steady Ordered (λ c l e. stops-ordered c l) (λ c l k r e h o. by-step c l k r (clientStep c l) (client-does c l) e o)
+    runs clientStep client-steady Ordered (λ c l e. stops-ordered c l (clientStep c l .reply)) (λ c l k r e h o. by-step c l k r (clientStep c l) (client-does c l) e o)
 
 pub hands-up-in-order : (c : Client) (l : List ℕ) → HandsUpInOrder c (run clientStep c l)
 hands-up-in-order c l = let o = ordered c l in record { in-order = o .in-order; counted = o .counted }

@@ -1,36 +1,36 @@
 -- What the session at the client promises beside its answers: c is the client, l the stream, n the number that A carries.
-use mathlib.Core.Path.{_≡_, refl, ap, sym, _∙_}
+use mathlib.Core.Path.{_≡_, refl, ap, _∙_}
 use mathlib.Core.List.{List, [], _∷_}
 use mathlib.Core.Bool.{Bool, true, false}
-use Prim.Native.Nat.{ℕ, _+_, _-_}
+use Prim.Native.Nat.{ℕ}
 use native.Mathlib.Omega.{arith}
-use lib.ListN.{drop, getD}
+use lib.ListN.{getD}
 use lib.Dec.{eqb}
-use borrow.Author.Tests.{eq-eqb, ne-eqb, eqb-true}
+use borrow.Author.Tests.{eq-eqb, eqb-true}
 use Rattle.wire.specs.Choice.{if_then_else_}
-use Rattle.wire.specs.Bounds.{blank, largestNumber}
+use Rattle.wire.specs.Bounds.{blank}
 use Rattle.wire.specs.Bytes.{sameBytes}
 use Rattle.wire.proofs.Same.{same-equal, same-refl}
-use Rattle.wire.specs.Words.{Words, Case, answer, refused, says, refuses}
+use Rattle.wire.specs.Words.{answer, says, refuses}
 use Rattle.wire.specs.Parts.{firstBytes}
 use Rattle.soupbintcp.specs.declared.packet.Sender.the-variants.{Server}
-use Rattle.soupbintcp.specs.Letters.{PacketKind, accepted, rejected, sequenced, server-heartbeat, debug, end-of-session, letterFor}
+use Rattle.soupbintcp.specs.Letters.{accepted, sequenced, letterFor}
 use Rattle.soupbintcp.specs.Fields.{hasFields}
-use Rattle.soupbintcp.specs.Front.{FrontKind, packet, wants-more, frontOf, sessionOf}
-use Rattle.soupbintcp_session.specs.Answer.{Incoming, incoming, StepOutcome, stays, takes}
-use Rattle.soupbintcp_session.specs.Statements.{StaysOver}
+use Rattle.soupbintcp.specs.Front.{sessionOf}
+use Rattle.soupbintcp_session.specs.Answer.{incoming, StepOutcome, stays, takes}
 use Rattle.soupbintcp_session.specs.Answer as reply
 use Rattle.soupbintcp_session.proofs.FrontCases.{numbered-in-front, accepted-takes, sequenced-takes, plain-not-accepted}
 use Rattle.soupbintcp_session.proofs.StepLaws.{never-rests, changes-nothing, takes-packets, hands-up}
-use Rattle.soupbintcp_session.proofs.RunLaws.{any-cutting, runs-on}
-use Rattle.soupbintcp_client.specs.declared.client.ClientState.the-variants.{Asked, In, Ended, Closed}
-use Rattle.soupbintcp_client.specs.declared.client.ClientState.{ClientState}
+use Rattle.soupbintcp_session.proofs.RunLaws.{any-cutting, runs-on, runs-by-step}
+use Rattle.soupbintcp_client.specs.declared.client.ClientState.the-variants.{Asked, In}
 use Rattle.soupbintcp_client.specs.declared.client.Client.{Client}
-use Rattle.soupbintcp_client.specs.Client.{client, becomes, sessionAsked, numberAsked, acceptedRow, sequencedRow, askedRow, inRow, rowAt, clientRow, frontRowAt, clientStep}
-use Rattle.soupbintcp_client.specs.Statements.{AcceptedInFront, AcceptsA, SequencedInFront, SessionFits, any-session, this-session, NumberFits, any-number, this-number, Fits, TakesTheOthers, ClientStaysOver, ClientPromises}
-use Rattle.soupbintcp_client.proofs.AcceptedLaws.{session-first}
-use Rattle.soupbintcp_client.proofs.ClientCases.{ClientDoes, client-rests-or-moves, client-steady}
+use Rattle.soupbintcp_client.specs.Client.{client, sessionAsked, numberAsked, acceptedRow, askedRow, rowAt, clientRow, clientStep}
+use Rattle.soupbintcp_client.specs.Statements.{AcceptedInFront, AcceptsA, SessionFits, any-session, this-session, NumberFits, any-number, this-number, Fits, ClientPromises}
+use Rattle.soupbintcp_client.proofs.AcceptedLaws.{accepted-size, session-first}
+use Rattle.soupbintcp_client.proofs.ClientCases.{ClientDoes, client-rests-or-moves, client-stable, client-steady}
 use Rattle.soupbintcp_client.proofs.ClientCases as cases
+use Rattle.soupbintcp_client.proofs.RowLaws.{when-S, else-34, takes-the-others, refuses-the-others, stays-over}
+use Rattle.soupbintcp_client.proofs.WholeLaws.{takes-all}
 use Rattle.soupbintcp_client.proofs.OrderLaws.{hands-up-in-order}
 use Rattle.soupbintcp_client.proofs.ExampleLaws.{client-example}
 
@@ -116,63 +116,6 @@ accepts-A c l o (cases.logs-in k vs name i a q x y e) z =
 accepts-A c l o (cases.hands-up k vs i a q e) z = absurd (sequenced-apart (rw e at z))
 accepts-A c l o (cases.goes-by k vs w t i a b p q e) z = absurd (plain-not-accepted (w .which) p (rw e at z))
 
--- ---- S in state in
-
-module _ (c : Client) (l : List ℕ) (size : ℕ) (q : c .state ≡ In) (e : SequencedInFront l size) where
-  row-of-S : clientStep c l ≡ sequencedRow c size
-  unfolding letterFor rowAt inRow
-  row-of-S = cases.packet-row c l sequenced size [] e ∙ rw q refl
-
-  when-S : (c .number .0 ≡ largestNumber → ⊥)
-      → clientStep c l ≡ takes size (says reply.sequenced (c .number .0 ∷ 3 ∷ (size - 3) ∷ [])) (client (c .session) (c .number .0 + 1) In)
-  unfolding sequencedRow
-  when-S h = row-of-S ∙ rw (ne-eqb _ _ h) refl
-
-  else-34 : c .number .0 ≡ largestNumber → clientStep c l ≡ stays c (refuses 34)
-  unfolding sequencedRow
-  else-34 h = row-of-S ∙ rw (eq-eqb _ _ h) refl
-
--- ---- the other packets: a row of the state q
-
-module _ (c : Client) (l : List ℕ) (kind : PacketKind) (size : ℕ) (vs : List ℕ) (e : frontOf Server l ≡ says (packet kind) (size ∷ vs)) where
-  row : (state : ClientState) → c .state ≡ state → clientStep c l ≡ rowAt state c (incoming size (letterFor kind) vs (sessionOf Server l))
-  row state q = cases.packet-row c l kind size vs e ∙ ap (λ (x : ClientState). rowAt x c (incoming size (letterFor kind) vs (sessionOf Server l))) q
-
--- a state that stays is the client's own
-own-state : (c : Client) (size : ℕ) (w : Words reply.SessionAnswerKind) (state : ClientState) → c .state ≡ state → takes size w (becomes c state) ≡ takes size w c
-own-state c size w state q = sym (ap (λ (x : ClientState). takes size w (becomes c x)) q)
-
-takes-the-others : TakesTheOthers
-unfolding letterFor rowAt askedRow inRow
-takes-the-others =
-    record {
-      heartbeat-in = λ c l size q e. row c l server-heartbeat size [] e In q ∙ own-state c size _ In q;
-      debug-in = λ c l size q e. row c l debug size [] e In q ∙ own-state c size _ In q;
-      end-in = λ c l size q e. row c l end-of-session size [] e In q;
-      debug-asked = λ c l size q e. row c l debug size [] e Asked q ∙ own-state c size _ Asked q;
-      rejected-asked = λ c l size reason q e. row c l rejected size (reason ∷ []) e Asked q;
-    }
-
--- ---- ended and closed refuse every packet
-
-over : (c : Client) (t : ClientState) → c .state ≡ t → ((p : Incoming) → rowAt t c p ≡ stays c (refuses 32))
-    → (given : List ℕ) (w : Words FrontKind) (k : Case FrontKind) → StaysOver Client c (frontRowAt c given w k)
-unfolding frontRowAt
-over c t q f given w (answer (packet p)) = at-row (incoming (getD (w .values) 0 0) (letterFor p) (drop 1 (w .values)) given)
-  where
-    at-row : (p : Incoming) → StaysOver Client c (rowAt (c .state) c p)
-    at-row p = rw (ap (λ (x : ClientState). rowAt x c p) q ∙ f p) (record { takes-none = refl; unchanged = refl })
-over c t q f given w (answer wants-more) = record { takes-none = refl; unchanged = refl }
-over c t q f given w refused = record { takes-none = refl; unchanged = refl }
-
-stays-over : ClientStaysOver
-unfolding clientStep rowAt
-stays-over =
-    record {
-      ended = λ c l q. over c Ended q (λ p. refl) (sessionOf Server l) (frontOf Server l) (frontOf Server l .which);
-      closed = λ c l q. over c Closed q (λ p. refl) (sessionOf Server l) (frontOf Server l) (frontOf Server l .which);
-    }
-
 pub client-promises : ClientPromises
 client-promises =
     record {
@@ -181,15 +124,20 @@ client-promises =
             when = when-fits;
             else-33 = else-33;
             only-when = λ c l. accepts-A c l (clientStep c l) (cases.client-does c l);
+            its-size = λ l size n e. accepted-size l size (n ∷ []) e;
           };
       takes-the-others = takes-the-others;
+      refuses-the-others = refuses-the-others;
       stays-over = stays-over;
       takes-S = record { when = when-S; else-34 = else-34 };
       changes-nothing = changes-nothing clientStep Server reply.sequenced client-rests-or-moves;
       takes-packets = takes-packets clientStep Server reply.sequenced client-rests-or-moves;
       hands-up-payload = hands-up clientStep Server reply.sequenced client-rests-or-moves sequenced-takes;
+      step-stable = client-stable;
       runs-on = runs-on clientStep client-steady;
+      runs-by-step = runs-by-step clientStep client-steady;
       any-cutting = any-cutting clientStep client-steady;
       example = client-example;
       hands-up-in-order = hands-up-in-order;
+      takes-all = takes-all;
     }

@@ -5,6 +5,8 @@ use mathlib.Core.Path.{_≡_}
 use lib.ListN.{replicate}
 use Rattle.wire.specs.Text.{ascii, readroom}
 use Rattle.wire.specs.Bounds.{blank}
+use Rattle.wire.specs.Refusals.{stateClosed}
+use Rattle.wire.specs.Words.{refuses}
 use Rattle.text_fields.specs.Letters.{space}
 use Rattle.soupbintcp.specs.Letters.{letterAccepted, letterSequenced, letterServerHeartbeat, letterEnd}
 use Rattle.soupbintcp_session.specs.Stream.{Run, run}
@@ -35,3 +37,4 @@ pub record ClientExample : Type 0 where
   pub hands-up : handedUp (ran .taken) ≡ numberedFrom 7 ((ascii "a") ∷ [] ∷ [])
   pub ends : ran .after ≡ client readroom 9 Ended
   pub leaves : ran .rest ≡ late
+  pub why : ran .why ≡ refuses stateClosed

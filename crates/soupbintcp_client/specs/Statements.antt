@@ -1,18 +1,20 @@
 -- What is promised of the session at the client.
-use Prim.Native.Nat.{ℕ, _+_, _-_}
-use mathlib.Core.List.{List, [], _∷_}
+use Prim.Native.Nat.{ℕ, _+_, _-_, _≤_}
+use mathlib.Core.List.{List, [], _∷_, List·Memᴰ}
 use mathlib.Core.Path.{_≡_}
 use lib.ListN.{length}
 use Rattle.wire.specs.Bounds.{blank, largestNumber}
-use Rattle.wire.specs.Refusals.{loginNotAsked, numbersUsedUp}
+use Rattle.wire.specs.Refusals.{packetNotTaken, stateClosed, loginNotAsked, numbersUsedUp}
+use Rattle.wire.specs.Bytes.{joined}
 use Rattle.wire.specs.Words.{answer, says, refuses}
 use Rattle.soupbintcp.specs.declared.packet.Sender.the-variants.{Server}
 use Rattle.soupbintcp.specs.Letters as Letters
 use Rattle.soupbintcp.specs.Head.{headSize}
 use Rattle.soupbintcp.specs.Front.{packet, frontOf, sessionOf}
-use Rattle.soupbintcp_session.specs.Answer.{accepted, rejected, sequenced, heartbeat, debug, end-of-session, stays, takes}
+use Rattle.soupbintcp_session.specs.Answer.{wants-more, accepted, rejected, sequenced, heartbeat, debug, end-of-session}
+use Rattle.soupbintcp_session.specs.Answer.{stays, takes}
 use Rattle.soupbintcp_session.specs.Stream.{Run, run, packetsOf}
-use Rattle.soupbintcp_session.specs.Statements.{StaysOver}
+use Rattle.soupbintcp_session.specs.Statements.{StaysOver, StepStable, RunsByStep}
 use Rattle.soupbintcp_session.specs.Statements.{ChangesNothing, TakesPackets, HandsUpPayload, AnyStreamCutting, RunsOn}
 use Rattle.soupbintcp_client.specs.declared.client.ClientState.the-variants.{Asked, In, Ended, Closed}
 use Rattle.soupbintcp_client.specs.declared.client.Client.{Client}
@@ -52,6 +54,8 @@ pub record TakesFromA : Type 0 where
   pub else-33 : (c : Client) (l : List ℕ) (size n : ℕ) → c .state ≡ Asked → AcceptedInFront l size n → (Fits c l n → ⊥)
       → clientStep c l ≡ stays c (refuses loginNotAsked)
   pub only-when : (c : Client) (l : List ℕ) → clientStep c l .reply .which ≡ answer accepted → AcceptsA c l
+  -- an A is 33 bytes
+  pub its-size : (l : List ℕ) (size n : ℕ) → AcceptedInFront l size n → size ≡ 33
 
 -- S in front
 abbrev pub SequencedInFront : List ℕ → ℕ → Type 0
@@ -87,6 +91,25 @@ pub record TakesTheOthers : Type 0 where
       → frontOf Server l ≡ says (packet Letters.rejected) (size ∷ reason ∷ [])
       → clientStep c l ≡ takes size (says rejected (reason ∷ [])) (becomes c Closed)
 
+-- and what no row takes: asked refuses S, H and Z by 31, in refuses A and J by 31, and ended and closed refuse every
+-- packet by 32
+pub record RefusesTheOthers : Type 0 where
+  pub sequenced-asked : (c : Client) (l : List ℕ) (size : ℕ) → c .state ≡ Asked
+      → SequencedInFront l size → clientStep c l ≡ stays c (refuses packetNotTaken)
+  pub heartbeat-asked : (c : Client) (l : List ℕ) (size : ℕ) → c .state ≡ Asked
+      → PlainInFront l Letters.server-heartbeat size → clientStep c l ≡ stays c (refuses packetNotTaken)
+  pub end-asked : (c : Client) (l : List ℕ) (size : ℕ) → c .state ≡ Asked
+      → PlainInFront l Letters.end-of-session size → clientStep c l ≡ stays c (refuses packetNotTaken)
+  pub accepted-in : (c : Client) (l : List ℕ) (size n : ℕ) → c .state ≡ In
+      → AcceptedInFront l size n → clientStep c l ≡ stays c (refuses packetNotTaken)
+  pub rejected-in : (c : Client) (l : List ℕ) (size reason : ℕ) → c .state ≡ In
+      → frontOf Server l ≡ says (packet Letters.rejected) (size ∷ reason ∷ [])
+      → clientStep c l ≡ stays c (refuses packetNotTaken)
+  pub any-ended : (c : Client) (l : List ℕ) (kind : Letters.PacketKind) (size : ℕ) (vs : List ℕ) → c .state ≡ Ended
+      → frontOf Server l ≡ says (packet kind) (size ∷ vs) → clientStep c l ≡ stays c (refuses stateClosed)
+  pub any-closed : (c : Client) (l : List ℕ) (kind : Letters.PacketKind) (size : ℕ) (vs : List ℕ) → c .state ≡ Closed
+      → frontOf Server l ≡ says (packet kind) (size ∷ vs) → clientStep c l ≡ stays c (refuses stateClosed)
+
 -- ended or closed, whatever comes
 pub record ClientStaysOver : Type 0 where
   pub ended : (c : Client) (l : List ℕ) → c .state ≡ Ended → StaysOver Client c (clientStep c l)
@@ -100,15 +123,39 @@ pub record HandsUpInOrder (c : Client) (r : Run Client) : Type 0 where
   pub counted : r .after .number .0
       ≡ grantedIn (c .number .0) (packetsOf (r .taken)) + length (sequencedIn (packetsOf (r .taken)))
 
+-- ---- whole streams
+
+-- a whole packet of those that a client takes again and again: S, H or +
+pub data Running (p : List ℕ) : Type 0 where
+  is-S : frontOf Server p ≡ says (packet Letters.sequenced) (length p ∷ []) → Running p
+  is-H : frontOf Server p ≡ says (packet Letters.server-heartbeat) (length p ∷ []) → Running p
+  is-debug : frontOf Server p ≡ says (packet Letters.debug) (length p ∷ []) → Running p
+
+-- over such packets, while numbers last: all are taken, the payloads of S are handed up under their numbers, and
+-- nothing is left
+pub record TakesAll (c : Client) (ps : List (List ℕ)) (r : Run Client) : Type 0 where
+  pub all : packetsOf (r .taken) ≡ ps
+  pub handed : handedUp (r .taken) ≡ numberedFrom (c .number .0) (sequencedIn ps)
+  pub after : r .after ≡ client (c .session) (c .number .0 + length (sequencedIn ps)) In
+  pub left : r .rest ≡ []
+  pub why : r .why ≡ says wants-more []
+
 pub record ClientPromises : Type 0 where
   pub takes-from-A : TakesFromA
   pub takes-S : TakesS
   pub takes-the-others : TakesTheOthers
+  pub refuses-the-others : RefusesTheOthers
   pub stays-over : ClientStaysOver
   pub changes-nothing : ChangesNothing Client clientStep
   pub takes-packets : TakesPackets Client clientStep Server
   pub hands-up-payload : HandsUpPayload Client clientStep Server sequenced
+  pub step-stable : StepStable Client clientStep
   pub runs-on : (c : Client) (l : List ℕ) → RunsOn Client clientStep c l
+  pub runs-by-step : (c : Client) (l : List ℕ) → RunsByStep Client clientStep c l
   pub any-cutting : AnyStreamCutting Client clientStep
   pub example : ClientExample
   pub hands-up-in-order : (c : Client) (l : List ℕ) → HandsUpInOrder c (run clientStep c l)
+  pub takes-all : (c : Client) (ps : List (List ℕ)) → c .state ≡ In
+      → ((p : List ℕ) → List·Memᴰ p ps → Running p)
+      → c .number .0 + length (sequencedIn ps) ≤ largestNumber
+      → TakesAll c ps (run clientStep c (joined ps))

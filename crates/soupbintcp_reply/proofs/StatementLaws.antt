@@ -5,31 +5,29 @@ use mathlib.Core.Bool.{Bool, true, false}
 use Prim.Native.Nat.{ℕ, _+_, _≤_, _<_}
 use native.Mathlib.Omega.{arith}
 use lib.ListN.{length}
-use lib.Dec.{ltb, eqb}
+use lib.Dec.{ltb}
 use borrow.Author.Tests.{eq-eqb, ne-eqb, ltb-false, le-ltb, lt-leb}
 use Rattle.wire.specs.Choice.{if_then_else_}
 use Rattle.wire.specs.Bounds.{sessionSize, largestNumber}
-use Rattle.wire.specs.Words.{Words, Case, answer, refused, says, refuses}
+use Rattle.wire.specs.Words.{Case, answer, refused, says}
 use Rattle.wire.specs.Refusals.{outputShort}
 use Rattle.wire.specs.declared.output.Written.the-variants.{Wrote}
 use Rattle.wire.specs.Output.{wrote, writtenWords, writeRefusal, writeAnswer, writeOutput, OnlyWhatItReports}
 use Rattle.wire.proofs.Cases.{below-or-not, zero-or-not}
 use Rattle.wire.proofs.Outputs.{put-empty, no-write-refusal, wrote-front, output-laws}
 use Rattle.text_fields.specs.Session.{goodSession}
-use Rattle.soupbintcp.specs.declared.packet.Sender.the-variants as sender
 use Rattle.soupbintcp.specs.Letters as letter
 use Rattle.soupbintcp.specs.Fields.{sessionNotAvailable, goodReason}
-use Rattle.soupbintcp.specs.Front.{packet, frontOf, sessionOf}
 use Rattle.soupbintcp_writer.specs.Packets.{encoded, acceptedGround, acceptedPayload, reasonGround}
 use Rattle.soupbintcp_writer.specs.RoundTrips.{acceptedBytes, AcceptedReads}
 use Rattle.soupbintcp_writer.proofs.WriteLaws.{length-packet, length-accepted}
 use Rattle.soupbintcp_writer.proofs.RoundTripLaws.{accepted-round-trip, rejected-round-trip}
 use Rattle.login.specs.declared.account.Account.{Account}
-use Rattle.login.specs.Account.{VerdictKind, known, unknown, mostAccounts, verdictOf, isKnown, lookupOf}
+use Rattle.login.specs.Account.{mostAccounts, verdictOf, isKnown, lookupOf}
 use Rattle.login.specs.Decision as decided
 use Rattle.login.specs.Statements.{SessionRule, asks-blank, asks-ours, Rules}
 use Rattle.login.proofs.StatementLaws.{accepted-exactly-when}
-use Rattle.soupbintcp_session.specs.Answer.{SessionAnswerKind, wants-more, accepted, rejected, sequenced, unsequenced, heartbeat, debug, logged-out, end-of-session, StepOutcome, stays, takes}
+use Rattle.soupbintcp_session.specs.Answer.{SessionAnswerKind, wants-more, accepted, rejected, sequenced, unsequenced, heartbeat, debug, logged-out, end-of-session, StepOutcome, takes}
 use Rattle.soupbintcp_server.specs.declared.server.ServerState.the-variants as state
 use Rattle.soupbintcp_server.specs.declared.server.Server.{Server}
 use Rattle.soupbintcp_server.specs.Server.{becomes, largestLast, loginAt, serverStartRefusal, startServer, lastRefusal, withLast, serverStep}
@@ -41,7 +39,7 @@ use Rattle.soupbintcp_client.specs.Client as client
 use Rattle.soupbintcp_client.specs.Statements.{SessionFits, any-session, this-session, NumberFits, any-number, this-number}
 use Rattle.soupbintcp_client.proofs.ClientCases as client-cases
 use Rattle.soupbintcp_client.proofs.StatementLaws.{client-promises}
-use Rattle.soupbintcp_reply.specs.Reply.{replyAt, replyGroundAt, replyOf, replyGround, replyRefusal, replyOutcome, replyWritten, replyOutput}
+use Rattle.soupbintcp_reply.specs.Reply.{replyAt, replyGroundAt, replyOf, replyGround, replyRefusal, replyOutcome, replyWritten}
 use Rattle.soupbintcp_reply.proofs.ReplyLaws.{outcome-written, outcome-refused, size-written, size-refused, output-kept}
 use Rattle.soupbintcp_reply.proofs.ExampleLaws.{reply-bytes}
 use Rattle.soupbintcp_reply.specs.Statements.{Undone, RefusalUndoes, WrittenInFront, ReplyStands, longestReply, WasStarted, ReplyIsWritten, writtenBy, AskedBy, Ends, both-in, both-closed, Handshake, ReplyPromises}
@@ -196,6 +194,16 @@ accepted-step t s l e =
   where
     too-long : _≡_ {A = Case SessionAnswerKind} refused (answer accepted) → ⊥
     too-long z = let y : _≡_ {A = ℕ} 0 1 = cc in omega arith
+
+-- a reply that is refused lets no one in
+accepts-only-by-the-rules : (t : List Account) (s : Server) (l out : List ℕ) → replyOutcome s (serverStep t s l) out .reply .which ≡ answer accepted → Accepts t s l
+accepts-only-by-the-rules t s l out e =
+    zero-or-not _ (replyRefusal s (serverStep t s l) out)
+    (λ z. server-promises .login-exactly-when .only-when t s l (rw (outcome-written s (serverStep t s l) out z) at e))
+    (λ z. absurd (undone (rw (outcome-refused s (serverStep t s l) out z) at e)))
+  where
+    undone : _≡_ {A = Case SessionAnswerKind} refused (answer accepted) → ⊥
+    undone z = let y : _≡_ {A = ℕ} 0 1 = cc in omega arith
 
 -- ---- the reply is written
 
@@ -366,6 +374,7 @@ handshake t s c l out rest w q z a room = ends t s c l out rest w q z a room (de
 pub reply-promises : ReplyPromises
 reply-promises =
     record {
+      accepts-only-by-the-rules = accepts-only-by-the-rules;
       refusal-undoes = refusal-undoes;
       reply-stands = reply-stands;
       reply-bytes = reply-bytes;

@@ -7,7 +7,7 @@ use Rattle.wire.specs.Bounds.{sessionSize}
 use Rattle.wire.specs.Text.{ascii, readroom}
 use Rattle.text_fields.specs.Letters.{space}
 use Rattle.wire.specs.Refusals.{outputShort}
-use Rattle.wire.specs.Words.{refused, says, refuses}
+use Rattle.wire.specs.Words.{answer, refused, says, refuses}
 use Rattle.wire.specs.Output.{Outside}
 use Rattle.soupbintcp.specs.declared.packet.Sender.the-variants as sender
 use Rattle.soupbintcp.specs.Letters.{acceptedPayloadSize, rejectedPayloadSize}
@@ -19,7 +19,7 @@ use Rattle.soupbintcp_session.specs.Answer.{accepted, rejected, heartbeat, Step
 use Rattle.soupbintcp_server.specs.declared.server.ServerState.the-variants as state
 use Rattle.soupbintcp_server.specs.declared.server.Server.{Server}
 use Rattle.soupbintcp_server.specs.Server as server
-use Rattle.soupbintcp_server.specs.Statements.{LoginInFront}
+use Rattle.soupbintcp_server.specs.Statements.{LoginInFront, Accepts}
 use Rattle.soupbintcp_client.specs.declared.client.ClientState.the-variants.{Asked, In, Closed}
 use Rattle.soupbintcp_client.specs.declared.client.Client.{Client}
 use Rattle.soupbintcp_client.specs.Client.{client, becomes, clientStep}
@@ -120,6 +120,9 @@ Handshake = (t : List Account) (s : Server) (c : Client) (l out rest : List ℕ)
     → Ends t s c l out rest
 
 pub record ReplyPromises : Type 0 where
+  -- nobody is let in but by a login that meets the rules
+  pub accepts-only-by-the-rules : (t : List Account) (s : Server) (l out : List ℕ)
+      → replyOutcome s (server.serverStep t s l) out .reply .which ≡ answer accepted → Accepts t s l
   pub refusal-undoes : RefusalUndoes
   pub reply-stands : ReplyStands
   pub reply-bytes : ReplyBytes

@@ -14,9 +14,9 @@ use Rattle.soupbintcp.specs.Front.{frontPacket, frontAt, frontOf, packetAt, pac
 use Rattle.login.specs.Account.{lowered, sameText, soundAccount, isOf, hasPassword, isKnown, verdictOf, lookupOf}
 use Rattle.login.specs.Decision.{sessionHolds, numberHolds, granted, decisionAt}
 use Rattle.soupbintcp_session.specs.Stream.{runAt, runUpTo, run}
-use Rattle.soupbintcp_server.specs.Server.{serverStartRefusal, startServer, loginAt, waitingRow, inRow, rowAt, frontRow, frontRowAt, stepAt, entryOf, serverStep}
+use Rattle.soupbintcp_server.specs.Server.{serverStartRefusal, startServer, loginAt, waitingRow, inRow, rowAt, frontRowAt, stepAt, entryOf, serverStep}
 use Rattle.soupbintcp_server.specs.Examples.{repliesOf, ServerExample}
 
 pub server-example : ServerExample
 unfolding repliesOf number sameBytes firstBytes isDigit areDigits valueFrom isLetterOrDigit areLettersOrDigits leadingSpaces goodSession isNumber readNumber wordLength areSpaces sound letterFor letterRow sends allows plainOf packetLength letterOf headOf hasFields sessionAt sessionBytes numberBytes blankAllowed leastNumberOf numberedOf numberFields withNumber fieldsAt fieldsOf frontPacket frontAt frontOf packetAt packetBytes sessionOf loginPart usernameOf passwordOf lower lowered sameText soundAccount isOf hasPassword isKnown verdictOf lookupOf sessionHolds numberHolds granted decisionAt serverStartRefusal startServer loginAt waitingRow inRow rowAt frontRowAt stepAt entryOf serverStep runAt runUpTo run
-server-example = record { answers = refl; closes = refl; leaves = refl }
+server-example = record { answers = refl; closes = refl; leaves = refl; why = refl }

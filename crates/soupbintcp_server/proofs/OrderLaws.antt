@@ -76,9 +76,9 @@ handed-one b k xs e =
 abbrev Ordered : Server → List ℕ → Run Server → Type 0
 Ordered s l r = HandsUpInOrder s r
 
-stops-ordered : (s : Server) (l : List ℕ) → Ordered s l (stopped s l)
+stops-ordered : (s : Server) (l : List ℕ) (w : Words SessionAnswerKind) → Ordered s l (stopped s l w)
 unfolding handedUp packetsOf unsequencedIn beforeLogin
-stops-ordered s l = record { in-order = refl; none-before = λ z. refl }
+stops-ordered s l w = record { in-order = refl; none-before = λ z. refl }
 
 module _ (s : Server) (l : List ℕ) (k : ℕ) (vs : List ℕ) (i : InFront Client l k vs) (r : Run Server) where
   same-letter : letterOf (take k l) ≡ letterOf l
@@ -140,5 +140,5 @@ module _ (s : Server) (l : List ℕ) (x : Words VerdictKind) (k : ℕ) (r : Run 
 pub hands-up-in-order : (t : List Account) (s : Server) (l : List ℕ) → HandsUpInOrder s (run (serverStep t) s l)
 unfolding serverStep
 hands-up-in-order t =
-    runs (serverStep t) (server-steady t) Ordered (λ s l e. stops-ordered s l)
+    runs (serverStep t) (server-steady t) Ordered (λ s l e. stops-ordered s l (serverStep t s l .reply))
     (λ s l k r e h o. by-step s l (lookupOf t (entryOf l)) k r (serverStep t s l) (server-does s (lookupOf t (entryOf l)) l) e o)

@@ -21,7 +21,7 @@ use Rattle.login.specs.Account.{VerdictKind, lookupOf}
 use Rattle.login.specs.Decision.{DecisionKind, accepted, rejected, decisionOf}
 use Rattle.soupbintcp_session.specs.Answer.{incoming, SessionAnswerKind, wants-more, unsequenced, heartbeat, debug, logged-out, answerMessageAt, StepOutcome, stays, takes}
 use Rattle.soupbintcp_session.specs.Answer as reply
-use Rattle.soupbintcp_session.proofs.FrontCases.{apart, InFront, front-stays, session-stays, username-stays, password-stays, Plain, a-rejection, a-heartbeat, a-debug, a-logout, plain-takes, accepted-takes, unsequenced-takes, plain-not-unsequenced}
+use Rattle.soupbintcp_session.proofs.FrontCases.{apart, InFront, no-more, front-stays, session-stays, username-stays, password-stays, Plain, a-rejection, a-heartbeat, a-debug, a-logout, plain-takes, accepted-takes, unsequenced-takes, plain-not-unsequenced}
 use Rattle.soupbintcp_session.proofs.StepLaws.{Rests, waits, refusing, Does}
 use Rattle.soupbintcp_session.proofs.StepLaws as does
 use Rattle.soupbintcp_session.proofs.RunLaws.{Steady}
@@ -104,7 +104,7 @@ module _ (s : Server) (x : Words VerdictKind) (l : List ℕ) where
   abbrev front-step : StepOutcome Server
   front-step = frontRow s x (sessionOf Client l) (frontOf Client l)
 
-  short-rests : frontOf Client l ≡ says front.wants-more [] → front-step ≡ stays s (says wants-more [])
+  pub short-rests : frontOf Client l ≡ says front.wants-more [] → front-step ≡ stays s (says wants-more [])
   unfolding frontRowAt
   short-rests e = rw e refl
 
@@ -176,25 +176,27 @@ module _ (t : List Account) where
   server-rests-or-moves s l = with-rests-or-moves (λ m. lookupOf t (entryOf m)) s l
 
   module _ (s : Server) (l m : List ℕ) where
-    entry-stays : (k : ℕ) (vs : List ℕ) → InFront Client l k vs → entryOf (l ++ m) ≡ entryOf l
-    unfolding entryOf
-    entry-stays k vs i = rw (username-stays Client l m k vs i, password-stays Client l m k vs i) refl
+    -- where the front needs no more
+    module _ (z : frontOf Client l .which ≡ answer front.wants-more → ⊥) where
+      entry-stays : entryOf (l ++ m) ≡ entryOf l
+      unfolding entryOf
+      entry-stays = rw (username-stays Client l m z, password-stays Client l m z) refl
 
-    told-stays : (k : ℕ) (vs : List ℕ) (x : Words VerdictKind) (w : Case VerdictKind) → InFront Client l k vs → stepAt w s x (l ++ m) ≡ stepAt w s x l
-    unfolding stepAt
-    told-stays k vs x (answer y) i = rw (front-stays Client l m k vs i, session-stays Client l m k vs i) refl
-    told-stays k vs x refused i = refl
+      told-stays : (x : Words VerdictKind) (w : Case VerdictKind) → stepAt w s x (l ++ m) ≡ stepAt w s x l
+      unfolding stepAt
+      told-stays x (answer y) = rw (front-stays Client l m z, session-stays Client l m z) refl
+      told-stays x refused = refl
 
-    step-stays : (k : ℕ) (vs : List ℕ) → InFront Client l k vs → serverStep t s (l ++ m) ≡ serverStep t s l
-    unfolding serverStep
-    step-stays k vs i = rw (entry-stays k vs i) (told-stays k vs (lookupOf t (entryOf l)) (lookupOf t (entryOf l) .which) i)
+      pub step-stays : serverStep t s (l ++ m) ≡ serverStep t s l
+      unfolding serverStep
+      step-stays = rw entry-stays (told-stays (lookupOf t (entryOf l)) (lookupOf t (entryOf l) .which))
 
     server-keeps : (k : ℕ) → serverStep t s l .size ≡ suc k → serverStep t s (l ++ m) ≡ serverStep t s l
     server-keeps k e = go (server-rests-or-moves s l)
       where
         go : Does s l Client unsequenced (serverStep t s l) → serverStep t s (l ++ m) ≡ serverStep t s l
         go (does.rests w n f) = let z : 0 ≡ suc k = rw f at e in absurd (omega arith)
-        go (does.moves n vs w u i y x f) = step-stays n vs i
+        go (does.moves n vs w u i y x f) = step-stays (no-more Client l n vs i)
 
   pub server-steady : Steady Server (serverStep t)
   server-steady =
@@ -202,4 +204,5 @@ module _ (t : List Account) where
         fits = λ s l. does.takes-what-is-there (server-rests-or-moves s l);
         keeps = server-keeps;
         silent = λ s l. does.rests-by (server-rests-or-moves s l);
+        idle = λ s l. does.takes-none (server-rests-or-moves s l);
       }

@@ -4,7 +4,7 @@ use mathlib.Core.List.{List, [], _∷_}
 use mathlib.Core.Bool.{Bool, false, true, not}
 use Prim.Native.Nat.{ℕ, _-_, _≤_, _<_}
 use borrow.Author.Tests.{lt-ltb, le-ltb, not-true, not-false}
-use types.Run.{OneOf, miss}
+use types.Run.{OneOf}
 use denote.Enum.Declared.{tagOf}
 use Rattle.wire.specs.Words.{Words}
 use Rattle.wire.specs.declared.kinds.SequenceNumber.{SequenceNumber}
@@ -19,14 +19,14 @@ use Rattle.soupbintcp.specs.declared.front.Front.the-variants as front
 use Rattle.soupbintcp.specs.Letters.{debug, login, unsequenced, client-heartbeat, logout, packetKind, packetValues, letterFor}
 use Rattle.soupbintcp.specs.Front.{frontWords, frontOf, sessionOf, usernameOf, passwordOf}
 use Rattle.soupbintcp.proofs.packet.Packet.{the-type}
-use Rattle.login.proofs.account.Verdict.{the-type as verdict-type}
 use Rattle.login.specs.declared.account.Account.{Account}
-use Rattle.login.specs.declared.account.Verdict.{Verdict}
-use Rattle.login.specs.declared.account.Verdict.the-variants as verdict
+use Rattle.login.specs.declared.account.Found.{Found}
 use Rattle.login.specs.declared.decision.Decision.{Decision}
 use Rattle.login.specs.declared.decision.Decision.the-variants as decision
-use Rattle.login.specs.Account.{VerdictKind, verdictWords, lookupOf}
+use Rattle.login.specs.Account.{VerdictKind, isKnown, verdictOf, foundIn, verdictOn}
 use Rattle.login.specs.Decision.{decisionWords, decisionOf}
+use Rattle.login.specs.Statements.{FoundDecides}
+use Rattle.login.proofs.FoundLaws.{says-19, says-known}
 use Rattle.soupbintcp_session.specs.declared.answer.Answer.{Answer}
 use Rattle.soupbintcp_session.specs.declared.answer.Answer.the-variants.{NeedMore, Accepted, Rejected, Unsequenced, Heartbeat, Debug, LoggedOut, Refused}
 use Rattle.soupbintcp_session.specs.Answer.{incoming, sessionAnswerWords}
@@ -128,19 +128,26 @@ module _ (s : Server) (d : Decision) (size : ℕ) (r : Stepped) where
   unfolding decisionWords loginAt sessionAnswerWords
   login-refused x e f = rw (e, f) (exactly _)
 
--- ---- waiting: w is what the table says of the entry
+-- ---- waiting: w is what was found says of the entry
 
 module _ (s : Server) (p : Packet) (size : ℕ) (w : Words VerdictKind) (asked : List ℕ) (r : Stepped) where
-  pub waiting-L : (n : SequenceNumber) (y : List ℕ) (d : Decision) → p ≡ packet.Login n → y ≡ asked
-      → decisionWords d ≡ decisionOf w y (n .0) (s .session) (s .last .0)
+  login-row : (n : SequenceNumber) (d : Decision) → p ≡ packet.Login n → decisionWords d ≡ decisionOf w asked (n .0) (s .session) (s .last .0)
       → ServerSteps r (loginRow s size (decisionWords d)) → ServerSteps r (waitingRow s w (incoming size (letterFor (packetKind p)) (packetValues p) asked))
   unfolding waitingRow letterFor packetKind packetValues
-  waiting-L n y d e f g h = rw (e, ← f, ← g) h
+  login-row n d e g h = rw (e, ← g) h
 
   pub waiting-plus : p ≡ packet.Debug → r ≡ goes-to Debug size (becomes s Waiting)
       → ServerSteps r (waitingRow s w (incoming size (letterFor (packetKind p)) (packetValues p) asked))
   unfolding waitingRow letterFor packetKind packetValues sessionAnswerWords
   waiting-plus e f = rw (e, f) (exactly _)
+
+-- the entry of the packet in front is compared with the record that was found
+pub waiting-L : (s : Server) (p : Packet) (size : ℕ) (f : Found) (l : List ℕ) (r : Stepped) (n : SequenceNumber) (y : List ℕ) (e : Account) (d : Decision)
+    → p ≡ packet.Login n → y ≡ sessionOf Client l → e ≡ entryOf l → decisionWords d ≡ decisionOf (verdictOn f e) y (n .0) (s .session) (s .last .0)
+    → ServerSteps r (loginRow s size (decisionWords d))
+    → ServerSteps r (waitingRow s (verdictOn f (entryOf l)) (incoming size (letterFor (packetKind p)) (packetValues p) (sessionOf Client l)))
+waiting-L s p size f l r n y e d g h i j k =
+    login-row s p size (verdictOn f (entryOf l)) (sessionOf Client l) r n d g (rw (h, i) at j) k
 
 abbrev not-waiting : List ℕ
 not-waiting = 1 ∷ 2 ∷ 3 ∷ 4 ∷ 5 ∷ 7 ∷ 8 ∷ 9 ∷ []
@@ -195,42 +202,41 @@ module _ (t : ServerState) (s : Server) (size k : ℕ) (vs : List ℕ) (w : Word
   unfolding rowAt sessionAnswerWords
   server-row-closed e f = rw (e, f) (exactly _)
 
--- ---- a step: v is what the table says, x the front of the stream l
+-- ---- a step: f is what was found, e the entry in front, x the front of the stream l
 
-pub table-refused : (s : Server) (l : List ℕ) (v : Verdict) (r : Stepped) → v ≡ verdict.TooMany → r ≡ refuses-with s 19 → ServerSteps r (stepWith s (verdictWords v) l)
-unfolding stepAt verdictWords sessionAnswerWords
-table-refused s l v r e f = rw (e, f) (exactly _)
+pub table-refused : (s : Server) (l : List ℕ) (f : Found) (r : Stepped) → f .«too_many» ≡ true → r ≡ refuses-with s 19
+    → ServerSteps r (stepWith s (verdictOn f (entryOf l)) l)
+unfolding stepAt sessionAnswerWords
+table-refused s l f r h g = rw (says-19 f (entryOf l) h, g) (exactly _)
 
--- a table that says something of the entry leaves it to the front
-abbrev told : List ℕ
-told = 0 ∷ 1 ∷ []
+-- a table that isn't too long leaves it to the front
+pub said-front : (s : Server) (l : List ℕ) (v : Words VerdictKind) (b : Bool) → v ≡ verdictOf b → frontRow s v (sessionOf Client l) (frontOf Client l) ≡ stepWith s v l
+unfolding stepAt verdictOf
+said-front s l v true h = rw h refl
+said-front s l v false h = rw h refl
 
-said-front : (s : Server) (l : List ℕ) (v : Verdict) → OneOf told (tagOf verdict-type v)
-    → frontRow s (verdictWords v) (sessionOf Client l) (frontOf Client l)
-    ≡ stepWith s (verdictWords v) l
-unfolding stepAt verdictWords
-said-front s l verdict.Known k = refl
-said-front s l verdict.Unknown k = refl
-said-front s l verdict.TooMany k = absurd (miss told 2 tt k)
+module _ (s : Server) (l : List ℕ) (f : Found) (few : f .«too_many» ≡ false) (x : Front) (r : Stepped) where
+  by-front : frontRow s (verdictOn f (entryOf l)) (sessionOf Client l) (frontOf Client l) ≡ stepWith s (verdictOn f (entryOf l)) l
+  by-front = said-front s l (verdictOn f (entryOf l)) (isKnown (f .account ∷ []) (entryOf l)) (says-known f (entryOf l) few)
 
-module _ (s : Server) (l : List ℕ) (v : Verdict) (x : Front) (r : Stepped) where
-  pub server-step-more : OneOf told (tagOf verdict-type v) → frontWords x ≡ frontOf Client l → x ≡ front.NeedMore → r ≡ goes-to NeedMore 0 s
-      → ServerSteps r (stepWith s (verdictWords v) l)
+  pub server-step-more : frontWords x ≡ frontOf Client l → x ≡ front.NeedMore → r ≡ goes-to NeedMore 0 s
+      → ServerSteps r (stepWith s (verdictOn f (entryOf l)) l)
   unfolding frontRowAt frontWords sessionAnswerWords
-  server-step-more k e f g = rw (← said-front s l v k, ← e, f, g) (exactly _)
+  server-step-more e g h = rw (← by-front, ← e, g, h) (exactly _)
 
-  pub server-step-refused : (y : Refusal) → OneOf told (tagOf verdict-type v) → frontWords x ≡ frontOf Client l → x ≡ front.Refused y
-      → r ≡ goes-to (Refused y) 0 s → ServerSteps r (stepWith s (verdictWords v) l)
+  pub server-step-refused : (y : Refusal) → frontWords x ≡ frontOf Client l → x ≡ front.Refused y
+      → r ≡ goes-to (Refused y) 0 s → ServerSteps r (stepWith s (verdictOn f (entryOf l)) l)
   unfolding frontRowAt frontWords sessionAnswerWords
-  server-step-refused y k e f g = rw (← said-front s l v k, ← e, f, g) (exactly _)
+  server-step-refused y e g h = rw (← by-front, ← e, g, h) (exactly _)
 
-  pub server-step-packet : (p : Packet) (size : ℕ) → OneOf told (tagOf verdict-type v) → frontWords x ≡ frontOf Client l → x ≡ front.Whole p size
-      → ServerSteps r (rowAt (s .state) s (verdictWords v) (incoming size (letterFor (packetKind p)) (packetValues p) (sessionOf Client l))) → ServerSteps r (stepWith s (verdictWords v) l)
+  pub server-step-packet : (p : Packet) (size : ℕ) → frontWords x ≡ frontOf Client l → x ≡ front.Whole p size
+      → ServerSteps r (rowAt (s .state) s (verdictOn f (entryOf l)) (incoming size (letterFor (packetKind p)) (packetValues p) (sessionOf Client l)))
+      → ServerSteps r (stepWith s (verdictOn f (entryOf l)) l)
   unfolding frontRowAt frontWords
-  server-step-packet p size k e f g = rw (← said-front s l v k, ← e, f) g
+  server-step-packet p size e g h = rw (← by-front, ← e, g) h
 
--- with a table of accounts: e is the entry in front
-pub server-step : (s : Server) (l : List ℕ) (t : List Account) (v : Verdict) (e : Account) (r : Stepped) → e ≡ entryOf l → verdictWords v ≡ lookupOf t e
-    → ServerSteps r (stepWith s (verdictWords v) l) → ServerSteps r (serverStep t s l)
-unfolding serverStep
-server-step s l t v e r f g h = rw (← f, ← g) h
+-- with a table t of accounts: e is the entry in front, f what was found for it
+pub server-step : (s : Server) (l : List ℕ) (t : List Account) (f : Found) (e : Account) (r : Stepped) → e ≡ entryOf l → f ≡ foundIn t e → FoundDecides
+    → ServerSteps r (stepWith s (verdictOn f (entryOf l)) l) → ServerSteps r (serverStep t s l)
+unfolding serverStep FoundDecides
+server-step s l t f e r g h d k = rw (h, g, d t (entryOf l)) at k

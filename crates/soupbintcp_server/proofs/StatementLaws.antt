@@ -2,10 +2,10 @@
 use mathlib.Core.Path.{_≡_, refl, ap, sym, _∙_}
 use mathlib.Core.List.{List, [], _∷_}
 use mathlib.Core.Bool.{Bool, true, false}
-use Prim.Native.Nat.{ℕ, _<_, _≤_}
+use Prim.Native.Nat.{ℕ, _≤_}
 use native.Mathlib.Omega.{arith}
 use lib.ListN.{length, drop, getD}
-use borrow.Author.Tests.{le-ltb, lt-ltb}
+use borrow.Author.Tests.{le-ltb}
 use Rattle.wire.specs.Refusals.{badSetting}
 use Rattle.wire.specs.Choice.{if_then_else_}
 use Rattle.wire.specs.Words.{Words, Case, answer, refused, says, refuses}
@@ -14,25 +14,29 @@ use Rattle.soupbintcp.specs.Letters.{PacketKind, login, unsequenced, client-hea
 use Rattle.soupbintcp.specs.Fields.{hasFields, notAuthorized, sessionNotAvailable, goodReason}
 use Rattle.soupbintcp.specs.Front.{FrontKind, packet, wants-more, frontOf, sessionOf}
 use Rattle.login.specs.declared.account.Account.{Account}
-use Rattle.login.specs.Account.{VerdictKind, known, unknown, mostAccounts, verdictOf, isKnown, lookupOf}
+use Rattle.login.specs.declared.account.Found.{Found}
+use Rattle.login.specs.Account.{VerdictKind, known, unknown, mostAccounts, verdictOf, isKnown, lookupOf, verdictOn}
 use Rattle.login.specs.Decision.{loginOf}
 use Rattle.login.specs.Decision as decided
 use Rattle.login.specs.Statements.{NotRefused}
+use Rattle.login.proofs.FoundLaws.{says-19, says-of-one}
 use Rattle.login.proofs.StatementLaws.{accepted-exactly-when, never-accepted}
-use Rattle.soupbintcp_session.specs.Answer.{Incoming, incoming, StepOutcome, stays, takes}
+use Rattle.soupbintcp_session.specs.Answer.{Incoming, incoming, StepOutcome, takes}
 use Rattle.soupbintcp_session.specs.Statements.{StaysOver}
 use Rattle.soupbintcp_session.specs.Answer as reply
 use Rattle.soupbintcp_session.proofs.FrontCases.{a-rejection, numbered-in-front, accepted-takes, unsequenced-takes, plain-takes, plain-not-accepted, plain-not-unsequenced}
 use Rattle.soupbintcp_session.proofs.StepLaws.{never-rests, changes-nothing, takes-packets, hands-up}
-use Rattle.soupbintcp_session.proofs.RunLaws.{any-cutting, runs-on}
+use Rattle.soupbintcp_session.proofs.RunLaws.{any-cutting, runs-on, runs-by-step}
 use Rattle.soupbintcp_server.specs.declared.server.ServerState.the-variants.{Waiting, In, Closed}
 use Rattle.soupbintcp_server.specs.declared.server.ServerState.{ServerState}
 use Rattle.soupbintcp_server.specs.declared.server.Server.{Server}
-use Rattle.soupbintcp_server.specs.Server.{becomes, loginAt, loginRow, waitingRow, inRow, rowAt, frontRowAt, stepAt, stepWith, entryOf, serverStep}
-use Rattle.soupbintcp_server.specs.Statements.{LoginInFront, EntryIsItsFields, attemptOf, Accepts, Rejects, LoginExactlyWhen, WasIn, before, by-login, TakesTheOthers, ServerPromises}
+use Rattle.soupbintcp_server.specs.declared.server.Stepped.{Stepped}
+use Rattle.soupbintcp_server.specs.Server.{becomes, loginAt, loginRow, waitingRow, inRow, rowAt, frontRowAt, stepAt, stepWith, entryOf, serverStep, ServerSteps}
+use Rattle.soupbintcp_server.specs.Statements.{LoginInFront, EntryIsItsFields, attemptOf, Accepts, OnlyByTheRules, Rejects, LoginExactlyWhen, WasIn, before, by-login, TakesTheOthers, RefusesTheOthers, ServerPromises}
 use Rattle.soupbintcp_server.proofs.LoginLaws.{username-first, password-first}
 use Rattle.soupbintcp_server.proofs.ServerCases.{ServerDoes, server-does, keeps, server-rests-or-moves, server-steady, with-rests-or-moves}
 use Rattle.soupbintcp_server.proofs.ServerCases as cases
+use Rattle.soupbintcp_server.proofs.StableLaws.{too-many, server-stable}
 use Rattle.soupbintcp_server.proofs.OrderLaws.{hands-up-in-order}
 use Rattle.soupbintcp_server.proofs.ExampleLaws.{server-example}
 
@@ -64,10 +68,6 @@ module _ (t : List Account) (s : Server) (l : List ℕ) (size n : ℕ) (q : s .s
 
 unsequenced-apart : answer reply.unsequenced ≡ answer reply.accepted → ⊥
 unsequenced-apart e = let z : _≡_ {A = ℕ} 0 1 = cc in omega arith
-
-too-many : (t : List Account) (s : Server) (l : List ℕ) → mostAccounts < length t → serverStep t s l ≡ stays s (refuses badSetting)
-unfolding serverStep lookupOf stepAt
-too-many t s l h = rw (lt-ltb _ _ h) refl
 
 accepts : (t : List Account) (s : Server) (l : List ℕ) (o : StepOutcome Server) → ServerDoes s l (lookupOf t (entryOf l)) o
     → o .reply .which ≡ answer reply.accepted → Accepts t s l
@@ -170,18 +170,18 @@ only-rejects t s l z = rejects-so t s l (server-does s (lookupOf t (entryOf l)) 
 
 -- ---- the other packets: a row of the state q, with a table that isn't too long
 
-told-other : (s : Server) (x : Words VerdictKind) (l : List ℕ) (kind : PacketKind) (size : ℕ) (state : ServerState) (b : Bool) → s .state ≡ state
-    → frontOf Client l ≡ says (packet kind) (size ∷ []) → x ≡ verdictOf b
-    → stepWith s x l ≡ rowAt state s x (incoming size (letterFor kind) [] (sessionOf Client l))
+told-other : (s : Server) (x : Words VerdictKind) (l : List ℕ) (kind : PacketKind) (size : ℕ) (vs : List ℕ) (state : ServerState) (b : Bool) → s .state ≡ state
+    → frontOf Client l ≡ says (packet kind) (size ∷ vs) → x ≡ verdictOf b
+    → stepWith s x l ≡ rowAt state s x (incoming size (letterFor kind) vs (sessionOf Client l))
 unfolding stepAt verdictOf
-told-other s x l kind size state true q e f = rw f (cases.packet-row s (says known []) l kind size [] e ∙ ap (λ (y : ServerState). rowAt y s (says known []) (incoming size (letterFor kind) [] (sessionOf Client l))) q)
-told-other s x l kind size state false q e f = rw f (cases.packet-row s (says unknown []) l kind size [] e ∙ ap (λ (y : ServerState). rowAt y s (says unknown []) (incoming size (letterFor kind) [] (sessionOf Client l))) q)
+told-other s x l kind size vs state true q e f = rw f (cases.packet-row s (says known []) l kind size vs e ∙ ap (λ (y : ServerState). rowAt y s (says known []) (incoming size (letterFor kind) vs (sessionOf Client l))) q)
+told-other s x l kind size vs state false q e f = rw f (cases.packet-row s (says unknown []) l kind size vs e ∙ ap (λ (y : ServerState). rowAt y s (says unknown []) (incoming size (letterFor kind) vs (sessionOf Client l))) q)
 
-row : (t : List Account) (s : Server) (l : List ℕ) (kind : PacketKind) (size : ℕ) (state : ServerState) → length t ≤ mostAccounts → s .state ≡ state
-    → frontOf Client l ≡ says (packet kind) (size ∷ [])
-    → serverStep t s l ≡ rowAt state s (lookupOf t (entryOf l)) (incoming size (letterFor kind) [] (sessionOf Client l))
+row : (t : List Account) (s : Server) (l : List ℕ) (kind : PacketKind) (size : ℕ) (vs : List ℕ) (state : ServerState) → length t ≤ mostAccounts → s .state ≡ state
+    → frontOf Client l ≡ says (packet kind) (size ∷ vs)
+    → serverStep t s l ≡ rowAt state s (lookupOf t (entryOf l)) (incoming size (letterFor kind) vs (sessionOf Client l))
 unfolding serverStep lookupOf
-row t s l kind size state z q e = told-other s (lookupOf t (entryOf l)) l kind size state (isKnown t (entryOf l)) q e (rw (le-ltb _ _ z) refl)
+row t s l kind size vs state z q e = told-other s (lookupOf t (entryOf l)) l kind size vs state (isKnown t (entryOf l)) q e (rw (le-ltb _ _ z) refl)
 
 -- a state that stays is the server's own
 own-state : (s : Server) (size : ℕ) (w : Words reply.SessionAnswerKind) (state : ServerState) → s .state ≡ state → takes size w (becomes s state) ≡ takes size w s
@@ -191,11 +191,22 @@ takes-the-others : TakesTheOthers
 unfolding letterFor rowAt waitingRow inRow
 takes-the-others =
     record {
-      unsequenced-in = λ t s l size z q e. row t s l unsequenced size In z q e ∙ own-state s size _ In q;
-      heartbeat-in = λ t s l size z q e. row t s l client-heartbeat size In z q e ∙ own-state s size _ In q;
-      debug-in = λ t s l size z q e. row t s l debug size In z q e ∙ own-state s size _ In q;
-      logout-in = λ t s l size z q e. row t s l logout size In z q e;
-      debug-waiting = λ t s l size z q e. row t s l debug size Waiting z q e ∙ own-state s size _ Waiting q;
+      unsequenced-in = λ t s l size z q e. row t s l unsequenced size [] In z q e ∙ own-state s size _ In q;
+      heartbeat-in = λ t s l size z q e. row t s l client-heartbeat size [] In z q e ∙ own-state s size _ In q;
+      debug-in = λ t s l size z q e. row t s l debug size [] In z q e ∙ own-state s size _ In q;
+      logout-in = λ t s l size z q e. row t s l logout size [] In z q e;
+      debug-waiting = λ t s l size z q e. row t s l debug size [] Waiting z q e ∙ own-state s size _ Waiting q;
+    }
+
+refuses-the-others : RefusesTheOthers
+unfolding letterFor rowAt waitingRow inRow
+refuses-the-others =
+    record {
+      unsequenced-waiting = λ t s l size z q e. row t s l unsequenced size [] Waiting z q e;
+      heartbeat-waiting = λ t s l size z q e. row t s l client-heartbeat size [] Waiting z q e;
+      logout-waiting = λ t s l size z q e. row t s l logout size [] Waiting z q e;
+      login-in = λ t s l size n z q e. row t s l login size (n ∷ []) In z q e;
+      any-closed = λ t s l kind size vs z q e. row t s l kind size vs Closed z q e;
     }
 
 -- ---- closed refuses every packet
@@ -233,14 +244,43 @@ login-exactly-when =
       too-many = too-many;
     }
 
+-- ---- what is said to be found, whoever says so
+
+module _ (f : Found) (s : Server) (l : List ℕ) where
+  table-of-one : f .«too_many» ≡ false → stepWith s (verdictOn f (entryOf l)) l ≡ serverStep (f .account ∷ []) s l
+  unfolding serverStep
+  table-of-one h = rw (says-of-one f (entryOf l) h) refl
+
+  too-many-out : f .«too_many» ≡ true → stepWith s (verdictOn f (entryOf l)) l .reply .which ≡ answer reply.accepted → ⊥
+  unfolding stepAt
+  too-many-out h w =
+      let r : refuses {K = reply.SessionAnswerKind} badSetting .which ≡ answer reply.accepted = rw (says-19 f (entryOf l) h) at w in
+      let z : _≡_ {A = ℕ} 0 1 = cc in
+      omega arith
+
+  only-by-its-record : stepWith s (verdictOn f (entryOf l)) l .reply .which ≡ answer reply.accepted → Accepts (f .account ∷ []) s l
+  only-by-its-record w = go (f .«too_many») refl
+    where
+      go : (b : Bool) → f .«too_many» ≡ b → Accepts (f .account ∷ []) s l
+      go true h = absurd (too-many-out h w)
+      go false h = login-exactly-when .only-when (f .account ∷ []) s l (ap (λ (o : StepOutcome Server). o .reply .which) (sym (table-of-one h)) ∙ w)
+
+pub only-by-the-rules : (r : Stepped) (t : List Account) (s : Server) (l : List ℕ) → ServerSteps r (serverStep t s l) → OnlyByTheRules r t s l
+unfolding OnlyByTheRules
+only-by-the-rules r t s l o e =
+    login-exactly-when .only-when t s l (ap (λ (w : Words reply.SessionAnswerKind). w .which) (sym (o .answers)) ∙ e)
+
 pub server-promises : ServerPromises
 server-promises =
     record {
       login-exactly-when = login-exactly-when;
       only-in = only-in;
       hands-up-only-in = hands-up-only-in;
+      only-by-its-record = only-by-its-record;
+      made-up-is-a-table-of-one = table-of-one;
       only-rejects = only-rejects;
       takes-the-others = takes-the-others;
+      refuses-the-others = refuses-the-others;
       stays-over = stays-over;
       example = server-example;
       changes-nothing = λ t. changes-nothing (serverStep t) Client reply.unsequenced (server-rests-or-moves t);
@@ -249,6 +289,8 @@ server-promises =
       keeps = keeps;
       hands-up-in-order = hands-up-in-order;
       hands-up-payload = λ t. hands-up (serverStep t) Client reply.unsequenced (server-rests-or-moves t) unsequenced-takes;
+      step-stable = server-stable;
       runs-on = λ t. runs-on (serverStep t) (server-steady t);
+      runs-by-step = λ t. runs-by-step (serverStep t) (server-steady t);
       any-cutting = λ t. any-cutting (serverStep t) (server-steady t);
     }

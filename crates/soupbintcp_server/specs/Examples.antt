@@ -6,7 +6,8 @@ use mathlib.Core.Path.{_≡_}
 use lib.ListN.{replicate}
 use Rattle.wire.specs.Text.{ascii, readroom}
 use Rattle.wire.specs.Bounds.{blank}
-use Rattle.wire.specs.Words.{Words, says}
+use Rattle.wire.specs.Refusals.{stateClosed}
+use Rattle.wire.specs.Words.{Words, says, refuses}
 use Rattle.text_fields.specs.Letters.{space}
 use Rattle.soupbintcp.specs.Letters.{letterLogin, letterUnsequenced, letterClientHeartbeat, letterLogout}
 use Rattle.login.specs.Examples.{ann}
@@ -39,3 +40,4 @@ pub record ServerExample : Type 0 where
       ≡ says accepted (5 ∷ []) ∷ says unsequenced (3 ∷ 1 ∷ []) ∷ says logged-out [] ∷ []
   pub closes : served .after ≡ server readroom 5 Closed
   pub leaves : served .rest ≡ afterLogout
+  pub why : served .why ≡ refuses stateClosed

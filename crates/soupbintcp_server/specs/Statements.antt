@@ -1,10 +1,10 @@
 -- What is promised of the session at the server.
 use Prim.Native.Nat.{ℕ, _-_, _<_, _≤_}
 use mathlib.Core.List.{List, [], _∷_}
-use mathlib.Core.Bool.{true}
+use mathlib.Core.Bool.{true, false}
 use mathlib.Core.Path.{_≡_}
 use lib.ListN.{length}
-use Rattle.wire.specs.Refusals.{badSetting}
+use Rattle.wire.specs.Refusals.{badSetting, packetNotTaken, stateClosed}
 use Rattle.wire.specs.Words.{Words, answer, says, refuses}
 use Rattle.soupbintcp.specs.declared.packet.Sender.the-variants.{Client}
 use Rattle.soupbintcp.specs.Letters.{login}
@@ -13,15 +13,18 @@ use Rattle.soupbintcp.specs.Head.{headSize}
 use Rattle.soupbintcp.specs.Fields.{notAuthorized, sessionNotAvailable, goodReason}
 use Rattle.soupbintcp.specs.Front.{packet, frontOf, sessionOf, usernameOf, passwordOf}
 use Rattle.login.specs.declared.account.Account.{Account}
-use Rattle.login.specs.Account.{VerdictKind, mostAccounts}
+use Rattle.login.specs.declared.account.Found.{Found}
+use Rattle.login.specs.Account.{VerdictKind, mostAccounts, verdictOn}
 use Rattle.login.specs.Decision.{granted, Attempt}
 use Rattle.login.specs.Statements.{AccountRule, NotRefused, Rules, NoText}
 use Rattle.soupbintcp_session.specs.Answer.{accepted, rejected, unsequenced, heartbeat, debug, logged-out, stays, takes}
+use Rattle.soupbintcp_session.specs.Answer.{sessionAnswerWords}
 use Rattle.soupbintcp_session.specs.Stream.{Run, run, packetsOf}
-use Rattle.soupbintcp_session.specs.Statements.{StaysOver}
+use Rattle.soupbintcp_session.specs.Statements.{StaysOver, StepStable, RunsByStep}
 use Rattle.soupbintcp_session.specs.Statements.{ChangesNothing, TakesPackets, HandsUpPayload, AnyStreamCutting, RunsOn}
 use Rattle.soupbintcp_server.specs.declared.server.ServerState.the-variants.{Waiting, In, Closed}
 use Rattle.soupbintcp_server.specs.declared.server.Server.{Server}
+use Rattle.soupbintcp_server.specs.declared.server.Stepped.{Stepped}
 use Rattle.soupbintcp_server.specs.HandedUp.{handedUp, beforeLogin, unsequencedIn}
 use Rattle.soupbintcp_server.specs.Server.{becomes, entryOf, stepWith, serverStep}
 use Rattle.soupbintcp_server.specs.Examples.{ServerExample}
@@ -56,6 +59,10 @@ pub record Accepts (t : List Account) (s : Server) (l : List ℕ) : Type 0 where
   pub number : ℕ
   pub front : LoginInFront l size number
   pub rules : Rules (attemptOf t s l number)
+
+-- what a step over a table answers lets no one in but by such a request
+unfoldable pub OnlyByTheRules : Stepped → List Account → Server → List ℕ → Type 0
+OnlyByTheRules r t s l = sessionAnswerWords (r .answer) .which ≡ answer accepted → Accepts t s l
 
 -- a login that isn't refused is accepted exactly when the account, session and number rules hold; J with A where the
 -- account rule doesn't, and J with S where it does and another doesn't
@@ -127,6 +134,25 @@ pub record TakesTheOthers : Type 0 where
       → s .state ≡ Waiting → PlainInFront l Letters.debug size
       → serverStep t s l ≡ takes size (says debug []) s
 
+-- and what no row takes, with such a table: waiting refuses U, R and O by 31, in refuses L by 31, and closed refuses
+-- every packet by 32
+pub record RefusesTheOthers : Type 0 where
+  pub unsequenced-waiting : (t : List Account) (s : Server) (l : List ℕ) (size : ℕ) → length t ≤ mostAccounts
+      → s .state ≡ Waiting → PlainInFront l Letters.unsequenced size
+      → serverStep t s l ≡ stays s (refuses packetNotTaken)
+  pub heartbeat-waiting : (t : List Account) (s : Server) (l : List ℕ) (size : ℕ) → length t ≤ mostAccounts
+      → s .state ≡ Waiting → PlainInFront l Letters.client-heartbeat size
+      → serverStep t s l ≡ stays s (refuses packetNotTaken)
+  pub logout-waiting : (t : List Account) (s : Server) (l : List ℕ) (size : ℕ) → length t ≤ mostAccounts
+      → s .state ≡ Waiting → PlainInFront l Letters.logout size
+      → serverStep t s l ≡ stays s (refuses packetNotTaken)
+  pub login-in : (t : List Account) (s : Server) (l : List ℕ) (size n : ℕ) → length t ≤ mostAccounts
+      → s .state ≡ In → LoginInFront l size n
+      → serverStep t s l ≡ stays s (refuses packetNotTaken)
+  pub any-closed : (t : List Account) (s : Server) (l : List ℕ) (kind : Letters.PacketKind) (size : ℕ) (vs : List ℕ)
+      → length t ≤ mostAccounts → s .state ≡ Closed → frontOf Client l ≡ says (packet kind) (size ∷ vs)
+      → serverStep t s l ≡ stays s (refuses stateClosed)
+
 -- over a stream: the payloads of U in the packets taken are handed up, each once and in order, and, where the server
 -- wasn't in, none before an accepted login
 pub record HandsUpInOrder (s : Server) (r : Run Server) : Type 0 where
@@ -140,10 +166,16 @@ pub record ServerPromises : Type 0 where
   pub only-in : (t : List Account) (s : Server) (l : List ℕ) → serverStep t s l .after .state ≡ In → WasIn t s l
   pub hands-up-only-in : (t : List Account) (s : Server) (l : List ℕ)
       → serverStep t s l .reply .which ≡ answer unsequenced → s .state ≡ In
+  -- whatever is said to be found, who is let in meets the rules with its record alone as the table
+  pub only-by-its-record : (f : Found) (s : Server) (l : List ℕ)
+      → stepWith s (verdictOn f (entryOf l)) l .reply .which ≡ answer accepted → Accepts (f .account ∷ []) s l
+  pub made-up-is-a-table-of-one : (f : Found) (s : Server) (l : List ℕ) → f .«too_many» ≡ false
+      → stepWith s (verdictOn f (entryOf l)) l ≡ serverStep (f .account ∷ []) s l
   -- nothing but a login request is rejected
   pub only-rejects : (t : List Account) (s : Server) (l : List ℕ)
       → serverStep t s l .reply .which ≡ answer rejected → Rejects t s l
   pub takes-the-others : TakesTheOthers
+  pub refuses-the-others : RefusesTheOthers
   -- closed, whatever comes
   pub stays-over : (t : List Account) (s : Server) (l : List ℕ) → s .state ≡ Closed
       → StaysOver Server s (serverStep t s l)
@@ -156,5 +188,7 @@ pub record ServerPromises : Type 0 where
   pub keeps : (t : List Account) (s : Server) (l : List ℕ) → KeepsItsSettings s (serverStep t s l .after)
   pub hands-up-in-order : (t : List Account) (s : Server) (l : List ℕ) → HandsUpInOrder s (run (serverStep t) s l)
   pub hands-up-payload : (t : List Account) → HandsUpPayload Server (serverStep t) Client unsequenced
+  pub step-stable : (t : List Account) → StepStable Server (serverStep t)
   pub runs-on : (t : List Account) (s : Server) (l : List ℕ) → RunsOn Server (serverStep t) s l
+  pub runs-by-step : (t : List Account) (s : Server) (l : List ℕ) → RunsByStep Server (serverStep t) s l
   pub any-cutting : (t : List Account) → AnyStreamCutting Server (serverStep t)

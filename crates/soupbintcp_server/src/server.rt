@@ -1,6 +1,6 @@
 // The session at the server.
 use login::account::Account;
-use login::account::Verdict;
+use login::account::Found;
 use login::decision;
 use login::decision::Decision;
 use login::table;
@@ -21,7 +21,7 @@ use wire::refusal::Refusal;
 ghost use mathlib.Core.Path.{_≡_};
 ghost use Prim.Native.Nat.{_≤_};
 ghost use Rattle.wire.specs.Refusals.{badSetting};
-ghost use Rattle.login.specs.Account.{verdictWords};
+ghost use Rattle.login.specs.Account.{verdictOn};
 ghost use Rattle.login.specs.Table.{accountsOf};
 ghost use Rattle.login.specs.Decision.{decisionWords};
 ghost use Rattle.soupbintcp.specs.Letters.{packetKind, packetValues, letterFor};
@@ -160,18 +160,19 @@ impl Server {
         self.step_with(table::lookup(table, entry(stream)), stream)
     }
 
-    // The same from what a table says of the entry in front, so that the accounts may be kept in any form. The
-    // verdict it is given is believed: a caller has it from a lookup of the entry in front.
-    pub fn step_with(self, verdict: Verdict, stream: &[u8]) -> Stepped
-        ensures { λ r. ⌜ ServerSteps r (stepWith self (verdictWords verdict) (now (stream .entry))) ⌝ }
+    // The same from what a lookup found, so that the accounts may be kept in any form. The record is compared with the
+    // entry in front here: one that is made up is no more than a table of one.
+    pub fn step_with(self, found: Found, stream: &[u8]) -> Stepped
+        ensures { λ r. ⌜ ServerSteps r (stepWith self (verdictOn found (entryOf (now (stream .entry))))
+            (now (stream .entry))) ⌝ }
     {
-        if let Verdict::TooMany = verdict {
+        if found.too_many {
             return self.stay(Answer::Refused(refusal::BAD_SETTING));
         }
         match front::read(stream, Sender::Client) {
             Front::NeedMore => self.stay(Answer::NeedMore),
             Front::Refused(r) => self.stay(Answer::Refused(r)),
-            Front::Whole { packet, size } => self.take(packet, size, verdict, stream),
+            Front::Whole { packet, size } => self.take(packet, size, found, stream),
         }
     }
 
@@ -210,23 +211,23 @@ impl Server {
     }
 
     // The row of the table for the packet in front.
-    fn take(self, packet: Packet, size: usize, verdict: Verdict, stream: &[u8]) -> Stepped
+    fn take(self, packet: Packet, size: usize, found: Found, stream: &[u8]) -> Stepped
         requires { ⌜ headSize ≤ size ⌝ }
-        ensures { λ r. ⌜ ServerSteps r (serverRow self (verdictWords verdict)
+        ensures { λ r. ⌜ ServerSteps r (serverRow self (verdictOn found (entryOf (now (stream .entry))))
             (incoming size (letterFor (packetKind packet)) (packetValues packet)
             (sessionOf Client (now (stream .entry))))) ⌝ }
     {
         let state = self.state;
         match state {
-            ServerState::Waiting => self.take_waiting(packet, size, verdict, stream),
+            ServerState::Waiting => self.take_waiting(packet, size, found, stream),
             ServerState::In => self.take_in(packet, size),
             ServerState::Closed => self.stay(Answer::Refused(refusal::STATE_CLOSED)),
         }
     }
 
     // Waiting for a login.
-    fn take_waiting(self, packet: Packet, size: usize, verdict: Verdict, stream: &[u8]) -> Stepped
-        ensures { λ r. ⌜ ServerSteps r (waitingRow self (verdictWords verdict)
+    fn take_waiting(self, packet: Packet, size: usize, found: Found, stream: &[u8]) -> Stepped
+        ensures { λ r. ⌜ ServerSteps r (waitingRow self (verdictOn found (entryOf (now (stream .entry))))
             (incoming size (letterFor (packetKind packet)) (packetValues packet)
             (sessionOf Client (now (stream .entry))))) ⌝ }
     {
@@ -236,7 +237,7 @@ impl Server {
                 let session = self.session;
                 let last = self.last;
                 self.log_in(
-                    decision::decide(verdict, asked, number, session, last),
+                    decision::decide(found, entry(stream), asked, number, session, last),
                     size,
                 )
             }

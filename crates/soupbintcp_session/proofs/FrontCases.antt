@@ -7,7 +7,7 @@ use lib.ListN.{length, getD}
 use lib.Dec.{eqb}
 use mathlib.Core.Bool.{true, false}
 use borrow.Author.Tests.{eqb-false}
-use Rattle.wire.specs.Words.{Case, answer, refused, says}
+use Rattle.wire.specs.Words.{Case, answer, refused, says, refuses}
 use Rattle.wire.proofs.Words.{which-of}
 use Rattle.soupbintcp.specs.declared.packet.Sender.{Sender}
 use Rattle.soupbintcp.specs.Letters.{PacketKind, letterFor}
@@ -31,18 +31,21 @@ pub record InFront (s : Sender) (l : List ℕ) (k : ℕ) (vs : List ℕ) : Type 
   pub some : 3 ≤ k
   pub within : k ≤ length l
 
--- what follows doesn't change it, nor its parts
-module _ (s : Sender) (l m : List ℕ) (k : ℕ) (vs : List ℕ) (i : InFront s l k vs) where
-  no-more : frontOf s l .which ≡ answer wants-more → ⊥
-  no-more e = let a = i .front in let w = which-of a in let z : _≡_ {A = ℕ} 0 1 = cc in omega arith
+pub no-more : (s : Sender) (l : List ℕ) (k : ℕ) (vs : List ℕ) → InFront s l k vs → frontOf s l .which ≡ answer wants-more → ⊥
+no-more s l k vs i e = let a = i .front in let w = which-of a in let z : _≡_ {A = ℕ} 0 1 = cc in omega arith
 
+pub at-fault : (s : Sender) (l : List ℕ) (r : ℕ) → frontOf s l ≡ refuses r → frontOf s l .which ≡ answer wants-more → ⊥
+at-fault s l r a e = let w = which-of a in let z : _≡_ {A = ℕ} 0 1 = cc in omega arith
+
+-- where no more is needed, what follows changes neither the front nor its parts
+module _ (s : Sender) (l m : List ℕ) (z : frontOf s l .which ≡ answer wants-more → ⊥) where
   pub front-stays : frontOf s (l ++ m) ≡ frontOf s l
   unfolding Stable
-  front-stays = front-promises .stable s l m no-more
+  front-stays = front-promises .stable s l m z
 
   bytes-stay : packetBytes s (l ++ m) ≡ packetBytes s l
   unfolding StableBytes
-  bytes-stay = front-promises .stable-bytes s l m no-more
+  bytes-stay = front-promises .stable-bytes s l m z
 
   pub session-stays : sessionOf s (l ++ m) ≡ sessionOf s l
   unfolding sessionOf

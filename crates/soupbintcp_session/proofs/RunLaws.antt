@@ -1,5 +1,5 @@
 -- Laws of a run, for every session S and its step: a stream in pieces gives what it gives whole, and a run stops only where a step
--- takes nothing.
+-- takes nothing, and says why.
 use mathlib.Core.Path.{_≡_, refl, ap, sym, _∙_}
 use mathlib.Core.List.{List, [], _∷_, _++_, append-assoc, append-nil}
 use Prim.Native.Nat.{ℕ, zero, suc, _≤_}
@@ -9,14 +9,15 @@ use lib.Seq.{take-append-le, drop-append-le}
 use Rattle.soupbintcp_session.specs.Answer.{StepOutcome}
 use Rattle.wire.specs.Bytes.{joined}
 use Rattle.soupbintcp_session.specs.Stream.{Taking, Run, Stepping, stopped, then-run, runAt, runUpTo, run, runOn, runPieces, packetsOf}
-use Rattle.soupbintcp_session.specs.Statements.{TakesNothing, AnyStreamCutting, RunsOn}
+use Rattle.soupbintcp_session.specs.Statements.{TakesNothing, AnyStreamCutting, RunsOn, RunsByStep}
 
 -- what a run asks of its step: it takes no more than there is, what it takes doesn't change by what follows, and it takes nothing
--- only by need more and by a refusal
+-- by need more and by a refusal, and by nothing else
 pub record Steady (S : Type 0) (step : Stepping S) : Type 0 where
   pub fits : (s : S) (l : List ℕ) → step s l .size ≤ length l
   pub keeps : (s : S) (l m : List ℕ) (k : ℕ) → step s l .size ≡ suc k → step s (l ++ m) ≡ step s l
   pub silent : (s : S) (l : List ℕ) → step s l .size ≡ 0 → TakesNothing (step s l .reply .which)
+  pub idle : (s : S) (l : List ℕ) → TakesNothing (step s l .reply .which) → step s l .size ≡ 0
 
 module _ {S : Type 0} (step : Stepping S) (o : Steady S step) where
   -- the packet that is taken of l, with k + 1 bytes
@@ -24,7 +25,7 @@ module _ {S : Type 0} (step : Stepping S) (o : Steady S step) where
   taken-of s l k = record { bytes = take (suc k) l; reply = step s l .reply }
 
   -- what holds of a run that stops at once, and of a run after one more packet, holds of every run
-  module _ (P : S → List ℕ → Run S → Type 0) (stop : (s : S) (l : List ℕ) → step s l .size ≡ 0 → P s l (stopped s l))
+  module _ (P : S → List ℕ → Run S → Type 0) (stop : (s : S) (l : List ℕ) → step s l .size ≡ 0 → P s l (stopped s l (step s l .reply)))
       (go : (s : S) (l : List ℕ) (k : ℕ) (r : Run S) → step s l .size ≡ suc k → suc k ≤ length l → P (step s l .after) (drop (suc k) l) r
       → P s l (then-run (taken-of s l k) r)) where
     none-fits : (s : S) (l : List ℕ) → length l ≤ 0 → step s l .size ≡ 0
@@ -53,7 +54,7 @@ module _ {S : Type 0} (step : Stepping S) (o : Steady S step) where
 
   -- ---- a run by its first step
 
-  up-to-stops : (f : ℕ) (s : S) (l : List ℕ) → step s l .size ≡ 0 → runUpTo step f s l ≡ stopped s l
+  up-to-stops : (f : ℕ) (s : S) (l : List ℕ) → step s l .size ≡ 0 → runUpTo step f s l ≡ stopped s l (step s l .reply)
   unfolding runUpTo runAt
   up-to-stops zero s l e = refl
   up-to-stops (suc f) s l e = rw e refl
@@ -79,7 +80,7 @@ module _ {S : Type 0} (step : Stepping S) (o : Steady S step) where
   unfolding Reached
   enough = runs Reached (λ s l e f h. up-to-stops f s l e) reached-more
 
-  pub run-stops : (s : S) (l : List ℕ) → step s l .size ≡ 0 → run step s l ≡ stopped s l
+  pub run-stops : (s : S) (l : List ℕ) → step s l .size ≡ 0 → run step s l ≡ stopped s l (step s l .reply)
   unfolding run
   run-stops s l e = up-to-stops (length l) s l e
 
@@ -90,6 +91,15 @@ module _ {S : Type 0} (step : Stepping S) (o : Steady S step) where
       let d = length-drop (suc k) l in
       sym (enough s l (suc (length l)) (omega arith)) ∙ up-to-goes (length l) s l k e
       ∙ ap (then-run (taken-of s l k)) (enough (step s l .after) (drop (suc k) l) (length l) (omega arith))
+
+  module _ (s : S) (l : List ℕ) where
+    goes-by-size : (TakesNothing (step s l .reply .which) → ⊥) → (n : ℕ) → step s l .size ≡ n
+        → run step s l ≡ then-run (record { bytes = take n l; reply = step s l .reply }) (run step (step s l .after) (drop n l))
+    goes-by-size z zero e = absurd (z (o .silent s l e))
+    goes-by-size z (suc k) e = run-goes s l k e
+
+    pub runs-by-step : RunsByStep S step s l
+    runs-by-step = record { goes = λ z. goes-by-size z (step s l .size) refl; stops = λ z. run-stops s l (o .idle s l z) }
 
   -- ---- more bytes
 
@@ -115,7 +125,6 @@ module _ {S : Type 0} (step : Stepping S) (o : Steady S step) where
   pieces-from s l (m ∷ ms) = rw (← run-append s l m) (pieces-from s (l ++ m) ms) ∙ ap (run step s) (append-assoc l m (joined ms))
 
   pub any-cutting : AnyStreamCutting S step
-  unfolding run runUpTo
   any-cutting s ms = pieces-from s [] ms
 
   -- ---- all of the stream, up to a step that takes nothing
@@ -140,6 +149,13 @@ module _ {S : Type 0} (step : Stepping S) (o : Steady S step) where
   unfolding Stops
   at-last = runs Stops (λ s l e. o .silent s l e) (λ s l k r e h ih. ih)
 
+  SaysWhy : S → List ℕ → Run S → Type 0
+  SaysWhy s l r = r .why ≡ step (r .after) (r .rest) .reply
+
+  because : (s : S) (l : List ℕ) → SaysWhy s l (run step s l)
+  unfolding SaysWhy
+  because = runs SaysWhy (λ s l e. refl) (λ s l k r e h ih. ih)
+
   pub runs-on : (s : S) (l : List ℕ) → RunsOn S step s l
-  unfolding OnAll Stops
-  runs-on s l = record { all = on-all s l; stops = at-last s l }
+  unfolding OnAll Stops SaysWhy
+  runs-on s l = record { all = on-all s l; stops = at-last s l; why = because s l }

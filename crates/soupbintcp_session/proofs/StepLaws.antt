@@ -42,6 +42,10 @@ module _ {S : Type 0} {s : S} {l : List ℕ} {from : Sender} {kind : SessionAnsw
   rests-by (rests w n e) z = rw e (rests-nothing w n)
   rests-by (moves k vs w t i n m e) z = let a : k ≡ 0 = rw e at z in let b = i .some in absurd (omega arith)
 
+  pub takes-none : Does s l from kind o → TakesNothing (o .reply .which) → o .size ≡ 0
+  takes-none (rests w n e) z = rw e refl
+  takes-none (moves k vs w t i n m e) z = absurd (n (rw e at z))
+
   waits-so : Does s l from kind o → o .reply .which ≡ answer wants-more → o ≡ stays s (says wants-more [])
   waits-so (rests w waits e) z = e
   waits-so (rests w (refusing r) e) z = let f : refuses {K = SessionAnswerKind} r .which ≡ answer wants-more = rw e at z in let y : _≡_ {A = ℕ} 0 1 = cc in absurd (omega arith)

@@ -2,14 +2,14 @@
 use Prim.Native.Nat.{ℕ, _≤_}
 use mathlib.Core.List.{List, [], _++_}
 use mathlib.Core.Path.{_≡_}
-use lib.ListN.{length, take}
+use lib.ListN.{length, take, drop}
 use Rattle.wire.specs.Words.{Case, answer, refused, says, refuses}
 use Rattle.soupbintcp.specs.declared.packet.Sender.{Sender}
 use Rattle.soupbintcp.specs.Head.{headSize}
 use Rattle.soupbintcp.specs.Front.{packetBytes, payloadOf}
 use Rattle.soupbintcp_session.specs.Answer.{SessionAnswerKind, wants-more, answerMessage, StepOutcome, stays}
 use Rattle.wire.specs.Bytes.{joined}
-use Rattle.soupbintcp_session.specs.Stream.{Stepping, stopped, run, runPieces, packetsOf}
+use Rattle.soupbintcp_session.specs.Stream.{Stepping, stopped, then-run, run, runPieces, packetsOf}
 
 -- need more and a refusal: no other number, no bytes taken, and the session as it was
 pub record ChangesNothing (S : Type 0) (step : Stepping S) : Type 0 where
@@ -43,11 +43,25 @@ abbrev pub HandsUpPayload : (S : Type 0) → Stepping S → Sender → SessionAn
 HandsUpPayload S step from kind = (s : S) (l : List ℕ) → step s l .reply .which ≡ answer kind
     → answerMessage (step s l .reply) l ≡ payloadOf from l
 
--- a stream in pieces, however it is cut, gives what it gives whole
+-- a step that isn't need more gives the same on a longer stream
+abbrev pub StepStable : (S : Type 0) → Stepping S → Type 0
+StepStable S step = (s : S) (l m : List ℕ) → (step s l .reply .which ≡ answer wants-more → ⊥)
+    → step s (l ++ m) ≡ step s l
+
+-- a stream in pieces, however it is cut, gives what it gives whole, and stops for the same reason
 abbrev pub AnyStreamCutting : (S : Type 0) → Stepping S → Type 0
-AnyStreamCutting S step = (s : S) (ms : List (List ℕ)) → runPieces step (stopped s []) ms ≡ run step s (joined ms)
+AnyStreamCutting S step = (s : S) (ms : List (List ℕ)) → runPieces step (run step s []) ms ≡ run step s (joined ms)
 
 -- a run takes packets from the front of the stream, and stops only where a step takes nothing
 pub record RunsOn (S : Type 0) (step : Stepping S) (s : S) (l : List ℕ) : Type 0 where
   pub all : joined (packetsOf (run step s l .taken)) ++ run step s l .rest ≡ l
   pub stops : TakesNothing (step (run step s l .after) (run step s l .rest) .reply .which)
+  pub why : run step s l .why ≡ step (run step s l .after) (run step s l .rest) .reply
+
+-- a run by its first step
+pub record RunsByStep (S : Type 0) (step : Stepping S) (s : S) (l : List ℕ) : Type 0 where
+  pub goes : (TakesNothing (step s l .reply .which) → ⊥)
+      → run step s l
+      ≡ then-run (record { bytes = take (step s l .size) l; reply = step s l .reply })
+      (run step (step s l .after) (drop (step s l .size) l))
+  pub stops : TakesNothing (step s l .reply .which) → run step s l ≡ stopped s l (step s l .reply)

@@ -1,18 +1,20 @@
 -- The functions' own cases: a letter, one byte of each field, and the loops, which have passed i bytes of l.
 use mathlib.Core.Path.{_≡_, refl, ap, sym, _∙_}
 use mathlib.Core.List.{List, [], _∷_}
-use mathlib.Core.Bool.{Bool, true, false, not}
-use Prim.Native.Nat.{ℕ, suc, _+_, _-_, _≤_, _<_}
+use mathlib.Core.Bool.{Bool, true, false, _&&_, _||_}
+use Prim.Native.Nat.{ℕ, suc, _+_, _*_, _≤_, _<_}
 use native.Mathlib.Omega.{arith}
 use native.Mathlib.Numerals.{add-one}
-use lib.ListN.{length, take, drop, getD, drop-of-length-le}
+use lib.ListN.{length, drop, getD, drop-of-length-le}
 use lib.Seq.{drop-cons}
-use lib.Dec.{ltb, leb}
-use borrow.Author.Tests.{lt-ltb, le-ltb, le-leb, lt-leb, eq-eqb, ne-eqb, not-true, not-false}
+use lib.Dec.{ltb, leb, eqb, lit<}
+use mir.Val.{boolByte, Fits}
+use mir.Syntax.{w8, w64}
+use borrow.Author.Tests.{lt-ltb, le-ltb, le-leb, lt-leb, ltb-true, ltb-false, leb-true, eq-eqb, ne-eqb}
 use Rattle.wire.specs.Choice.{if_then_else_}
 use Rattle.wire.specs.Bounds.{largestNumber}
 use Rattle.wire.specs.Words.{Case, Words, answer, refused, says}
-use Rattle.wire.proofs.Numbers.{part-to-end}
+use Rattle.wire.proofs.Cases.{below-or-not}
 use Rattle.decimal.specs.declared.reading.Appended.{Appended}
 use Rattle.decimal.specs.declared.reading.Appended.the-variants as appended
 use Rattle.decimal.specs.Decimal.{isDigit, withDigit, Appending, value, no-digit, too-large, appendedWords, appendOf}
@@ -34,37 +36,91 @@ front l i h = rw (add-one, drop-cons l i 0)
 
 -- ---- a letter or digit
 
+-- three ranges, of which at most one can hold the byte
+digit-only : (x y z : Bool) → ((x || (false && y)) || (false && z)) ≡ x
+digit-only true y z = refl
+digit-only false y z = refl
+
+capital-only : (x y z : Bool) → (((x && false) || y) || (false && z)) ≡ y
+capital-only true true z = refl
+capital-only true false z = refl
+capital-only false true z = refl
+capital-only false false z = refl
+
+small-only : (x y z : Bool) → (((x && false) || (y && false)) || z) ≡ z
+small-only true true z = refl
+small-only true false z = refl
+small-only false true z = refl
+small-only false false z = refl
+
 module _ (b : ℕ) where
-  pub letter-below : b < 65 → b < 48 → false ≡ isLetterOrDigit b
+  abbrev tests : Bool
+  tests = ((leb 48 b && leb b 57) || (leb 65 b && leb b 90)) || (leb 97 b && leb b 122)
+
+  digit-low : (x : Bool) → ltb b 48 ≡ x → (leb 48 b && leb b 57) ≡ (if x then false else leb b 57)
+  digit-low true e = rw (lt-leb _ _ (ltb-true _ _ e)) refl
+  digit-low false e = rw (le-leb _ _ (ltb-false _ _ e)) refl
+
+  letter-low : b < 65 → tests ≡ isLetterOrDigit b
   unfolding isLetterOrDigit isDigit
-  letter-below h g = simp (lt-ltb _ _ h, lt-ltb _ _ g)
+  letter-low h =
+      let n : b < 97 = omega arith in
+      rw (lt-leb _ _ h, lt-leb _ _ n, lt-ltb _ _ h, digit-only (leb 48 b && leb b 57) (leb b 90) (leb b 122)) (digit-low (ltb b 48) refl)
 
-  pub letter-digit : b < 65 → 48 ≤ b → leb b 57 ≡ isLetterOrDigit b
-  unfolding isLetterOrDigit isDigit
-  letter-digit h g = simp (lt-ltb _ _ h, le-ltb _ _ g)
-
-  pub letter-upper : 65 ≤ b → b < 97 → leb b 90 ≡ isLetterOrDigit b
+  letter-capital : 65 ≤ b → b < 97 → tests ≡ isLetterOrDigit b
   unfolding isLetterOrDigit
-  letter-upper h g = simp (le-ltb _ _ h, lt-ltb _ _ g)
+  letter-capital h g =
+      let n : 57 < b = omega arith in
+      rw (lt-leb _ _ n, le-leb _ _ h, lt-leb _ _ g, le-ltb _ _ h, lt-ltb _ _ g) (capital-only (leb 48 b) (leb b 90) (leb b 122))
 
-  pub letter-lower : 65 ≤ b → 97 ≤ b → leb b 122 ≡ isLetterOrDigit b
+  letter-small : 97 ≤ b → tests ≡ isLetterOrDigit b
   unfolding isLetterOrDigit
-  letter-lower h g = simp (le-ltb _ _ h, le-ltb _ _ g)
+  letter-small h =
+      let n : 57 < b = omega arith in
+      let k : 90 < b = omega arith in
+      let j : 65 ≤ b = omega arith in
+      rw (lt-leb _ _ n, lt-leb _ _ k, le-leb _ _ h, le-ltb _ _ j, le-ltb _ _ h) (small-only (leb 48 b) (leb 65 b) (leb b 122))
+
+  pub letter-or-digit : tests ≡ isLetterOrDigit b
+  letter-or-digit =
+      below-or-not (tests ≡ isLetterOrDigit b) b 65 letter-low (λ h. below-or-not (tests ≡ isLetterOrDigit b) b 97 (letter-capital h) letter-small)
 
 -- ---- without case
 
+pub raise-fits : (x : Bool) → Fits w8 (32 * boolByte x)
+raise-fits true = record { fits = lit< tt }
+raise-fits false = record { fits = lit< tt }
+
 module _ (b : ℕ) where
-  pub lower-below : b < 65 → b ≡ lower b
-  unfolding lower
-  lower-below h = simp (lt-ltb _ _ h)
+  abbrev raised : ℕ
+  raised = b + 32 * boolByte (leb 65 b && leb b 90)
 
-  pub lower-letter : 65 ≤ b → b ≤ 90 → b + 32 ≡ lower b
+  raised-small : b < 65 → raised ≡ lower b
   unfolding lower
-  lower-letter h g = simp (le-ltb _ _ h, le-leb _ _ g)
+  raised-small h = rw (lt-leb _ _ h, lt-ltb _ _ h) (omega arith)
 
-  pub lower-above : 65 ≤ b → 90 < b → b ≡ lower b
+  raised-large : 65 ≤ b → raised ≡ lower b
   unfolding lower
-  lower-above h g = simp (le-ltb _ _ h, lt-leb _ _ g)
+  raised-large h = rw (le-leb _ _ h, le-ltb _ _ h) (go (leb b 90))
+    where
+      go : (x : Bool) → b + 32 * boolByte x ≡ if x then b + 32 else b
+      go true = omega arith
+      go false = omega arith
+
+  pub lower-sum : raised ≡ lower b
+  lower-sum = below-or-not (raised ≡ lower b) b 65 raised-small raised-large
+
+  lower-small : b < 256 → lower b < 256
+  unfolding lower
+  lower-small f = go (ltb b 65) (leb b 90) refl
+    where
+      go : (x y : Bool) → leb b 90 ≡ y → (if x then b else if y then b + 32 else b) < 256
+      go true y e = f
+      go false true e = let h : b ≤ 90 = leb-true _ _ e in omega arith
+      go false false e = f
+
+  pub raised-fits : Fits w8 b → Fits w8 raised
+  raised-fits f = record { fits = rw lower-sum (lower-small (f .fits)) }
 
 -- ---- one byte of a session: t is what the test of a letter or digit gave
 
@@ -199,58 +255,87 @@ module _ (l : List ℕ) (i : ℕ) (s : NumberState) where
   unfolding numberFrom
   number-end least r v h e = e ∙ ap (numberGood least) (rw (drop-of-length-le l h) at v) ∙ number-fold .same least l
 
--- ---- letters or digits at the left end
+-- ---- a sound field, of which i bytes were passed: size are letters or digits at the left end, in-word tells whether the others may still be, and good that
+-- none is wrong
 
-pub word-start : (l : List ℕ) → 0 + wordLength (drop 0 l) ≡ wordLength l
-word-start l = omega arith
+-- how many letters or digits follow at the front of m
+abbrev more : Bool → List ℕ → ℕ
+more in-word m = if in-word then wordLength m else 0
 
-module _ (l : List ℕ) (i n : ℕ) (v : i + wordLength (drop i l) ≡ n) where
-  pub word-next : (t : Bool) → i < length l → t ≡ isLetterOrDigit (getD l i 0) → not t ≡ false → i + 1 + wordLength (drop (i + 1) l) ≡ n
+pub record Passed (l : List ℕ) (size : ℕ) (in-word good : Bool) (i : ℕ) : Type 0 where
+  pub within : size ≤ i
+  pub count : size + more in-word (drop i l) ≡ wordLength l
+  pub rest : (good && areSpaces (drop (more in-word (drop i l)) (drop i l))) ≡ areSpaces (drop (wordLength l) l)
+
+pub passed-none : (l : List ℕ) → Passed l 0 true true 0
+passed-none l = record { within = omega arith; count = omega arith; rest = refl }
+
+and-whole : (x : Bool) → (x && true) ≡ x
+and-whole true = refl
+and-whole false = refl
+
+and-none : (x : Bool) → (x && false) ≡ false
+and-none true = refl
+and-none false = refl
+
+and-apart : (x y z : Bool) → ((x && y) && z) ≡ (x && (y && z))
+and-apart true y z = refl
+and-apart false y z = refl
+
+-- one byte b in front of m
+module _ (b : ℕ) (m : List ℕ) where
+  count-on : (size n : ℕ) (in-word x : Bool) → isLetterOrDigit b ≡ x → size + more in-word (b ∷ m) ≡ n → size + boolByte (in-word && x) + more (in-word && x) m ≡ n
   unfolding wordLength
-  word-next t h f g = let w : i + suc (wordLength (drop (i + 1) l)) ≡ n = rw (← f, not-false t g) at (rw (front l i h) at v) in omega arith
+  count-on size n true true e h = let w : size + suc (wordLength m) ≡ n = rw e at h in omega arith
+  count-on size n true false e h = let w : size + 0 ≡ n = rw e at h in omega arith
+  count-on size n false x e h = let w : size + 0 ≡ n = h in omega arith
 
-  pub word-stops : (t : Bool) → i < length l → t ≡ isLetterOrDigit (getD l i 0) → not t ≡ true → i ≡ n
+  rest-on : (good in-word x w : Bool) → isLetterOrDigit b ≡ x → (good && areSpaces (drop (more in-word (b ∷ m)) (b ∷ m))) ≡ w
+      → ((good && ((in-word && x) || eqb b 32)) && areSpaces (drop (more (in-word && x) m) m)) ≡ w
+  unfolding wordLength areSpaces
+  rest-on good true true w e h = let k : (good && areSpaces (drop (wordLength m) m)) ≡ w = rw e at h in rw (and-whole good) k
+  rest-on good true false w e h = let k : (good && (eqb b 32 && areSpaces m)) ≡ w = rw e at h in and-apart good (eqb b 32) (areSpaces m) ∙ k
+  rest-on good false x w e h = and-apart good (eqb b 32) (areSpaces m) ∙ h
+
+module _ (l : List ℕ) (size : ℕ) (in-word good : Bool) (i : ℕ) (p : Passed l size in-word good i) where
+  pub passed-next : (x : Bool) → i < length l → x ≡ isLetterOrDigit (getD l i 0)
+      → Passed l (size + boolByte (in-word && x)) (in-word && x) (good && ((in-word && x) || eqb (getD l i 0) 32)) (i + 1)
+  passed-next x h e =
+      record {
+        within = at-most (in-word && x);
+        count = count-on (getD l i 0) (drop (i + 1) l) size (wordLength l) in-word x (sym e) (rw (front l i h) at (p .count));
+        rest = rest-on (getD l i 0) (drop (i + 1) l) good in-word x (areSpaces (drop (wordLength l) l)) (sym e) (rw (front l i h) at (p .rest));
+      }
+    where
+      at-most : (y : Bool) → size + boolByte y ≤ i + 1
+      at-most true = omega (arith, p .within)
+      at-most false = omega (arith, p .within)
+
+  pub passed-fits : (y : Bool) → i < length l → Fits w64 (length l) → Fits w64 (size + boolByte y)
+  passed-fits true h f = record { fits = omega (arith, p .within, f .fits) }
+  passed-fits false h f = record { fits = omega (arith, p .within, f .fits) }
+
+  over-count : length l ≤ i → size ≡ wordLength l
   unfolding wordLength
-  word-stops t h f g = let w : i + 0 ≡ n = rw (← f, not-true t g) at (rw (front l i h) at v) in omega arith
+  over-count h = go in-word (rw (drop-of-length-le l h) at (p .count))
+    where
+      go : (x : Bool) → size + more x [] ≡ wordLength l → size ≡ wordLength l
+      go true e = omega arith
+      go false e = omega arith
 
-  pub word-ends : length l ≤ i → i ≡ n
-  unfolding wordLength
-  word-ends h = let w : i + 0 ≡ n = rw (drop-of-length-le l h) at v in omega arith
+  over-rest : length l ≤ i → good ≡ areSpaces (drop (wordLength l) l)
+  unfolding wordLength areSpaces
+  over-rest h = go in-word (rw (drop-of-length-le l h) at (p .rest))
+    where
+      go : (x : Bool) → (good && areSpaces (drop (more x []) [])) ≡ areSpaces (drop (wordLength l) l) → good ≡ areSpaces (drop (wordLength l) l)
+      go true e = sym (and-whole good) ∙ e
+      go false e = sym (and-whole good) ∙ e
 
-word-within : (l : List ℕ) → wordLength l ≤ length l
-unfolding wordLength
-word-within [] = omega arith
-word-within (b ∷ l) = go (isLetterOrDigit b) (word-within l)
-  where
-    go : (x : Bool) → wordLength l ≤ length l → (if x then suc (wordLength l) else 0) ≤ suc (length l)
-    go true h = omega arith
-    go false h = omega arith
-
--- ---- spaces: w is the answer
-
-module _ (l : List ℕ) (i : ℕ) (w : Bool) (v : areSpaces (drop i l) ≡ w) where
-  pub spaces-next : i < length l → getD l i 0 ≡ space → areSpaces (drop (i + 1) l) ≡ w
-  unfolding areSpaces
-  spaces-next h e = simp (eq-eqb _ _ e) at (rw (front l i h) at v)
-
-  pub spaces-stop : i < length l → (getD l i 0 ≡ space → ⊥) → false ≡ w
-  unfolding areSpaces
-  spaces-stop h e = simp (ne-eqb _ _ e) at (rw (front l i h) at v)
-
-  pub spaces-end : length l ≤ i → true ≡ w
-  unfolding areSpaces
-  spaces-end h = rw (drop-of-length-le l h) at v
-
--- ---- a sound field: k letters or digits, then spaces
-
-module _ (l : List ℕ) (k : ℕ) (e : k ≡ wordLength l) where
-  pub sound-within : k ≤ length l
-  sound-within = omega (arith, word-within l)
-
-  pub sound-short : (least : ℕ) → k < least → false ≡ sound least l
+  pub passed-all : (least : ℕ) → length l ≤ i → (good && leb least size) ≡ sound least l
   unfolding sound
-  sound-short least h = simp (← e, lt-ltb _ _ h)
-
-  pub sound-rest : (least : ℕ) (t : Bool) → least ≤ k → t ≡ areSpaces (take (length l - k) (drop k l)) → t ≡ sound least l
-  unfolding sound
-  sound-rest least t h f = simp (← e, le-ltb _ _ h) (rw part-to-end at f)
+  passed-all least h = rw (over-count h, over-rest h) (go (ltb (wordLength l) least) refl)
+    where
+      go : (x : Bool) → ltb (wordLength l) least ≡ x
+          → (areSpaces (drop (wordLength l) l) && leb least (wordLength l)) ≡ (if x then false else areSpaces (drop (wordLength l) l))
+      go true e = rw (lt-leb _ _ (ltb-true _ _ e)) (and-none (areSpaces (drop (wordLength l) l)))
+      go false e = rw (le-leb _ _ (ltb-false _ _ e)) (and-whole (areSpaces (drop (wordLength l) l)))

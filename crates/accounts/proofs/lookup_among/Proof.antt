@@ -37,14 +37,15 @@ use denote.Triple.Entry.{onEntry}
 use denote.Triple.Spec.{Meets}
 use denote.Triple.Table.{cited}
 use Rattle.login.specs.declared.account.Account.{Account}
-use Rattle.login.specs.Account.{verdictWords, lookupOf}
+use Rattle.login.specs.Account.{foundIn}
+use Rattle.login.specs.Statements.{FoundDecides}
 use Rattle.login.proofs.account.Account as R
 use Rattle.login.proofs.account.Account.Laws as R′
-use Rattle.login.proofs.account.Verdict.Laws as Said′
+use Rattle.login.proofs.account.Found.Laws as F′
 use Rattle.accounts.specs.Accounts.{tableRecords, usedOf, FlatIsTheSame}
 use Rattle.accounts.proofs.AccountsLaws.{used-most}
 use Rattle.accounts.proofs.Lent.{Front, Behind, Ref, lends-front, front-back}
-use Rattle.accounts.proofs.Rows.{word, records, account-val, account-makes, verdict-makes, account-typed, verdict-typed}
+use Rattle.accounts.proofs.Rows.{word, records, account-val, account-makes, found-makes, account-typed, found-typed}
 use Rattle.accounts.proofs.Walk.{pairs, room, cell, reads, sets, lays, freed, bare, beside, ahead, lent, Outside, asks, asks-plain, Ends, ends, stands}
 use Rattle.accounts.proofs.lookup as lookup
 use Rattle.accounts.proofs.lookup.Symbol as lookup-def
@@ -101,7 +102,7 @@ module _ {M : Type 1} (𝓤 : URA M) (H : Heap 𝓤) (A : Atoms 𝓤) (W : Given
 
     module _ (l₀ l₁ l₂ l₃ l₄ l₅ l₆ l₇ : ℕ) where
       abbrev En : Env 𝓤 H
-      En = (Said′.mir, l₀) ∷ (table, l₁) ∷ (word, l₂) ∷ (R′.mir, l₃) ∷ (table, l₄) ∷ (word, l₅) ∷ (toTable, l₆) ∷ (records erased, l₇) ∷ []
+      En = (F′.mir, l₀) ∷ (table, l₁) ∷ (word, l₂) ∷ (R′.mir, l₃) ∷ (table, l₄) ∷ (word, l₅) ∷ (toTable, l₆) ∷ (records erased, l₇) ∷ []
 
       abbrev v : Val
       v = sliceVal (l₄, 0) (length front)
@@ -120,7 +121,7 @@ module _ {M : Type 1} (𝓤 : URA M) (H : Heap 𝓤) (A : Atoms 𝓤) (W : Given
       abbrev Others : Fml
       Others = Behind 𝓤 H A W R.the-row tt account-val (LL.tells R.the-type R′.the-laws) tableRecords xs l₄ k
 
-      starts : Sq W (room Said′.mir l₀ ++ cell table l₁ (table-val xs) ++ cell word l₂ (vint w64 used) ++ cell R′.mir l₃ (account-val e) ++ room table l₄ ++ room word l₅ ++ room toTable l₆ ++ room (records erased) l₇) (runs C Λ En m.t-1 (atRet En Post))
+      starts : Sq W (room F′.mir l₀ ++ cell table l₁ (table-val xs) ++ cell word l₂ (vint w64 used) ++ cell R′.mir l₃ (account-val e) ++ room table l₄ ++ room word l₅ ++ room toTable l₆ ++ room (records erased) l₇) (runs C Λ En m.t-1 (atRet En Post))
       starts =
           sets ! (of-opd ! (reads ! 2 refl)) (init ! 8 refl table-typed) $
           asks-plain ! (fmOf 𝓤 H (W .laws) 𝓣) used-of.ended (used-of.clauses 𝓤 H A mem run) used-of-known ((tt, tt, tt, (used, tt), (vint w64 used ∷ [], tt)), tt) (λ j. j ≡ k) (λ j _. id⊢ 𝓤 _)
@@ -136,16 +137,16 @@ module _ {M : Type 1} (𝓤 : URA M) (H : Heap 𝓤) (A : Atoms 𝓤) (W : Given
           -- [the slice; the lender's part; the others; the token; 4 _0; 6 _1; 8 _2; 10 _3; 12 that _4 dies; 13 _5; 15 _6; 17 _7]
           move ! (3 ∷ 0 ∷ []) $ join ! $
           asks ! (fmOf 𝓤 H (W .laws) 𝓣) lookup.ended (lookup.clauses 𝓤 H A mem run) lookup-known (((α ∷ [], tt), (fullShare, tt), tt, (x γ, (e, tt)), (v ∷ [], (account-val e ∷ [], tt))), tt)
-          (λ r. (verdictWords r ≡ lookupOf front e) × FlatIsTheSame) (λ r _. id⊢ 𝓤 _)
+          (λ r. (r ≡ foundIn front e) × FoundDecides × FlatIsTheSame) (λ r _. id⊢ 𝓤 _)
           (‵ (flft (α ∷ []) fullShare) ⊛ ‵ (Slice α γ)) (lent 𝓤 (A .lft (α ∷ []) fullShare) (ahead 𝓤 (sem 𝓤 H A (Slice α γ)) (beside 𝓤 (account-makes 𝓤 H A e _ ge) (id⊢ 𝓤 (emp 𝓤)))))
           (and-then ! (reads ! 16 refl) (and-then ! (reads ! 9 refl) (no-more !))) (λ r wr fr gr.
           -- the lifetime ends, and the local is room again
           use1 W (‵ (flft (α ∷ []) fullShare)) (fst∗ 𝓤 _ (emp 𝓤)) $ lft-end ! tt $
           use3 W (later (‵ (froom table l₄ 0))) (front-back 𝓤 H A W R.the-row tt account-val (LL.tells R.the-type R′.the-laws) tableRecords xs l₄ k (α ∷ []) (gx .1 .0 .1)) $ await ! tt $
           -- [room for _4; 1 _0; 3 _1; 5 _2; 7 _3; 9 that _4 dies; 10 _5; 12 _6; 14 _7]
-          lays ! (init ! 1 refl (verdict-typed 𝓤 H A W r wr gr)) $ returns ! (look ! 1 refl) $ move ! (1 ∷ 2 ∷ 3 ∷ 4 ∷ 5 ∷ 6 ∷ 7 ∷ 8 ∷ 0 ∷ []) $
+          lays ! (init ! 1 refl (found-typed 𝓤 H A W r wr gr)) $ returns ! (look ! 1 refl) $ move ! (1 ∷ 2 ∷ 3 ∷ 4 ∷ 5 ∷ 6 ∷ 7 ∷ 8 ∷ 0 ∷ []) $
           freed ! $ freed ! $ freed ! $ freed ! $ free1 ! $ freed ! $ freed ! $ freed ! $ free0 ! $
-          by ! (ends 𝓤 H A W lookup-among.ended (lookup-among.clauses 𝓤 H A mem run) y wr r (tt, (tt, (tt, tt))) (verdict-makes 𝓤 H A) gr (factI 𝓤 _ (emp 𝓤) (fr .0)))))))
+          by ! (ends 𝓤 H A W lookup-among.ended (lookup-among.clauses 𝓤 H A mem run) y wr r (tt, (tt, (tt, tt))) (found-makes 𝓤 H A) gr (factI 𝓤 _ (emp 𝓤) (fr .0, fr .1)))))))
 
     walk : ent 𝓤 (onEntry 𝓤 H A lookup-among.signature tt tt (y .0 .3) (y .0 .4)) (WpFn 𝓤 H C Λ code.function (table-val xs ∷ vint w64 used ∷ account-val e ∷ []) Post)
     walk =

@@ -1,4 +1,4 @@
--- The entry in front is looked up in the table, and the server's own step goes on from what the table says of it.
+-- The entry in front is looked up in the table, and the server's own step goes on from what was found.
 -- In a context the tokens and what the slices own stand first, and then each local with that it dies.
 use mathlib.Core.Path.{_≡_, refl}
 use Prim.Native.Nat.{ℕ}
@@ -28,14 +28,16 @@ use denote.Triple.Entry.{onEntry}
 use denote.Triple.Spec.{Meets}
 use denote.Triple.Table.{cited}
 use Rattle.login.specs.declared.account.Account.{Account}
-use Rattle.login.specs.Account.{verdictWords, lookupOf}
+use Rattle.login.specs.Account.{foundIn, verdictOn}
+use Rattle.login.specs.Statements.{FoundDecides}
 use Rattle.login.proofs.account.Account as R
 use Rattle.login.proofs.account.Account.Laws as R′
-use Rattle.login.proofs.account.Verdict.Laws as Said′
+use Rattle.login.proofs.account.Found.Laws as F′
 use Rattle.soupbintcp_server.specs.declared.server.Server.{Server}
 use Rattle.soupbintcp_server.specs.Server.{entryOf, ServerSteps, stepWith}
 use Rattle.soupbintcp_server.specs.Statements.{EntryIsItsFields}
 use Rattle.soupbintcp_server.proofs.ServerLaws.{server-step}
+use Rattle.soupbintcp_server.proofs.StatementLaws.{only-by-the-rules}
 use Rattle.soupbintcp_server.proofs.server.Server as Peer
 use Rattle.soupbintcp_server.proofs.server.Server.Laws as Peer′
 use Rattle.soupbintcp_server.proofs.server.Stepped as Next
@@ -47,7 +49,7 @@ use Rattle.soupbintcp_server.proofs.server.Server.step_with as step-with
 use Rattle.soupbintcp_server.proofs.server.Server.step_with.Symbol as step-with-def
 use Rattle.soupbintcp_server.proofs.server.Server.step_with.Met as step-with-thm
 use Rattle.accounts.specs.Accounts.{FlatIsTheSame}
-use Rattle.accounts.proofs.Rows.{records, account-makes, verdict-makes, account-typed, verdict-typed}
+use Rattle.accounts.proofs.Rows.{records, account-makes, found-makes, account-typed, found-typed}
 use Rattle.accounts.proofs.Walk.{span, pairs, room, cell, reads, lays, freed, beside, ahead, lent, Outside, asks, Ends, ends, stands}
 use Rattle.accounts.proofs.lookup as lookup
 use Rattle.accounts.proofs.lookup.Symbol as lookup-def
@@ -94,9 +96,9 @@ module _ {M : Type 1} (𝓤 : URA M) (H : Heap 𝓤) (A : Atoms 𝓤) (W : Given
 
     module _ (l₀ l₁ l₂ l₃ l₄ l₅ : ℕ) where
       abbrev En : Env 𝓤 H
-      En = (Next′.mir, l₀) ∷ (Peer′.mir, l₁) ∷ (records (named 0), l₂) ∷ (bytes, l₃) ∷ (Said′.mir, l₄) ∷ (R′.mir, l₅) ∷ []
+      En = (Next′.mir, l₀) ∷ (Peer′.mir, l₁) ∷ (records (named 0), l₂) ∷ (bytes, l₃) ∷ (F′.mir, l₄) ∷ (R′.mir, l₅) ∷ []
 
-      starts : Sq W ((‵ Stream ∷ ‵ (flft κz qz) ∷ ‵ Table ∷ ‵ (flft κ q) ∷ []) ++ room Next′.mir l₀ ++ cell Peer′.mir l₁ (server-val s) ++ cell (records (named 0)) l₂ v ++ cell bytes l₃ vz ++ room Said′.mir l₄ ++ room R′.mir l₅) (runs C Λ En m.t-1 (atRet En Post))
+      starts : Sq W ((‵ Stream ∷ ‵ (flft κz qz) ∷ ‵ Table ∷ ‵ (flft κ q) ∷ []) ++ room Next′.mir l₀ ++ cell Peer′.mir l₁ (server-val s) ++ cell (records (named 0)) l₂ v ++ cell bytes l₃ vz ++ room F′.mir l₄ ++ room R′.mir l₅) (runs C Λ En m.t-1 (atRet En Post))
       starts =
           -- the stream is Copy, and a copy goes to the callee with its token
           use1 W (‵ Stream ⊛ ‵ Stream) (shr-slice-copy 𝓤 H A W (named 1) κz u8 .twice z (vz ∷ [])) $ split ! $ move ! (2 ∷ 0 ∷ []) $ join ! $
@@ -107,21 +109,21 @@ module _ {M : Type 1} (𝓤 : URA M) (H : Heap 𝓤) (A : Atoms 𝓤) (W : Given
           -- [the stream's token; what it owns; what the table owns; its token; the locals]
           move ! (3 ∷ 2 ∷ []) $ join ! $
           asks ! (fmOf 𝓤 H (W .laws) 𝓣) lookup.ended (lookup.clauses 𝓤 H A mem run) lookup-known (((κ, tt), (q, tt), tt, (x, (a, tt)), (v ∷ [], (wa ∷ [], tt))), tt)
-          (λ r. (verdictWords r ≡ lookupOf (x .now) a) × FlatIsTheSame) (λ r _. id⊢ 𝓤 _)
+          (λ r. (r ≡ foundIn (x .now) a) × FoundDecides × FlatIsTheSame) (λ r _. id⊢ 𝓤 _)
           (‵ (flft κ q) ⊛ ‵ Table) (lent 𝓤 (A .lft κ q) (ahead 𝓤 (sem 𝓤 H A Table) (beside 𝓤 (account-makes 𝓤 H A a (wa ∷ []) ga) (id⊢ 𝓤 (emp 𝓤)))))
           (and-then ! (reads ! 7 refl) (and-then ! (reads ! 13 refl) (no-more !))) (λ r wr fr gr.
-          use1 W (‵ (flft κ q)) (fst∗ 𝓤 _ (emp 𝓤)) $ lays ! (init ! 11 refl (verdict-typed 𝓤 H A W r wr gr)) $
+          use1 W (‵ (flft κ q)) (fst∗ 𝓤 _ (emp 𝓤)) $ lays ! (init ! 11 refl (found-typed 𝓤 H A W r wr gr)) $
           -- [the table's token; the stream's; what it owns; the locals]
           move ! (1 ∷ 2 ∷ []) $ join ! $
           asks ! (fmOf 𝓤 H (W .laws) 𝓣) step-with.ended (step-with.clauses 𝓤 H A mem run) step-with-known (((κz, tt), (qz, tt), tt, (s, (r, (z, tt))), (server-val s ∷ [], (wr ∷ [], (vz ∷ [], tt)))), tt)
-          (λ o. ServerSteps o (stepWith s (verdictWords r) (z .now))) (λ o _. id⊢ 𝓤 _)
-          (‵ (flft κz qz) ⊛ ‵ Stream) (lent 𝓤 (A .lft κz qz) (beside 𝓤 (LL.makes Peer.the-type Peer′.the-plain 𝓤 H A s (server-val s ∷ []) gs) (beside 𝓤 (verdict-makes 𝓤 H A r (wr ∷ []) gr) (ahead 𝓤 (sem 𝓤 H A Stream) (id⊢ 𝓤 (emp 𝓤))))))
+          (λ o. ServerSteps o (stepWith s (verdictOn r (entryOf (z .now))) (z .now))) (λ o _. id⊢ 𝓤 _)
+          (‵ (flft κz qz) ⊛ ‵ Stream) (lent 𝓤 (A .lft κz qz) (beside 𝓤 (LL.makes Peer.the-type Peer′.the-plain 𝓤 H A s (server-val s ∷ []) gs) (beside 𝓤 (found-makes 𝓤 H A r (wr ∷ []) gr) (ahead 𝓤 (sem 𝓤 H A Stream) (id⊢ 𝓤 (emp 𝓤))))))
           (and-then ! (reads ! 4 refl) (and-then ! (reads ! 10 refl) (and-then ! (reads ! 8 refl) (no-more !)))) (λ o wo fo go.
           -- [the stream's token; the table's; the locals]
           lays ! (init ! 2 refl (LL.lawful Next.the-type Next′.the-laws 𝓤 H A W .typed o _ go .0)) $ returns ! (look ! 2 refl) $ move ! (span 2 12) $
           freed ! $ freed ! $ freed ! $ freed ! $ freed ! $ freed ! $ free0 ! $ move ! (1 ∷ 0 ∷ []) $
           by ! (ends 𝓤 H A W step.ended (step.clauses 𝓤 H A mem run) y wo o (tt, (tt, (tt, tt))) (LL.makes Next.the-type Next′.the-plain 𝓤 H A) go
-          (factI 𝓤 _ (emp 𝓤) (server-step s (z .now) (x .now) r a o fa (fr .0) fo))))))
+          (beside 𝓤 (factI 𝓤 _ (emp 𝓤) (server-step s (z .now) (x .now) r a o fa (fr .0) (fr .1) fo)) (factI 𝓤 _ (emp 𝓤) (only-by-the-rules o (x .now) s (z .now) (server-step s (z .now) (x .now) r a o fa (fr .0) (fr .1) fo))))))))
 
     walk : ent 𝓤 (onEntry 𝓤 H A step.signature (y .0 .0) (y .0 .1) (y .0 .3) (y .0 .4)) (WpFn 𝓤 H C Λ code.function (server-val s ∷ v ∷ vz ∷ []) Post)
     walk =

@@ -1,4 +1,4 @@
--- The entry in front is looked up in the first records, and the server's own step goes on from what they say of it.
+-- The entry in front is looked up in the first records, and the server's own step goes on from what was found.
 use Rattle.accounts.proofs.Rules.{accounts}
 use Rattle.accounts.proofs.step_among.Statement.{statement}
 use Rattle.accounts.proofs.step_among.Tie as tie

@@ -1,4 +1,4 @@
--- An unsound record is skipped, and of a sound one the username decides.
+-- Another username decides, and of a record with the same one its soundness.
 use Rattle.login.proofs.Rules.{accounts}
 use Rattle.login.proofs.account.is_of.Statement.{statement}
 use Rattle.login.proofs.account.is_of.Tie as tie
@@ -7,10 +7,10 @@ pub is-of-spec : {M : Type 1} → statement M
 is-of-spec =
     tie.close
     (tie.spec
-    (λ c κs. search accounts)  -- is-sound-requires
     (λ c. search accounts)  -- slice-aggregate-is-same
     (λ c. search accounts)  -- slice-aggregate-is-same-2
     (λ c κs. search accounts)  -- is-same-requires
+    (λ c κs. search accounts)  -- is-sound-requires
     (λ c. search accounts)  -- returns
     (λ c. search accounts)  -- returns-2
     )

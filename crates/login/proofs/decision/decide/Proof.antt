@@ -9,15 +9,13 @@ pub decide-spec : {M : Type 1} → statement M
 decide-spec =
     tie.close
     (tie.spec
-    (λ c. search needs)  -- enum-told
-    (λ c κs. search needs)  -- session-holds-requires
     (λ c. (search deciding, login-promises))  -- returns
-    (λ c κs. search needs)  -- number-holds-requires
+    (λ c κs. search needs)  -- is-known-requires
     (λ c. (search deciding, login-promises))  -- returns-2
-    (λ c κs. search needs)  -- grant-requires
-    (λ c. search needs)  -- enum-told-2
-    (λ c. search needs)  -- enum-told-3
+    (λ c κs. search needs)  -- session-holds-requires
     (λ c. (search deciding, login-promises))  -- returns-3
+    (λ c κs. search needs)  -- number-holds-requires
     (λ c. (search deciding, login-promises))  -- returns-4
+    (λ c κs. search needs)  -- grant-requires
     (λ c. (search deciding, login-promises))  -- returns-5
     )

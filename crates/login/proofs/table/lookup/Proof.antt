@@ -1,5 +1,6 @@
 -- The records before the rest aren't of the entry, so the rest decides.
 use lib.ListN.{length}
+use Rattle.login.proofs.FoundLaws.{found-decides}
 use Rattle.login.proofs.TableLaws.{LookedIn}
 use Rattle.login.proofs.Rules.{tables}
 use Rattle.login.proofs.table.lookup.Statement.{statement}
@@ -17,18 +18,21 @@ lookup-spec =
     (tie.spec
     Inv-loop
     μ-loop
-    (λ c. search tables)  -- returns
+    (λ c κs. search tables)  -- in-too-many-requires
+    (λ c. (search tables, found-decides))  -- returns
     (λ c κs. search tables)  -- is-sound-requires
-    (λ c. search tables)  -- returns-2
+    (λ c κs. search tables)  -- nobody-requires
+    (λ c. (search tables, found-decides))  -- returns-2
     (λ c. search tables)  -- loop-holds
     (λ c κs. search tables)  -- first-requires
     (λ c κs. search tables)  -- is-of-requires
-    (λ c κs. search tables)  -- compared-requires
-    (λ c. search tables)  -- returns-3
+    (λ c κs. search tables)  -- decided-by-requires
+    (λ c. (search tables, found-decides))  -- returns-3
     (λ c. search tables)  -- sub-rest
     (λ c. search tables)  -- part-rest-start
     (λ c. search tables)  -- part-rest-end
     (λ c. search tables)  -- loop-less
     (λ c. search tables)  -- loop-again
-    (λ c. search tables)  -- returns-4
+    (λ c κs. search tables)  -- nobody-requires-2
+    (λ c. (search tables, found-decides))  -- returns-4
     )

@@ -1,4 +1,4 @@
--- The tests part the bytes as the definition does.
+-- Three ranges, one of which holds the byte where the definition says so.
 use Rattle.text_fields.proofs.Rules.{ascii}
 use Rattle.text_fields.proofs.letters.is_letter_or_digit.Statement.{statement}
 use Rattle.text_fields.proofs.letters.is_letter_or_digit.Tie as tie
@@ -8,7 +8,4 @@ is-letter-or-digit-spec =
     tie.close
     (tie.spec
     (λ c. search ascii)  -- returns
-    (λ c. search ascii)  -- returns-2
-    (λ c. search ascii)  -- returns-3
-    (λ c. search ascii)  -- returns-4
     )

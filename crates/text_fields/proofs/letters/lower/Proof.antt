@@ -1,4 +1,4 @@
--- Each way through the tests is one case of the definition.
+-- A capital is raised by the distance to its small letter, and every other byte by nothing.
 use Rattle.text_fields.proofs.Rules.{ascii}
 use Rattle.text_fields.proofs.letters.lower.Statement.{statement}
 use Rattle.text_fields.proofs.letters.lower.Tie as tie
@@ -7,8 +7,8 @@ pub lower-spec : {M : Type 1} → statement M
 lower-spec =
     tie.close
     (tie.spec
+    (λ c. search ascii)  -- cast-result
+    (λ c. search ascii)  -- mul-result
     (λ c. search ascii)  -- add-result
     (λ c. search ascii)  -- returns
-    (λ c. search ascii)  -- returns-2
-    (λ c. search ascii)  -- returns-3
     )

@@ -7,11 +7,10 @@ pub step-with-spec : {M : Type 1} → statement M
 step-with-spec =
     tie.close
     (tie.spec
-    (λ c. search server-fronts)  -- enum-told
     (λ c κs. search server-fronts)  -- stay-requires
     (λ c. search server-fronts)  -- returns
     (λ c κs. search server-fronts)  -- read-requires
-    (λ c. search server-fronts)  -- enum-told-2
+    (λ c. search server-fronts)  -- enum-told
     (λ c κs. search server-fronts)  -- stay-requires-2
     (λ c. search server-fronts)  -- enum-known-r
     (λ c κs. search server-fronts)  -- stay-requires-3
