@@ -15,14 +15,17 @@ PATH = re.compile(r"^use (?:\w+::)*(\w+);\n", re.M)
 
 def is_used(name, body):
     """A name, or each word of an operator, stands in the text."""
-    words = [word for word in name.split("_") if word] if "_" in name and not name.isidentifier() else [name]
-    if name == "if_then_else_":
-        words = ["if", "then", "else"]
+    is_operator = name.startswith("_") or name.endswith("_")
+    words = [word for word in name.split("_") if word] if is_operator else [name]
+    return all(re.search(as_word(word), body) for word in words)
+
+
+def as_word(word):
+    """A pattern that finds a word, and no longer word that has it in it."""
     edge = r"[\w\-·₀-₉′]"
-    return all(
-        re.search((rf"(?<!{edge})" if re.match(r"\w", w) else "") + re.escape(w) + (rf"(?!{edge})" if re.search(r"\w$", w) else ""), body)
-        for w in words
-    )
+    before = rf"(?<!{edge})" if re.match(r"\w", word) else ""
+    behind = rf"(?!{edge})" if re.search(r"\w$", word) else ""
+    return before + re.escape(word) + behind
 
 
 def body_of(text, comment):

@@ -1,7 +1,10 @@
 -- The tender's three conditions by name: the statements that carry them, wherever they stand.
-use Prim.Native.Nat.{ℕ}
-use mathlib.Core.List.{List}
+use Prim.Native.Nat.{ℕ, _+_, _≤_}
+use mathlib.Core.List.{List, [], _∷_, List·Memᴰ}
 use mathlib.Core.Path.{_≡_}
+use lib.ListN.{length}
+use Rattle.wire.specs.Bounds.{largestNumber}
+use Rattle.wire.specs.Bytes.{joined}
 use Rattle.wire.specs.Words.{Words, answer}
 use Rattle.wire.specs.Output.{RefusalWritesNothing}
 use Rattle.moldudp64_writer.specs.RoundTrips.{PacketRoundTrip, EndRoundTrip, RequestRoundTrip}
@@ -13,22 +16,26 @@ use Rattle.receiver.specs.Witnesses.{NotVacuous, NotWeak}
 use Rattle.soupbintcp_writer.specs.RoundTrips.{EveryPacketWritesBack, PayloadRoundTrip, LetterRoundTrip}
 use Rattle.soupbintcp_writer.specs.RoundTrips.{AcceptedRoundTrip, RejectedRoundTrip, LoginRoundTrip}
 use Rattle.login.specs.declared.account.Account.{Account}
-use Rattle.login.specs.Account.{VerdictKind}
-use Rattle.login.specs.Statements.{AcceptedExactlyWhen, NeverAccepted}
+use Rattle.login.specs.declared.account.Found.{Found}
+use Rattle.login.specs.Account.{VerdictKind, verdictOn}
+use Rattle.login.specs.Statements.{AcceptedExactlyWhen, NeverAccepted, OnlyByARecord}
 use Rattle.soupbintcp_server.specs.declared.server.Server.{Server}
 use Rattle.soupbintcp_client.specs.declared.client.Client.{Client}
 use Rattle.soupbintcp_server.specs.declared.server.ServerState.the-variants.{In, Closed}
-use Rattle.soupbintcp_server.specs.Server.{lastRefusal, withLast, stepWith, serverStep}
+use Rattle.soupbintcp_server.specs.Server.{lastRefusal, withLast, entryOf, stepWith, serverStep}
 use Rattle.soupbintcp_reply.specs.Statements.{RefusalUndoes}
 use Rattle.soupbintcp_client.specs.Client.{clientStep}
-use Rattle.soupbintcp_session.specs.Answer.{sequenced, unsequenced}
+use Rattle.soupbintcp_session.specs.Answer.{accepted, sequenced, unsequenced}
 use Rattle.soupbintcp_session.specs.Stream.{run}
-use Rattle.soupbintcp_session.specs.Statements.{ChangesNothing, StaysOver, HandsUpPayload, AnyStreamCutting}
+use Rattle.soupbintcp_session.specs.Statements.{ChangesNothing, StaysOver, HandsUpPayload, StepStable, AnyStreamCutting}
+use Rattle.soupbintcp_client.specs.declared.client.ClientState.the-variants as client-state
+use Rattle.soupbintcp_client.specs.HandedUp.{sequencedIn}
+use Rattle.soupbintcp_client.specs.Statements as client
 use Rattle.soupbintcp_client.specs.Statements.{TakesFromA, TakesS, TakesTheOthers, ClientStaysOver, HandsUpInOrder}
 use Rattle.soupbintcp.specs.declared.packet.Sender.the-variants as sender
 use Rattle.soupbintcp.specs.Front.{FrontPromises}
 use Rattle.soupbintcp.specs.Scan.{ScanPromises}
-use Rattle.soupbintcp_server.specs.Statements.{LoginExactlyWhen, WasIn}
+use Rattle.soupbintcp_server.specs.Statements.{Accepts, LoginExactlyWhen, WasIn}
 use Rattle.soupbintcp_server.specs.Statements as server
 use Rattle.host_answers.specs.Answers.{RefusalChangesNothing}
 use Rattle.exports_reply.specs.Calls.{RefusedReplyChangesNothing}
@@ -71,8 +78,8 @@ pub record Condition2 : Type 0 where
   pub every-packet : EveryPacketWritesBack
   pub payloads : PayloadRoundTrip
   pub letters-alone : LetterRoundTrip
-  pub accepted : AcceptedRoundTrip
-  pub rejected : RejectedRoundTrip
+  pub logins-accepted : AcceptedRoundTrip
+  pub logins-rejected : RejectedRoundTrip
   pub logins : LoginRoundTrip
   -- a login that isn't refused is accepted exactly when the account, session and number rules hold: as decided, and
   -- at the server
@@ -84,11 +91,16 @@ pub record Condition2 : Type 0 where
       → WasIn table s l
   pub hands-up-only-in : (table : List Account) (s : Server) (l : List ℕ)
       → serverStep table s l .reply .which ≡ answer unsequenced → s .state ≡ In
+  -- no record that a caller made up lets in more than a table of that one record would
+  pub only-by-a-record : OnlyByARecord
+  pub only-by-its-record : (f : Found) (s : Server) (l : List ℕ)
+      → stepWith s (verdictOn f (entryOf l)) l .reply .which ≡ answer accepted → Accepts (f .account ∷ []) s l
   -- over a stream they are the payloads of U in order; the server's other rows; closed it takes no more; at either end
   -- a message is its packet's payload
   pub server-in-order : (table : List Account) (s : Server) (l : List ℕ)
       → server.HandsUpInOrder s (run (serverStep table) s l)
   pub server-takes-the-others : server.TakesTheOthers
+  pub server-refuses-the-others : server.RefusesTheOthers
   pub server-stays-over : (table : List Account) (s : Server) (l : List ℕ) → s .state ≡ Closed
       → StaysOver Server s (serverStep table s l)
   pub server-hands-up : (table : List Account) → HandsUpPayload Server (serverStep table) sender.Client unsequenced
@@ -102,9 +114,18 @@ pub record Condition2 : Type 0 where
   pub takes-from-A : TakesFromA
   pub takes-S : TakesS
   pub takes-the-others : TakesTheOthers
+  pub client-refuses-the-others : client.RefusesTheOthers
   pub client-stays-over : ClientStaysOver
   pub in-order : (c : Client) (l : List ℕ) → HandsUpInOrder c (run clientStep c l)
-  -- however a stream is cut into pieces, at either end
+  -- a stream of S, H and + is taken whole while numbers last
+  pub client-takes-all : (c : Client) (ps : List (List ℕ)) → c .state ≡ client-state.In
+      → ((p : List ℕ) → List·Memᴰ p ps → client.Running p)
+      → c .number .0 + length (sequencedIn ps) ≤ largestNumber
+      → client.TakesAll c ps (run clientStep c (joined ps))
+  -- an answer that isn't need more stands, whatever comes later, and a run gives the same however its stream is cut
+  -- into pieces, the reason why it stopped too, at either end
+  pub server-step-stable : (table : List Account) → StepStable Server (serverStep table)
+  pub client-step-stable : StepStable Client clientStep
   pub server-any-cutting : (table : List Account) → AnyStreamCutting Server (serverStep table)
   pub client-any-cutting : AnyStreamCutting Client clientStep
   -- the receiver answers, and moves its number, exactly as the table says

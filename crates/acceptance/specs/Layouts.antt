@@ -4,6 +4,7 @@
 use Prim.Native.Nat.{ℕ}
 use mathlib.Core.List.{List, [], _∷_}
 use mathlib.Core.Path.{_≡_}
+use lib.ListN.{replicate}
 use Rattle.wire.specs.Words.{says}
 use Rattle.moldudp64.specs.Header.{header}
 use Rattle.moldudp64.specs.Downstream.{data-packet, heartbeat, end-of-session, downstreamOf, downstreamSession}
@@ -92,12 +93,26 @@ clientHeartbeatBytes = 0 ∷ 1 ∷ 82 ∷ []
 abbrev pub logoutBytes : List ℕ
 logoutBytes = 0 ∷ 1 ∷ 79 ∷ []
 
+-- lengths of two bytes, 258 and 259: a message of 258 bytes `x`, in a datagram and in S
+abbrev pub long : List ℕ
+long = replicate 258 120
+
+abbrev pub longDataBytes : List ℕ
+longDataBytes =
+    82 ∷ 69 ∷ 65 ∷ 68 ∷ 82 ∷ 79 ∷ 79 ∷ 77 ∷ 48 ∷ 49 ∷ 0 ∷ 0 ∷ 0 ∷ 0 ∷ 0 ∷ 0 ∷ 1 ∷ 2 ∷ 0 ∷ 1 ∷ 1 ∷ 2 ∷ long
+
+abbrev pub longSequencedBytes : List ℕ
+longSequencedBytes = 1 ∷ 3 ∷ 83 ∷ long
+
 -- each is read as what it says, and written to these bytes
 pub record EveryLayout : Type 0 where
   pub data-read : downstreamOf dataBytes ≡ says data-packet (258 ∷ 2 ∷ [])
   pub data-session : downstreamSession dataBytes ≡ room
   pub data-messages : messagesOf dataBytes ≡ messages
   pub data-written : mold.encoded room 258 messages ≡ dataBytes
+  pub long-data-read : downstreamOf longDataBytes ≡ says data-packet (258 ∷ 1 ∷ [])
+  pub long-data-messages : messagesOf longDataBytes ≡ long ∷ []
+  pub long-data-written : mold.encoded room 258 (long ∷ []) ≡ longDataBytes
   pub heartbeat-read : downstreamOf heartbeatBytes ≡ says heartbeat (258 ∷ [])
   pub heartbeat-written : mold.encoded room 258 [] ≡ heartbeatBytes
   pub end-read : downstreamOf endBytes ≡ says end-of-session (258 ∷ [])
@@ -120,6 +135,8 @@ pub record EveryLayout : Type 0 where
   pub rejected-written : soup.encoded letterRejected (65 ∷ []) ≡ rejectedBytes
   pub sequenced-read : frontOf Server sequencedBytes ≡ says (packet sequenced) (5 ∷ [])
   pub sequenced-written : soup.encoded letterSequenced hi ≡ sequencedBytes
+  pub long-sequenced-read : frontOf Server longSequencedBytes ≡ says (packet sequenced) (261 ∷ [])
+  pub long-sequenced-written : soup.encoded letterSequenced long ≡ longSequencedBytes
   pub server-heartbeat-read : frontOf Server serverHeartbeatBytes ≡ says (packet server-heartbeat) (3 ∷ [])
   pub server-heartbeat-written : soup.encoded letterServerHeartbeat [] ≡ serverHeartbeatBytes
   pub session-end-read : frontOf Server sessionEndBytes ≡ says (packet letters.end-of-session) (3 ∷ [])

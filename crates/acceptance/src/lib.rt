@@ -1,5 +1,6 @@
 // What the tender asks for, by name. The functions have nothing to do: each promises one condition, so that the gate
 // can't pass without its proof, and `specs/Conditions.antt` is the one file to open.
+ghost use Rattle.receiver.specs.Calls.{CallsDeliverTrue};
 ghost use Rattle.exports_receiver.specs.Run.{HostGetsTrue};
 ghost use Rattle.acceptance.specs.Conditions.{Condition1, Condition2, Condition3, Condition3IsMeant};
 ghost use Rattle.acceptance.specs.Examples.{EveryExample};
@@ -15,10 +16,11 @@ pub fn condition_2()
     ensures { λ _. ⌜ Condition2 ⌝ }
 {}
 
-// Exactly the true messages, in order, each once, for every list of datagrams: of the receiver, and of what a host gets
-// by calls of the exported functions.
+// Exactly the true messages, in order, each once, for every list of datagrams: of the receiver, of calls of its
+// functions, and of what a host gets by calls of the exported ones.
 pub fn condition_3()
     ensures { λ _. ⌜ Condition3 ⌝ }
+    ensures by_calls { λ _. ⌜ CallsDeliverTrue ⌝ }
     ensures for_hosts { λ _. ⌜ HostGetsTrue ⌝ }
     ensures is_meant { λ _. ⌜ Condition3IsMeant ⌝ }
 {}

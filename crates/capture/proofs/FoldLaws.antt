@@ -15,7 +15,7 @@ use Rattle.receiver.specs.Feed.{Datagram}
 use Rattle.capture_settings.specs.Settings.{settingsOf}
 use Rattle.capture_records.specs.Records.{mostRecords, datagramsOf, restOf}
 use Rattle.capture_records.proofs.FrontLaws.{few, datagrams-zero}
-use Rattle.capture_events.specs.Events.{Event, opened, datagrams, fold, At, settings, records, done, refused, isOverAt, Read, reads, readTo, readRecords, readBehind, readSettings, readOn, waitsAt, readPiece, End, ends, andThen, readLast}
+use Rattle.capture_events.specs.Events.{Event, datagrams, fold, At, settings, records, done, refused, isOverAt, Read, reads, readTo, readRecords, readSettings, readOn, waitsAt, readPiece, End, ends, andThen, readLast}
 use Rattle.capture_events.specs.Turns.{there, Turn, turnWith}
 use Rattle.capture_events.specs.Turns as Events
 use Rattle.capture_events.proofs.EventLaws.{fold-joins, settings-so, settings-bad, behind}
@@ -27,7 +27,7 @@ use Rattle.capture.specs.declared.reading.Stage.{Stage}
 use Rattle.capture.specs.declared.reading.Stage.the-variants.{Settings, Records, Done, Refused}
 use Rattle.capture.specs.declared.reading.Reading.{Reading}
 use Rattle.capture.specs.declared.turning.Turning.{Turning}
-use Rattle.capture.specs.Reading.{reading, startedOf, reported, roomOf, atStage, atOf, stageOf, isOver, readingAfter, fedBy, feedOf, endedBy, finishOf}
+use Rattle.capture.specs.Reading.{reading, startedOf, reported, roomOf, atStage, atOf, stageOf, isOver, readingAfter, feedOf, endedBy, finishOf}
 use Rattle.capture.specs.Turning.{turnAt, turnedOf, bufferOf, turnedBy, byTurns}
 use Rattle.capture.specs.Whole.{byPieces}
 

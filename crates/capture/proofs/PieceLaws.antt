@@ -1,8 +1,8 @@
 -- What is kept between two pieces is little, and what is over stays as it is.
 use mathlib.Core.Path.{_≡_, refl}
 use mathlib.Core.List.{List}
-use mathlib.Core.Bool.{Bool, true, false}
-use Prim.Native.Nat.{ℕ, _≤_}
+use mathlib.Core.Bool.{true}
+use Prim.Native.Nat.{ℕ}
 use native.Mathlib.Omega.{arith}
 use lib.ListN.{length}
 use Rattle.capture_events.specs.Events.{fold, waitsAt, readOn, readPiece, endAt, readLast}

@@ -1,15 +1,14 @@
 -- A reading by its stage, as the code has it.
 use mathlib.Core.Path.{_≡_, refl, ap, sym, _∙_}
-use mathlib.Core.List.{List, [], _∷_}
+use mathlib.Core.List.{List}
 use mathlib.Core.Bool.{Bool, true, false}
-use Prim.Native.Nat.{ℕ, suc, _+_, _*_, _-_, _^_, _≤_, _<_}
+use Prim.Native.Nat.{ℕ, _+_, _*_, _-_, _^_, _≤_, _<_}
 use native.Mathlib.Omega.{arith}
 use lib.ListN.{length, take, drop, length-drop}
 use lib.Dec.{ltb}
 use mir.Val.{Fits}
 use mir.Syntax.{w64}
 use borrow.Author.Tests.{eq-eqb, ne-eqb}
-use Rattle.wire.specs.Choice.{if_then_else_}
 use Rattle.wire.specs.Bounds.{blank}
 use Rattle.wire.specs.Output.{Writes}
 use Rattle.wire.specs.declared.output.Written.{Written}
@@ -20,7 +19,7 @@ use Rattle.receiver.specs.Receiver.{receiverStartRefusal, startReceiver}
 use Rattle.capture_settings.specs.declared.settings.Settings as declared
 use Rattle.capture_settings.specs.declared.settings.Opened.{Opened}
 use Rattle.capture_settings.specs.Settings.{settingsOf}
-use Rattle.capture_events.specs.Events.{cut-short, fold, At, settings, records, done, refused, reads, readRecords, readBehind, readSettings, readOn, waitsAt, readPiece, endAt, readLast}
+use Rattle.capture_events.specs.Events.{fold, At, settings, records, done, refused, readRecords, readBehind, readSettings, readOn, waitsAt, readPiece, endAt, readLast}
 use Rattle.capture_events.proofs.EventLaws.{fold-joins, size-within, settings-so, settings-bad, records-used, on-used}
 use Rattle.capture_tally.specs.declared.report.Report.{Report}
 use Rattle.capture_tally.specs.Report.{freshOf, cutOf}

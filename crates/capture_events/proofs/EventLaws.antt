@@ -17,7 +17,7 @@ use Rattle.capture_settings.proofs.TextLaws.{settings-promises}
 use Rattle.capture_records.specs.Records.{mostRecords, recordSize, isWhole, datagramsOf, restOf}
 use Rattle.capture_records.proofs.RecordLaws.{whole-within}
 use Rattle.capture_records.proofs.FrontLaws.{by-front, is-part, joins, datagrams-zero, datagrams-none, rest-some}
-use Rattle.capture_events.specs.Events.{Event, opened, bad-settings, datagram, cut-short, fold, datagrams, At, settings, records, done, refused, isOverAt, Read, reads, readTo, readRecords, readBehind, readSettings, readOn, waitsAt, readPiece, End, ends, endAt, andThen, readLast, readWhole}
+use Rattle.capture_events.specs.Events.{Event, opened, bad-settings, datagram, fold, datagrams, At, settings, records, done, refused, isOverAt, reads, readTo, readRecords, readBehind, readSettings, readOn, waitsAt, readPiece, End, ends, endAt, andThen, readLast}
 use Rattle.capture_events.specs.Turns.{byPieces, AnyCutting}
 
 pub fold-joins : {S : Type 0} (step : S → Event → S) (s : S) (a b : List Event) → fold step s (a ++ b) ≡ fold step (fold step s a) b

@@ -5,7 +5,7 @@ use mathlib.Core.Bool.{Bool, true, false}
 use Prim.Native.Nat.{ℕ, zero, suc, _+_, _-_, _≤_, _<_}
 use native.Mathlib.Omega.{arith}
 use lib.ListN.{length, take, drop, length-take, length-drop, length-append}
-use lib.Seq.{take-at, take-all}
+use lib.Seq.{take-at}
 use borrow.Author.Tests.{eq-eqb, ne-eqb, ltb-true}
 use Rattle.wire.specs.Choice.{if_then_else_}
 use Rattle.wire.specs.Bytes.{joined, AreBytes}
@@ -17,8 +17,8 @@ use Rattle.capture_settings.specs.Statements.{longest}
 use Rattle.capture_records.specs.Records.{mostRecords, datagramsOf, restOf}
 use Rattle.capture_records.proofs.RecordLaws.{short-length, bytes-drop, bytes-take}
 use Rattle.capture_records.proofs.FrontLaws.{is-part, left-short}
-use Rattle.capture_events.specs.Events.{Event, At, settings, records, done, refused, isOverAt, Read, reads, readTo, readRecords, readBehind, readSettings, readOn, waitsAt, readPiece, End, ends, endAt, andThen, readLast}
-use Rattle.capture_events.specs.Turns.{there, Turn, left, turnOf, turnWith, byTurns, Fit, AnyTurns, mostKept, KeepsLittle, EndIsOver, TurnPromises}
+use Rattle.capture_events.specs.Events.{Event, At, settings, records, done, refused, isOverAt, Read, reads, readTo, readRecords, readSettings, readOn, waitsAt, readPiece, ends, endAt, andThen, readLast}
+use Rattle.capture_events.specs.Turns.{there, left, turnOf, turnWith, byTurns, Fit, AnyTurns, mostKept, KeepsLittle, EndIsOver, TurnPromises}
 use Rattle.capture_events.proofs.EventLaws.{Piece, piece-at, any-cutting, last-done, last-refused, settings-so, settings-bad, settings-left, behind}
 
 -- ---- one turn

@@ -9,7 +9,7 @@ use borrow.Author.Needs.{needs}
 use Rattle.capture.specs.declared.turning.Turning.{Turning}
 use Rattle.capture.specs.Reading.{isOver}
 use Rattle.capture.specs.Turning.{turnedOf}
-use Rattle.capture.specs.Whole.{EndIsOver, CapturePromises}
+use Rattle.capture.specs.Whole.{EndIsOver}
 use Rattle.capture.proofs.WholeLaws.{capture-promises}
 
 pub over-told : (s : Turning) (b : Bool) → b ≡ isOver (s .reading .stage) → b ≡ true → isOver (s .reading .stage) ≡ true

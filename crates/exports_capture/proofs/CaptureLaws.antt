@@ -1,28 +1,25 @@
 -- Readings kept, and what a feed answers.
 use Prim.Native.Nat.{ℕ, _≤_, _<_}
 use mathlib.Core.List.{List, [], _∷_}
-use mathlib.Core.Bool.{Bool, true, false, not, _&&_, _||_}
+use mathlib.Core.Bool.{Bool}
 use mathlib.Core.Path.{_≡_, refl, sym, _∙_}
 use native.Mathlib.Omega.{arith}
 use lib.ListN.{length}
-use lib.Dec.{ltb, eqb}
-use borrow.Author.Tests.{lt-ltb, le-ltb, eq-eqb, ne-eqb}
-use Rattle.wire.specs.Choice.{if_then_else_}
+use lib.Dec.{ltb}
+use borrow.Author.Tests.{lt-ltb, le-ltb}
 use Rattle.wire.specs.Bounds.{sessionSize}
 use Rattle.wire.specs.Refusals.{outputShort}
 use Rattle.wire.specs.Output.{writtenWords, writeRefusal, Writes}
 use Rattle.wire.specs.declared.output.Written.{Written}
-use Rattle.wire.proofs.Cases.{below-or-not}
 use Rattle.capture.specs.declared.reading.Reading.{Reading}
-use Rattle.capture.specs.declared.reading.Fed.{Fed}
-use Rattle.capture.specs.Reading.{feedOf, finishOf, isOver, textOf}
-use Rattle.host_answers.specs.Answers.{orElse, short, flag, padded, isOneOf, RefusesOnly, AnswersWith, AnswersWriting}
-use Rattle.host_answers.proofs.AnswerLaws.{or-next, or-none, or-short-no, or-first, rung-own, not-answered, no-success}
+use Rattle.capture.specs.Reading.{finishOf, textOf}
+use Rattle.host_answers.specs.Answers.{orElse, short, isOneOf, RefusesOnly, AnswersWith, AnswersWriting}
+use Rattle.host_answers.proofs.AnswerLaws.{or-next, or-first, no-success}
 use Rattle.host_answers.proofs.OnlyLaws.{only-ending, answers-only, reported-only}
-use Rattle.host_states.specs.States.{onCode, Keeps}
-use Rattle.host_capture.specs.Reading.{readingSize, readingBytes, readingIn, KeepsReading}
+use Rattle.host_states.specs.States.{onCode}
+use Rattle.host_capture.specs.Reading.{readingSize, readingIn, KeepsReading}
 use Rattle.host_capture.proofs.ReadingLaws.{reading-not}
-use Rattle.exports_capture.specs.Calls.{SetsReading, fedWords, onFeed, FeedsReading}
+use Rattle.exports_capture.specs.Calls.{SetsReading}
 
 -- ---- which refusals there are: 41 at the most
 

@@ -1,7 +1,7 @@
 -- The writers: each is given a name, which is the first bytes of a lent buffer, and lent the output from a place on.
 use Prim.Native.Nat.{ℕ, _-_}
 use mathlib.Core.List.{List, []}
-use mathlib.Core.Bool.{Bool, not, _||_}
+use mathlib.Core.Bool.{not, _||_}
 use mathlib.Core.Path.{_≡_}
 use lib.ListN.{length}
 use lib.Dec.{ltb, eqb}

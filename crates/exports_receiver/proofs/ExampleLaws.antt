@@ -1,10 +1,10 @@
 -- The computed run.
-use Prim.Native.Nat.{ℕ, zero, suc, _<_, _≤_}
+use Prim.Native.Nat.{ℕ, zero, suc, _<_}
 use mathlib.Core.List.{List, [], _∷_}
 use mathlib.Core.Bool.{Bool, true, false}
 use mathlib.Core.Path.{_≡_, refl}
 use native.Mathlib.Omega.{arith}
-use lib.ListN.{length, getD}
+use lib.ListN.{getD}
 use lib.Dec.{ltb}
 use borrow.Author.Tests.{ltb-true}
 use Rattle.wire.specs.Choice.{if_then_else_}
@@ -24,8 +24,7 @@ use Rattle.host_states.specs.States.{isOpen, openByte, onStep, frontBytes}
 use Rattle.host_cursor.specs.Cursor.{cursorBytes, cursorIn}
 use Rattle.host_receiver.specs.Receiver.{receiverBytes, receiverIn}
 use Rattle.exports_receiver.specs.Replies.{answerNumber}
-use Rattle.exports_receiver.specs.Calls.{TakesDatagram}
-use Rattle.exports_receiver.specs.Run.{Walked, stop, next, Gets, by-refusal, by-another, by-deliver, TakeCall, Handed, none, one}
+use Rattle.exports_receiver.specs.Run.{Walked, stop, next, by-refusal, by-another, by-deliver, TakeCall, none, one}
 use Rattle.exports_receiver.specs.Example.{atOne, atThree, twoMessages, HandedExample}
 
 -- bytes, by a computed test

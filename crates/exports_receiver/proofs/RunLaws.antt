@@ -4,17 +4,16 @@ use mathlib.Core.List.{List, [], _∷_, _++_}
 use mathlib.Core.Bool.{Bool, true, false}
 use mathlib.Core.Path.{_≡_, refl, ap, sym, _∙_}
 use native.Mathlib.Omega.{arith}
-use lib.ListN.{length, getD, take, drop, List·getD-append}
+use lib.ListN.{length, getD, List·getD-append}
 use lib.Seq.{take-all}
-use lib.Dec.{ltb, eqb}
+use lib.Dec.{eqb}
 use borrow.Author.Tests.{le-ltb, eq-eqb, ne-eqb, eqb-true}
 use Rattle.wire.specs.Choice.{if_then_else_}
 use Rattle.wire.specs.Bounds.{sessionSize}
 use Rattle.wire.specs.Refusals.{badSetting}
-use Rattle.wire.specs.Words.{Words, Case, answer, refused, says, refuses}
+use Rattle.wire.specs.Words.{Words, Case, answer, refused, says}
 use Rattle.wire.specs.Parts.{firstBytes}
 use Rattle.wire.proofs.Cases.{zero-or-not}
-use Rattle.moldudp64.specs.Downstream.{refusalOf}
 use Rattle.receiver.specs.declared.receiver.Receiver.{Receiver}
 use Rattle.receiver.specs.Table.{AnswerKind, deliver, old, quiet, ask, ended, Outcome, Row, data-reaches, data-below, heartbeat-below, heartbeat-at, any-above, end-at}
 use Rattle.receiver.specs.Receiver.{refusalFor, receiverStartRefusal, startReceiver, answerOf, receiverAfter}

@@ -1,10 +1,9 @@
 -- A walk by calls visits what is delivered, and then stops.
 use Prim.Native.Nat.{ℕ, zero, suc, _+_, _<_, _≤_}
-use mathlib.Core.List.{List, [], _∷_, _++_}
+use mathlib.Core.List.{List, [], _++_}
 use mathlib.Core.Bool.{Bool, true, false}
 use mathlib.Core.Path.{_≡_, refl, ap, sym, _∙_}
 use native.Mathlib.Omega.{arith}
-use native.Mathlib.Nat.{add-zero}
 use lib.ListN.{length, getD, take, drop, drop-of-length-le, List·getD-append}
 use lib.Seq.{drop-cons}
 use lib.Dec.{ltb}
@@ -13,10 +12,10 @@ use Rattle.wire.specs.Output.{put}
 use Rattle.wire.proofs.Cases.{below-or-not}
 use Rattle.wire.proofs.Outputs.{length-put}
 use Rattle.moldudp64_messages.specs.declared.cursor.Cursor.{Cursor}
-use Rattle.moldudp64_messages.specs.Cursor.{located, advanced, advancedBy, part}
+use Rattle.moldudp64_messages.specs.Cursor.{located, advanced, advancedBy}
 use Rattle.receiver.specs.Delivery.{Visits}
 use Rattle.receiver.specs.Feed.{Datagram, Message}
-use Rattle.host_answers.specs.Answers.{orElse, short, flag, AnswersWith}
+use Rattle.host_answers.specs.Answers.{orElse, short, flag}
 use Rattle.host_answers.proofs.AnswerLaws.{or-next}
 use Rattle.host_answers.proofs.PromiseLaws.{host-promises}
 use Rattle.host_states.specs.States.{Keeps, onCode, onStep}

@@ -1,10 +1,10 @@
 -- A run of calls hands on the server of the definitions, and sends what there is to send.
-use Prim.Native.Nat.{ℕ, _≤_, _<_}
-use mathlib.Core.List.{List, [], _∷_, _++_, append-assoc}
+use Prim.Native.Nat.{ℕ, _≤_}
+use mathlib.Core.List.{List, append-assoc}
 use mathlib.Core.Bool.{Bool, true, false}
 use mathlib.Core.Path.{_≡_, refl, ap, sym, _∙_}
 use native.Mathlib.Omega.{arith}
-use lib.ListN.{length, getD, take}
+use lib.ListN.{length, getD}
 use lib.Seq.{getD-at}
 use lib.Dec.{ltb, eqb}
 use borrow.Author.Tests.{eq-eqb, ne-eqb, le-ltb}
@@ -17,22 +17,21 @@ use Rattle.login.specs.declared.account.Account.{Account}
 use Rattle.soupbintcp_session.specs.Answer.{StepOutcome}
 use Rattle.soupbintcp_server.specs.declared.server.Server.{Server}
 use Rattle.soupbintcp_server.specs.Server.{largestLast, lastRefusal, withLast, serverStep}
-use Rattle.soupbintcp_reply.specs.Reply.{replyOutcome, replyWritten, replyOutput}
+use Rattle.soupbintcp_reply.specs.Reply.{replyWritten}
 use Rattle.soupbintcp_reply.specs.Statements.{RefusalUndoes, writtenBy}
 use Rattle.soupbintcp_reply.proofs.StatementLaws.{reply-promises}
 use Rattle.host_answers.specs.Answers.{stateLadder, wordsOf, orElse, short}
-use Rattle.host_answers.proofs.AnswerLaws.{or-short-no, or-first, or-next, success}
+use Rattle.host_answers.proofs.AnswerLaws.{or-short-no, success}
 use Rattle.host_answers.proofs.PromiseLaws.{host-promises}
-use Rattle.host_states.specs.States.{onCode}
 use Rattle.host_session.specs.Session.{sessionStateSize}
 use Rattle.host_session.specs.Replies.{sessionAnswerNumber, stepWords}
-use Rattle.host_session.proofs.StepLaws.{Steps, waits, needs-none, refuses-own, ladder-open, none-short}
+use Rattle.host_session.proofs.StepLaws.{Steps, waits, needs-none, refuses-own, ladder-open}
 use Rattle.host_session.proofs.StepLaws as step
 use Rattle.host_session.proofs.HandsLaws.{length-words, kept-long, step-leaves}
 use Rattle.host_server.specs.Server.{serverBytes, serverIn, serverStateless}
 use Rattle.exports_server.specs.Calls.{MovesLast, StepsAtServer}
-use Rattle.exports_reply.specs.Calls.{replied, repliedWords, RepliesAtServer}
-use Rattle.exports_reply.specs.Run.{ServerInput, to-step, to-reply, to-last, serverAfter, toSend, Sends, by-refusal, by-word, ServerCall, steps, replies, moves, ServerHanded, none, one, serverAfterAll, toSendAll, ServerHands, EveryServerCallHandsOn}
+use Rattle.exports_reply.specs.Calls.{replied, RepliesAtServer}
+use Rattle.exports_reply.specs.Run.{ServerInput, serverAfter, toSend, Sends, by-refusal, by-word, ServerCall, steps, replies, moves, ServerHanded, none, one, serverAfterAll, toSendAll, ServerHands, EveryServerCallHandsOn}
 use Rattle.exports_reply.proofs.CallLaws as call
 
 -- ---- a step

@@ -1,12 +1,12 @@
 -- Which refusals each function gives.
 use Prim.Native.Nat.{ℕ}
 use mathlib.Core.List.{List, [], _∷_}
-use mathlib.Core.Bool.{Bool, true, false}
+use mathlib.Core.Bool.{Bool, false}
 use mathlib.Core.Path.{_≡_, refl}
 use lib.ListN.{length}
 use lib.Dec.{ltb, eqb}
 use Rattle.wire.specs.Refusals.{fieldNotWritten}
-use Rattle.wire.specs.Words.{Words, Case, answer, refused}
+use Rattle.wire.specs.Words.{Case, answer, refused}
 use Rattle.wire.specs.Output.{writtenWords, Writes}
 use Rattle.wire.specs.declared.output.Written.{Written}
 use Rattle.text_fields.specs.Session.{goodSession}
@@ -19,7 +19,6 @@ use Rattle.soupbintcp.proofs.HeadLaws.{head-cases}
 use Rattle.soupbintcp_writer.specs.Packets.{payloadGround, acceptedGround, reasonGround, goodLogin, loginGround}
 use Rattle.host_answers.specs.Answers.{orElse, short, isOneOf, RefusesOnly, AnswersWith}
 use Rattle.host_answers.proofs.OnlyLaws.{only-if, answers-only, reported-only}
-use Rattle.exports_soupbintcp.specs.Packets.{senderOf}
 
 -- ---- readers
 

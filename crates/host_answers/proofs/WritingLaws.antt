@@ -1,7 +1,7 @@
 -- An exported writer: it is lent the output from a place on, and its answer is reported. That place is the end where other
 -- lent memory is too short, so that its own ground comes first and nothing is written. l is the output, g the writer's ground
 -- and bs its bytes.
-use Prim.Native.Nat.{ℕ, _+_, _-_, _<_, _≤_}
+use Prim.Native.Nat.{ℕ, _+_, _-_, _≤_}
 use mathlib.Core.List.{List, [], _∷_, _++_, append-nil}
 use mathlib.Core.Bool.{Bool, true, false, _||_}
 use mathlib.Core.Path.{_≡_, refl, ap, sym, _∙_}

@@ -7,7 +7,7 @@ use native.Mathlib.Omega.{arith}
 use native.Mathlib.Nat.{min-eq-left}
 use lib.ListN.{length, getD, take, drop, length-append, length-drop, drop-of-length-le}
 use lib.Seq.{drop-drop}
-use lib.Dec.{ltb, eqb}
+use lib.Dec.{ltb}
 use borrow.Rule.Slice.PartMut.{midOf, putMid}
 use borrow.Author.Tests.{eq-eqb, ne-eqb, le-ltb, lt-ltb}
 use Rattle.wire.specs.Bounds.{sessionSize}
@@ -26,9 +26,9 @@ use Rattle.capture.specs.Reading.{reading, startReading, isOver}
 use Rattle.host_answers.specs.Answers.{orElse, short}
 use Rattle.host_answers.proofs.AnswerLaws.{or-next}
 use Rattle.host_states.specs.Little.{little, littleBytes}
-use Rattle.host_states.specs.States.{readingCode, isOpen, openByte, Keeps, Lays, onCode, StatePromises}
+use Rattle.host_states.specs.States.{readingCode, isOpen, openByte, Lays, onCode, StatePromises}
 use Rattle.host_states.proofs.LittleLaws.{length-little}
-use Rattle.host_states.proofs.StateLaws.{open-back, put-next, put-behind, keeps-not, keeps-laid, laid-front, past-field, little-past-field, byte-past-field, little-in-front, state-promises}
+use Rattle.host_states.proofs.StateLaws.{open-back, put-next, put-behind, keeps-not, keeps-laid, laid-front, little-past-field, little-in-front, state-promises}
 use Rattle.host_receiver.specs.Receiver.{receiverSize, receiverBytes, receiverIn, KeepsReceiver}
 use Rattle.host_receiver.proofs.ReceiverLaws.{length-receiver, receiver-back}
 use Rattle.host_capture.specs.Reading.{readingSize, stageOf, stageByte, countBytes, tallyIn, refusedReading, readingBytes, readingIn, KeepsReading}

@@ -1,7 +1,7 @@
 -- A reading of a capture as bytes: its code while it isn't over, its stage, its receiver, how many records were read,
 -- and its five counts.
 use Prim.Native.Nat.{ℕ, _+_, min}
-use mathlib.Core.List.{List, [], _∷_, _++_}
+use mathlib.Core.List.{List, _∷_, _++_}
 use mathlib.Core.Bool.{Bool, not}
 use lib.ListN.{length, getD, drop}
 use lib.Dec.{ltb, eqb}

@@ -2,7 +2,7 @@
 use Prim.Native.Nat.{ℕ, _≤_, _<_}
 use mathlib.Core.List.{List, [], _∷_}
 use mathlib.Core.Bool.{Bool, true, false}
-use mathlib.Core.Path.{_≡_, refl, sym, ap, _∙_}
+use mathlib.Core.Path.{_≡_, refl, sym, _∙_}
 use native.Mathlib.Omega.{arith}
 use lib.ListN.{length}
 use lib.Dec.{ltb}
@@ -12,8 +12,8 @@ use Rattle.moldudp64_messages.specs.declared.cursor.Cursor.{Cursor}
 use Rattle.moldudp64_messages.specs.declared.cursor.Located.{Located}
 use Rattle.moldudp64_messages.specs.Cursor.{located, advanced}
 use Rattle.host_answers.specs.Answers.{orElse, short, isOneOf, RefusesOnly, AnswersWith}
-use Rattle.host_answers.proofs.AnswerLaws.{or-next, or-none, or-short-no, rung-own, not-answered}
-use Rattle.host_answers.proofs.OnlyLaws.{only-none, only-ending, answers-only}
+use Rattle.host_answers.proofs.AnswerLaws.{or-next, or-none, rung-own, not-answered}
+use Rattle.host_answers.proofs.OnlyLaws.{only-ending, answers-only}
 use Rattle.host_states.specs.States.{onCode, onStep}
 use Rattle.host_states.proofs.StateLaws.{keeps-step, keeps-more}
 use Rattle.host_cursor.specs.Cursor.{cursorSize, cursorIn, KeepsCursor}

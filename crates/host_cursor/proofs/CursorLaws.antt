@@ -4,15 +4,14 @@ use mathlib.Core.List.{List, [], _∷_, _++_, append-assoc}
 use mathlib.Core.Bool.{Bool, true, false}
 use mathlib.Core.Path.{_≡_, refl, ap, _∙_}
 use native.Mathlib.Omega.{arith}
-use lib.ListN.{length, drop, length-append}
-use lib.Dec.{ltb}
+use lib.ListN.{length, length-append}
 use borrow.Author.Tests.{lt-ltb, le-ltb}
 use Rattle.wire.specs.Output.{put}
 use Rattle.wire.proofs.Outputs.{length-put}
 use Rattle.moldudp64_messages.specs.declared.cursor.Cursor.{Cursor}
 use Rattle.moldudp64_messages.specs.Cursor.{cursor}
 use Rattle.host_states.specs.Little.{little, littleBytes}
-use Rattle.host_states.specs.States.{cursorCode, isOpen, openByte, Keeps, Lays, onCode, StatePromises}
+use Rattle.host_states.specs.States.{cursorCode, isOpen, openByte, Lays, onCode, StatePromises}
 use Rattle.host_states.proofs.LittleLaws.{length-little}
 use Rattle.host_states.proofs.StateLaws.{open-back, put-next, keeps-not, keeps-laid, laid-front, little-past-field, little-in-front, state-promises}
 use Rattle.host_cursor.specs.Cursor.{cursorSize, cursorBytes, cursorIn, noMessages, KeepsCursor}

@@ -5,7 +5,6 @@ use mathlib.Core.Bool.{Bool, true, false, not}
 use mathlib.Core.Path.{_≡_, refl, ap, _∙_}
 use native.Mathlib.Omega.{arith}
 use lib.ListN.{length, take, drop, length-append}
-use lib.Dec.{ltb}
 use borrow.Author.Tests.{lt-ltb, le-ltb}
 use Rattle.wire.specs.Bounds.{sessionSize}
 use Rattle.wire.specs.Output.{put}
@@ -15,7 +14,7 @@ use Rattle.wire.proofs.Outputs.{length-put}
 use Rattle.receiver.specs.declared.receiver.Receiver.{Receiver}
 use Rattle.receiver.specs.Receiver.{receiver, refusedReceiver}
 use Rattle.host_states.specs.Little.{little, littleBytes}
-use Rattle.host_states.specs.States.{receiverCode, isOpen, openByte, Keeps, Lays, onCode, StatePromises, frontBytes}
+use Rattle.host_states.specs.States.{receiverCode, isOpen, openByte, Lays, onCode, StatePromises, frontBytes}
 use Rattle.host_states.proofs.LittleLaws.{length-little}
 use Rattle.host_states.proofs.StateLaws.{open-back, put-next, length-front, keeps-not, keeps-laid, laid-front, past-field, little-past-field, little-in-front, name-in-front, state-promises}
 use Rattle.host_receiver.specs.Receiver.{receiverSize, receiverBytes, receiverIn, KeepsReceiver}

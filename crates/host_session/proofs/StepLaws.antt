@@ -1,16 +1,13 @@
 -- A step of either end: s is the session before it, g the ground that needs none, o what the step comes to.
 use Prim.Native.Nat.{ℕ, _≤_, _<_}
 use mathlib.Core.List.{List, []}
-use mathlib.Core.Bool.{Bool, true, false}
+use mathlib.Core.Bool.{Bool, false}
 use mathlib.Core.Path.{_≡_, refl, ap, sym, _∙_}
-use native.Mathlib.Omega.{arith}
-use borrow.Author.Tests.{eq-eqb, ne-eqb, lt-ltb}
 use Rattle.wire.specs.Words.{says, refuses}
-use Rattle.wire.specs.Refusals.{outputShort}
 use Rattle.wire.proofs.Cases.{zero-or-not}
 use Rattle.soupbintcp_session.specs.Answer.{SessionAnswerKind, wants-more, StepOutcome, stays, takes}
 use Rattle.host_answers.specs.Answers.{orElse, short, stateLadder, behindStateless, RefusesOnly}
-use Rattle.host_answers.proofs.AnswerLaws.{or-first, or-next, or-short-no, behind-own, behind-has}
+use Rattle.host_answers.proofs.AnswerLaws.{or-first, or-next}
 use Rattle.host_answers.proofs.LadderLaws.{behind-ladder}
 use Rattle.host_answers.proofs.OnlyLaws.{only-none, only-state}
 

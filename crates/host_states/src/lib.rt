@@ -8,7 +8,6 @@ use wire::kinds::SESSION_SIZE;
 use wire::output;
 use wire::parts;
 ghost use mathlib.Core.Path.{_≡_};
-ghost use lib.ListN.{length};
 ghost use lib.Dec.{ltb};
 ghost use Rattle.wire.specs.Output.{put};
 ghost use Rattle.host_answers.specs.Answers.{orElse, short};

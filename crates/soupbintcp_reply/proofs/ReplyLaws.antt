@@ -1,20 +1,18 @@
 -- A step's reply: k is the step of the server s, o what it comes to, w what the reply's writer answered.
 use mathlib.Core.Path.{_≡_, refl, ap, sym, _∙_}
 use mathlib.Core.List.{List, [], _∷_}
-use Prim.Native.Nat.{ℕ, _+_, _≤_}
+use Prim.Native.Nat.{ℕ}
 use native.Mathlib.Omega.{arith}
 use lib.ListN.{length}
-use lib.Dec.{eqb}
 use borrow.Author.Tests.{eq-eqb, ne-eqb}
 use types.Run.{OneOf, miss}
 use denote.Enum.Declared.{tagOf}
-use Rattle.wire.specs.Choice.{if_then_else_}
-use Rattle.wire.specs.Words.{Words, answer, refused, refuses}
+use Rattle.wire.specs.Words.{answer, refused, refuses}
 use Rattle.wire.specs.declared.kinds.SequenceNumber.{SequenceNumber}
 use Rattle.wire.specs.declared.refusal.Refusal.{Refusal}
 use Rattle.wire.specs.declared.output.Written.{Written}
 use Rattle.wire.specs.declared.output.Written.the-variants.{Wrote, Refused}
-use Rattle.wire.specs.Output.{writtenWords, put, writeRefusal, writeAnswer, writeOutput, Writes}
+use Rattle.wire.specs.Output.{writtenWords, writeRefusal, writeAnswer, writeOutput, Writes}
 use Rattle.wire.proofs.Cases.{below-or-not, zero-or-not}
 use Rattle.wire.proofs.Words.{which-of, refusal-of}
 use Rattle.wire.proofs.Outputs.{put-empty, put-none, answer-refusal, no-write-refusal, wrote-so}

@@ -7,7 +7,6 @@ use lib.ListN.{length, getD, take, drop, replicate, length-drop, drop-of-length-
 use lib.Seq.{take-all, take-nil, drop-cons}
 use borrow.Author.Tests.{le-ltb, lt-ltb}
 use Rattle.wire.proofs.Cases.{below-or-not}
-use Rattle.wire.specs.Choice.{if_then_else_}
 use Rattle.wire.specs.Parts.{firstBytes}
 
 -- ---- the front without its own front
