@@ -114,11 +114,12 @@ abbrev pub attemptBy : Found → Account → List ℕ → ℕ → List ℕ → �
 attemptBy f e asked wanted session last =
     record { table = f .account ∷ []; entry = e; asked = asked; wanted = wanted; session = session; last = last }
 
--- whatever is said to be found, who is let in has its record's username and password, and meets the other rules
+-- let in by the record that is said to be found: its username, its password, and the other rules
 pub record ByItsRecord (f : Found) (x : Attempt) : Type 0 where
   pub not-too-many : f .«too_many» ≡ false
   pub rules : Rules x
 
+-- nobody is let in but so, whatever is said to be found
 unfoldable pub OnlyByARecord : Type 0
 OnlyByARecord = (f : Found) (e : Account) (asked : List ℕ) (wanted : ℕ) (session : List ℕ) (last : ℕ)
     → decisionOf (verdictOn f e) asked wanted session last .which ≡ answer accepted
