@@ -7,6 +7,14 @@ step() { # NAME COMMAND..
     "${@:2}" </dev/null || { echo "FAILED: $1"; exit 1; }
 }
 
+# What no file of the repository can install.
+needs_toolchain() {
+    command -v rt >/dev/null && return
+    echo "rt is missing: the Rattle toolchain, of this identity: $(cat toolchain.txt)."
+    echo "It comes from its maker and isn't part of this repository; README.md says what else is needed."
+    return 1
+}
+
 # Another toolchain may prove less or more: it is said, and decides nothing.
 toolchain() {
     [ "$(rt version)" = "$(cat toolchain.txt)" ] ||
@@ -24,5 +32,7 @@ text_checks() {
     step "mutations" python3 tools/mutations.py --check
     step "entry points" python3 tools/entry_points.py --check
     step "acceptance names" python3 tools/acceptance_names.py
+    step "imports" python3 tools/imports.py
+    step "pages" python3 tools/pages.py --check
     step "vectors" python3 tools/vectors --check
 }
