@@ -123,6 +123,12 @@ pub read-refused : (l : List ℕ) (r : Refusal) → r .number ≡ refusalOf l �
 unfolding downstreamOf downstreamWords
 read-refused l r e z = simp (← e, ne-eqb _ _ z)
 
+pub read-11 : (l : List ℕ) → length l < 20 → downstreamWords (Refused (record { number = 11 })) ≡ downstreamOf l
+read-11 l h = read-refused l (record { number = 11 }) (refusal-11 l h) (omega arith)
+
+pub read-12 : (l : List ℕ) → 20 ≤ length l → 65507 < length l → downstreamWords (Refused (record { number = 12 })) ≡ downstreamOf l
+read-12 l h i = read-refused l (record { number = 12 }) (refusal-12 l h i) (omega arith)
+
 module _ (l : List ℕ) (r : Refusal) (n : SequenceNumber) (c : MessageCount) where
   pub read-heartbeat : r .number ≡ refusalOf l → r .number ≡ 0 → n .0 ≡ numberOf l → c .0 ≡ countOf l → c .0 ≡ 0
       → downstreamWords (Heartbeat n) ≡ downstreamOf l
@@ -155,6 +161,35 @@ tells-apart = read-back downstreamWords (λ w. answered (w .which) (w .refusal) 
     back (Heartbeat n) = refl
     back (EndOfSession n) = refl
     back (Refused r) = refl
+
+-- ---- the refusal in what was read
+
+pub in-data : (p : Downstream) (n : SequenceNumber) (c : MessageCount) → p ≡ Data n c → 0 ≡ downstreamWords p .refusal
+unfolding downstreamWords
+in-data p n c e = rw e
+
+pub in-heartbeat : (p : Downstream) (n : SequenceNumber) → p ≡ Heartbeat n → 0 ≡ downstreamWords p .refusal
+unfolding downstreamWords
+in-heartbeat p n e = rw e
+
+pub in-end : (p : Downstream) (n : SequenceNumber) → p ≡ EndOfSession n → 0 ≡ downstreamWords p .refusal
+unfolding downstreamWords
+in-end p n e = rw e
+
+pub in-refused : (p : Downstream) (r : Refusal) → p ≡ Refused r → r .number ≡ downstreamWords p .refusal
+unfolding downstreamWords
+in-refused p r e = rw e
+
+said-refusal : (l : List ℕ) → downstreamOf l .refusal ≡ refusalOf l
+unfolding downstreamOf
+said-refusal l = go (eqb (refusalOf l) 0) refl
+  where
+    go : (b : Bool) → eqb (refusalOf l) 0 ≡ b → downstreamOf l .refusal ≡ refusalOf l
+    go true e = rw e (sym (eqb-true _ _ e))
+    go false e = rw e
+
+pub refusal-found : (l : List ℕ) (p : Downstream) (r : ℕ) → r ≡ downstreamWords p .refusal → downstreamWords p ≡ downstreamOf l → r ≡ refusalOf l
+refusal-found l p r e f = e ∙ refusal-of f ∙ said-refusal l
 
 -- ---- the session and the messages
 

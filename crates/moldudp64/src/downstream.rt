@@ -9,9 +9,11 @@ use wire::kinds::SequenceNumber;
 use wire::refusal;
 use wire::refusal::Refusal;
 ghost use mathlib.Core.Path.{_≡_};
+ghost use Prim.Native.Nat.{_≤_};
+ghost use lib.ListN.{length};
 ghost use Rattle.wire.specs.Words.{Injective};
 ghost use Rattle.wire.specs.Bytes.{sameBytes};
-ghost use Rattle.moldudp64.specs.Header.{numberOf, countOf};
+ghost use Rattle.moldudp64.specs.Header.{headerSize, largestDatagram, numberOf, countOf};
 ghost use Rattle.moldudp64.specs.Downstream.{kindOfCount, blockCountOf, refusalOf, downstreamWords, downstreamOf};
 ghost use Rattle.moldudp64.specs.Downstream.{downstreamSession};
 
@@ -43,17 +45,12 @@ fn block_count(count: MessageCount) -> MessageCount
     count
 }
 
-// The lowest of 11 to 16 that applies to a datagram with this number and this count, or 0 where it is well-formed.
-fn refusal_of(datagram: &[u8], first: SequenceNumber, count: MessageCount) -> Refusal
-    requires { ⌜ (first .0 ≡ numberOf (now datagram)) × (count .0 ≡ countOf (now datagram)) ⌝ }
+// The lowest of 13 to 16 that applies to a datagram of good size with this number and this count, or 0.
+fn header_refusal(datagram: &[u8], first: SequenceNumber, count: MessageCount) -> Refusal
+    requires { ⌜ (headerSize ≤ length (now datagram)) × (length (now datagram) ≤ largestDatagram)
+        × (first .0 ≡ numberOf (now datagram)) × (count .0 ≡ countOf (now datagram)) ⌝ }
     ensures { λ r. ⌜ r .number ≡ refusalOf (now (datagram .entry)) ⌝ }
 {
-    if datagram.len() < header::SIZE {
-        return refusal::DATAGRAM_SHORT;
-    }
-    if header::LARGEST_DATAGRAM < datagram.len() {
-        return refusal::DATAGRAM_LONG;
-    }
     if first.is_zero() {
         return refusal::NUMBER_ZERO;
     }
@@ -64,14 +61,21 @@ fn refusal_of(datagram: &[u8], first: SequenceNumber, count: MessageCount) -> Re
     blocks::walk(&datagram[header::SIZE..], following)
 }
 
-// Reads a datagram, with one look at its header and one walk over its blocks.
+// Reads a datagram, with one look at its header and one walk over its blocks. The size is tested here and first, so
+// that the header is read with no further test.
 pub fn read(datagram: &[u8]) -> Downstream
     ensures { λ r. ⌜ downstreamWords r ≡ downstreamOf (now (datagram .entry)) ⌝ }
     ensures tells_apart { λ _. ⌜ Injective downstreamWords ⌝ }
 {
+    if datagram.len() < header::SIZE {
+        return Downstream::Refused(refusal::DATAGRAM_SHORT);
+    }
+    if header::LARGEST_DATAGRAM < datagram.len() {
+        return Downstream::Refused(refusal::DATAGRAM_LONG);
+    }
     let first = header::sequence_number(datagram);
     let count = header::message_count(datagram);
-    let refused = refusal_of(datagram, first, count);
+    let refused = header_refusal(datagram, first, count);
     if refused.number != 0 {
         return Downstream::Refused(refused);
     }
@@ -84,13 +88,30 @@ pub fn read(datagram: &[u8]) -> Downstream
     Downstream::Data { first, count }
 }
 
+// The refusal in what a datagram says, its number 0 where there is none.
+fn refusal_in(packet: Downstream) -> Refusal
+    ensures { λ r. ⌜ r .number ≡ downstreamWords packet .refusal ⌝ }
+{
+    match packet {
+        Downstream::Data { first: _, count: _ } => refusal::NONE,
+        Downstream::Heartbeat { next: _ } => refusal::NONE,
+        Downstream::EndOfSession { next: _ } => refusal::NONE,
+        Downstream::Refused(r) => r,
+    }
+}
+
+// The lowest of 11 to 16 that applies, or 0 where the datagram is well-formed.
+fn refusal_of(datagram: &[u8]) -> Refusal
+    ensures { λ r. ⌜ r .number ≡ refusalOf (now (datagram .entry)) ⌝ }
+{
+    refusal_in(read(datagram))
+}
+
 // The session of a datagram, as a part of it; empty where the datagram is refused.
 pub fn session(datagram: &[u8]) -> &[u8]
     ensures { λ r. ⌜ now r ≡ downstreamSession (now (datagram .entry)) ⌝ }
 {
-    let first = header::sequence_number(datagram);
-    let count = header::message_count(datagram);
-    let refused = refusal_of(datagram, first, count);
+    let refused = refusal_of(datagram);
     if refused.number != 0 {
         return &datagram[..0];
     }

@@ -7,8 +7,6 @@ pub session-spec : {M : Type 1} → statement M
 session-spec =
     tie.close
     (tie.spec
-    (λ c κs. search downstreams)  -- sequence-number-requires
-    (λ c κs. search downstreams)  -- message-count-requires
     (λ c κs. search downstreams)  -- refusal-of-requires
     (λ c. search downstreams)  -- slice-aggregate-result
     (λ c. search downstreams)  -- returns
