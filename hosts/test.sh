@@ -1,7 +1,7 @@
 #!/usr/bin/env bash
 # The hosts' tests, over target/staticlib/libeiderwagon.a, which tools/host_library.sh builds: the Rust wrapper with its
 # examples, the differential tests, the header as C and as C++, the examples and the test in C, with warnings as
-# errors, and the program that README.md prints.
+# errors, and the programs that the pages print.
 set -euo pipefail
 cd "$(dirname "$0")"
 
@@ -44,13 +44,21 @@ for example in feed login; do
 done
 "$programs/test"
 
-# README.md's program, with the commands as they are printed there, in a folder outside the repository
+# this folder's README.md: its program, with the commands as they are printed there, outside the repository
 outside=$(mktemp -d)
 trap 'rm -rf "$outside"' EXIT
 ln -s "$(realpath ..)" "$outside/eiderwagon"
-block() { sed -n "/^\`\`\`$1\$/,/^\`\`\`\$/p" README.md | sed '/^```/d'; }
-block sh >"$outside/commands"
-block text >"$outside/wanted"
+block() { sed -n "/^\`\`\`$1\$/,/^\`\`\`\$/p" "$2" | sed '/^```/d'; }
+block sh README.md >"$outside/commands"
+block text README.md >"$outside/wanted"
 (cd "$outside" && bash -euo pipefail commands) >"$outside/printed"
 diff "$outside/wanted" "$outside/printed"
-echo "README.md's program prints what it says"
+
+# the front page: its two short programs print what it says of them
+block c ../README.md >"$outside/front.c"
+cc -std=c11 "${warnings[@]}" "$outside/front.c" "$library" -o "$programs/front"
+"$programs/front" | diff <(echo 'ask from 1 for 2') -
+block rust ../README.md >"$outside/prices/src/main.rs"
+(cd "$outside/prices" && EIDERWAGON_LIB_DIR=../eiderwagon/target/staticlib cargo run --quiet --offline) |
+    diff <(printf '1: offer\n2: sale\n') -
+echo "the pages' programs print what they say"

@@ -65,9 +65,9 @@ pub record Condition1 : Type 0 where
   -- a state is open by its first byte alone: zeros and another kind's bytes never are
   pub open-by-code : OpenByCode
 
--- Condition 2. That bytes are read and written exactly as the layouts say is each reader's and writer's own promise,
--- an equation with its definition: `downstreamOf`, `requestOf` (moldudp64) and `frontOf` (soupbintcp); `encoded`,
--- `encodedEnd`, `header` (moldudp64) and `encoded` (soupbintcp_writer).
+-- Condition 2. Each reader's and writer's answer equals its definition, by its own promise: `downstreamOf`, `requestOf`
+-- (moldudp64) and `frontOf` (soupbintcp); `encoded`, `encodedEnd`, `header` (moldudp64) and `encoded`
+-- (soupbintcp_writer). The fields say what those definitions are: the published layouts, each way back to itself.
 pub record Condition2 : Type 0 where
   -- those layouts, a packet each in literal bytes
   pub layouts : EveryLayout

@@ -4,14 +4,16 @@ use mathlib.Core.List.{List}
 use Prim.Native.Nat.{ℕ, _+_, _-_, _≤_, min}
 use native.Mathlib.Omega.{arith}
 use lib.ListN.{length, take, drop, length-take, length-drop}
+use Rattle.wire.specs.Bytes.{AreBytes}
 use Rattle.wire.specs.Output.{put}
 use Rattle.wire.proofs.PartLaws.{drop-take, take-there}
 use Rattle.capture_records.specs.Buffer.{keptSize, keptOf}
+use Rattle.capture_records.proofs.RecordLaws.{bytes-take}
 use Rattle.capture_records.proofs.BufferLaws.{size-all}
 use Rattle.capture_events.specs.Events.{readPiece}
-use Rattle.capture_events.specs.Turns.{there, Turn, left}
+use Rattle.capture_events.specs.Turns.{there, Turn, left, mostKept}
 use Rattle.capture_events.proofs.EventLaws.{piece-used}
-use Rattle.capture_events.proofs.TurnLaws.{turn-last, turn-reads}
+use Rattle.capture_events.proofs.TurnLaws.{turn-last, turn-reads, little-piece}
 use Rattle.capture.specs.declared.reading.Reading.{Reading}
 use Rattle.capture.specs.declared.reading.Fed.{Fed}
 use Rattle.capture.specs.declared.turning.Turning.{Turning}
@@ -71,3 +73,7 @@ module _ (s : Turning) (m : List ℕ) (got n : ℕ) (t : n ≡ min (length m) (s
     pub turn-keeps : (b : List ℕ) → (got ≡ 0 → ⊥) → b ≡ keptOf m (f .used) n → b ≡ bufferOf s m got
     unfolding bufferOf keptOf
     turn-keeps b z h = h ∙ ap (put m 0) kept-so ∙ sym (ap (λ (t : Turn). t .buffer) (turn-reads (atOf (s .reading)) m (s .have) got z))
+
+    -- a buffer's elements are bytes
+    pub turn-little : (k : ℕ) → k ≡ keptSize (length m) (f .used) n → AreBytes m → k ≤ mostKept
+    turn-little k h small = rw (h ∙ size-so) (little-piece (atOf (s .reading)) (there m (s .have) got) (bytes-take (s .have + got) m small))

@@ -5,6 +5,8 @@ use capture_events::there;
 use capture_records::buffer;
 use wire::kinds::ByteOffset;
 ghost use mathlib.Core.Path.{_≡_};
+ghost use Prim.Native.Nat.{_≤_};
+ghost use Rattle.capture_events.specs.Turns.{mostKept};
 ghost use Rattle.capture.specs.Reading.{isOver};
 ghost use Rattle.capture.specs.Turning.{startTurning, turnedOf, bufferOf};
 ghost use Rattle.capture.specs.Whole.{CapturePromises};
@@ -35,10 +37,11 @@ impl Turning {
     }
 
     // One turn, so many bytes having come behind those that were kept; none mean the end of the input, after which it
-    // is over.
+    // is over. Less than the longest record is kept, so that a buffer of that size always has room behind it.
     pub fn turn(self, buf: &mut [u8], got: usize) -> Turning
         ensures { λ r. ⌜ r ≡ turnedOf self (now (buf .entry)) got ⌝ }
         ensures keeps { λ _. ⌜ now (buf .exit) ≡ bufferOf self (now (buf .entry)) got ⌝ }
+        ensures little { λ r. ⌜ r .have ≤ mostKept ⌝ }
         ensures promises { λ _. ⌜ CapturePromises ⌝ }
     {
         let reading = self.reading;

@@ -5,12 +5,19 @@ use mathlib.Core.Bool.{Bool, true}
 use Prim.Native.Nat.{ℕ, _≤_}
 use lib.ListN.{length, take}
 use lib.Seq.{length-take-le}
+use native.Mathlib.Omega.{arith}
 use borrow.Author.Needs.{needs}
+use Rattle.capture_events.specs.Turns.{mostKept}
 use Rattle.capture.specs.declared.turning.Turning.{Turning}
 use Rattle.capture.specs.Reading.{isOver}
-use Rattle.capture.specs.Turning.{turnedOf}
+use Rattle.capture.specs.Turning.{startTurning, turnedOf}
 use Rattle.capture.specs.Whole.{EndIsOver}
 use Rattle.capture.proofs.WholeLaws.{capture-promises}
+
+-- at first nothing is kept
+pub fresh-kept : (s : Turning) → s ≡ startTurning → s .have ≤ mostKept
+unfolding startTurning
+fresh-kept s e = rw e (omega arith)
 
 pub over-told : (s : Turning) (b : Bool) → b ≡ isOver (s .reading .stage) → b ≡ true → isOver (s .reading .stage) ≡ true
 over-told s b e h = sym e ∙ h
@@ -23,4 +30,4 @@ last-over s t m e = ap (λ (x : Turning). isOver (x .reading .stage)) e ∙ capt
 pub part-length : (k : ℕ) (l : List ℕ) → k ≤ length l → k ≡ length (take k l)
 part-length k l h = sym (length-take-le k l h)
 
-pub ruleset laws = (over-told, last-over, part-length, needs)
+pub ruleset laws = (fresh-kept, over-told, last-over, part-length, needs)

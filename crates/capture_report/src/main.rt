@@ -8,20 +8,24 @@ use libc::STDOUT_FILENO;
 use wire::output::Written;
 ghost use mathlib.Core.Path.{_≡_};
 ghost use mathlib.Core.Bool.{true};
+ghost use Prim.Native.Nat.{_<_};
+ghost use lib.ListN.{length};
+ghost use Rattle.capture_events.specs.Turns.{mostKept};
 ghost use Rattle.capture.specs.Reading.{isOver};
 
-// Reads once behind the bytes that are kept, and answers how many came: none where the input ends or the read fails.
-fn fill(buf: &mut [u8], have: usize) -> usize {
-    if buf.len() < have {
-        return 0;
-    }
+// Reads once behind the bytes that are kept, where there is room for one more at the least, and answers how many came:
+// none where the input ends or the read fails.
+fn fill(buf: &mut [u8], have: usize) -> usize
+    requires { ⌜ have < length (now buf) ⌝ }
+{
     let got = libc::read(STDIN_FILENO, &mut buf[have..]);
     io::count(got, &buf[have..])
 }
 
-// Turns until it is over. A proved loop has to end, and nothing says that the input does: the turns are counted down
-// from a number that no run uses up.
+// Turns until it is over, in a buffer that has room behind whatever is kept. A proved loop has to end, and nothing says
+// that the input does: the turns are counted down from a number that no run uses up.
 fn read_all(buf: &mut [u8]) -> Reading
+    requires { ⌜ mostKept < length (now buf) ⌝ }
     ensures { λ r. ⌜ isOver (r .stage) ≡ true ⌝ }
 {
     let mut state = Turning::new();
@@ -54,7 +58,9 @@ fn print(reading: Reading) {
     }
 }
 
-fn run(buf: &mut [u8]) {
+fn run(buf: &mut [u8])
+    requires { ⌜ mostKept < length (now buf) ⌝ }
+{
     print(read_all(buf));
 }
 

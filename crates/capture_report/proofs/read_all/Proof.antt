@@ -1,12 +1,14 @@
--- It ends where a turn says so, and the buffer's length never changes.
+-- It ends where a turn says so. What is kept leaves room in the buffer, whose length never changes.
 use mathlib.Core.Path.{_≡_}
+use Prim.Native.Nat.{_≤_}
 use lib.ListN.{length}
+use Rattle.capture_events.specs.Turns.{mostKept}
 use Rattle.capture_report.proofs.Laws.{laws}
 use Rattle.capture_report.proofs.read_all.Statement.{statement}
 use Rattle.capture_report.proofs.read_all.Tie as tie
 
 abbrev Inv-loop : tie.InvT-loop
-Inv-loop buf₀ state₀ turns₀ buf state turns = length buf ≡ length buf₀
+Inv-loop buf₀ state₀ turns₀ buf state turns = (state .have ≤ mostKept) × (length buf ≡ length buf₀)
 
 abbrev μ-loop : tie.MeasureT-loop
 μ-loop buf₀ state₀ turns₀ buf state turns = turns
