@@ -1,11 +1,14 @@
 #!/usr/bin/env python3
-"""Runs target/bin/capture_report on captures of several times its buffer, from a file and through a pipe in pieces of
-many sizes, and compares what it prints with document 01's rules.
+"""Runs target/bin/capture_report on captures of several times its buffer, from a file, through a pipe, and from a
+socket that hands out one piece of a chosen size a read, and compares what it prints with document 01's rules.
 
 The library's promise says what a turn over the buffer makes of the bytes that came, and what turns over any pieces come
 to. What no contract says, which bytes a read brings, is run here."""
+import itertools
 import pathlib
 import random
+import re
+import socket
 import subprocess
 import sys
 import tempfile
@@ -18,8 +21,11 @@ from captures import capture, lines
 from datagrams import LARGEST, data_of, end, heartbeat, packet
 
 PROGRAM = ROOT / "target" / "bin" / "capture_report"
-BUFFER = 262144
+# the program's buffer, as its source says
+BUFFER = int(re.search(r"\[0u8; (\d+)\]", (ROOT / "crates/capture_report/src/main.rt").read_text())[1])
 SIZE = 4 * BUFFER
+# more turns than any counter of 16 bits has
+MANY = 70_000
 
 
 def feed(rng):
@@ -60,28 +66,56 @@ def from_file(data):
         return subprocess.run([PROGRAM], stdin=file, capture_output=True, check=True).stdout
 
 
-def from_pipe(data, rng):
-    """What is written at once is at most a pipe's room; the first pieces cut the settings and the first record."""
-    program = subprocess.Popen([PROGRAM], stdin=subprocess.PIPE, stdout=subprocess.PIPE, bufsize=0)
+def from_pipe(data):
+    """However the pipe cuts it."""
+    return subprocess.run([PROGRAM], input=data, capture_output=True, check=True).stdout
+
+
+def odd_sizes(rng):
+    """Pieces that cut the settings and the first records byte by byte, and then pieces of any size."""
+    yield from (1 + at % 7 for at in range(200))
+    while True:
+        yield rng.randrange(1, 60000)
+
+
+def from_pieces(data, sizes):
+    """One piece of these sizes a read: a socket of packets keeps their borders."""
+    ours, theirs = socket.socketpair(socket.AF_UNIX, socket.SOCK_SEQPACKET)
+    program = subprocess.Popen([PROGRAM], stdin=theirs, stdout=subprocess.PIPE)
+    theirs.close()
     at = 0
     try:
         while at < len(data):
-            size = 1 + at % 7 if at < 200 else rng.randrange(1, 60000)
-            at += program.stdin.write(data[at : at + size])
-    except BrokenPipeError:
+            at += ours.send(data[at : at + next(sizes)])
+    except (BrokenPipeError, ConnectionResetError):
         pass  # it has printed that the settings are refused
+    ours.close()
     return program.communicate()[0]
 
 
-def main():
-    runs = 0
+def byte_by_byte():
+    """A small capture whose last record is never whole, one byte a read."""
+    return capture(*[data_of(n, 1) for n in range(1, 2000)], after=b"\xff\xff" + b"x" * MANY)[:MANY]
+
+
+def runs():
+    """What is run, how, what it printed and what document 01 prints."""
     for name, data in captures():
         wanted = capture_text(data)
-        for way, printed in (("file", from_file(data)), ("pipe", from_pipe(data, random.Random(2)))):
-            if printed != wanted:
-                sys.exit(f"{name}, from a {way}: printed {printed!r} and not {wanted!r}")
-            runs += 1
-    print(f"capture_report: {runs} runs over its buffer, 0 differences")
+        yield name, "from a file", from_file(data), wanted
+        yield name, "through a pipe", from_pipe(data), wanted
+        yield name, "in odd pieces", from_pieces(data, odd_sizes(random.Random(2))), wanted
+    data = byte_by_byte()
+    yield "a small capture", f"in {MANY} pieces of a byte", from_pieces(data, itertools.repeat(1)), capture_text(data)
+
+
+def main():
+    count = 0
+    for name, way, printed, wanted in runs():
+        if printed != wanted:
+            sys.exit(f"{name}, {way}: printed {printed!r} and not {wanted!r}")
+        count += 1
+    print(f"capture_report: {count} runs, 0 differences")
 
 
 if __name__ == "__main__":

@@ -17,7 +17,7 @@ use Rattle.soupbintcp_client.proofs.StatementLaws.{client-promises}
 use Rattle.soupbintcp.proofs.StableLaws.{front-promises}
 use Rattle.soupbintcp.proofs.ScanLaws.{scan-promises}
 use Rattle.host_answers.proofs.PromiseLaws.{host-promises}
-use Rattle.acceptance.specs.Conditions.{Condition1, Condition2, Condition3, Condition3IsMeant}
+use Rattle.acceptance.specs.Conditions.{Condition1, Condition2, Condition2IsMeant, Condition3, Condition3IsMeant}
 use Rattle.exports_reply.proofs.CallLaws.{refused-reply}
 use Rattle.acceptance.proofs.LayoutLaws.{every-layout}
 use Rattle.acceptance.proofs.StateLaws.{host-states, open-by-code}
@@ -84,6 +84,9 @@ condition-2 =
       follows-the-table = receiver-promises .follows-the-table;
       request-exactly-when = receiver-promises .request-exactly-when;
     }
+
+pub condition-2-is-meant : Condition2IsMeant
+condition-2-is-meant = record { wrong-locks = login-promises .wrong-locks }
 
 pub condition-3 : Condition3
 condition-3 = receiver.condition-3

@@ -18,6 +18,7 @@ use Rattle.soupbintcp_writer.specs.RoundTrips.{AcceptedRoundTrip, RejectedRound
 use Rattle.login.specs.declared.account.Account.{Account}
 use Rattle.login.specs.declared.account.Found.{Found}
 use Rattle.login.specs.Account.{VerdictKind, verdictOn}
+use Rattle.login.specs.Locks.{WrongLocks}
 use Rattle.login.specs.Statements.{AcceptedExactlyWhen, NeverAccepted, OnlyByARecord}
 use Rattle.soupbintcp_server.specs.declared.server.Server.{Server}
 use Rattle.soupbintcp_client.specs.declared.client.Client.{Client}
@@ -132,6 +133,10 @@ pub record Condition2 : Type 0 where
   pub follows-the-table : FollowsTheTable answerOf receiverAfter
   -- an accepted datagram draws a request exactly when its number lies above the expected one
   pub request-exactly-when : RequestExactlyWhen answerOf
+
+-- what is shown of its rules of a login: the locks that document 01 names break them
+pub record Condition2IsMeant : Type 0 where
+  pub wrong-locks : WrongLocks
 
 -- Condition 3, one claim about every list of datagrams
 abbrev pub Condition3 : Type 0

@@ -34,9 +34,9 @@ dataBytes =
     82 ∷ 69 ∷ 65 ∷ 68 ∷ 82 ∷ 79 ∷ 79 ∷ 77 ∷ 48 ∷ 49 ∷ 0 ∷ 0 ∷ 0 ∷ 0 ∷ 0 ∷ 0 ∷ 1 ∷ 2 ∷ 0 ∷ 2
     ∷ 0 ∷ 2 ∷ 104 ∷ 105 ∷ 0 ∷ 0 ∷ []
 
--- count 0 is a heartbeat, 65,535 an end of session
+-- count 0 is a heartbeat, here with a number of eight different bytes; 65,535 is an end of session
 abbrev pub heartbeatBytes : List ℕ
-heartbeatBytes = 82 ∷ 69 ∷ 65 ∷ 68 ∷ 82 ∷ 79 ∷ 79 ∷ 77 ∷ 48 ∷ 49 ∷ 0 ∷ 0 ∷ 0 ∷ 0 ∷ 0 ∷ 0 ∷ 1 ∷ 2 ∷ 0 ∷ 0 ∷ []
+heartbeatBytes = 82 ∷ 69 ∷ 65 ∷ 68 ∷ 82 ∷ 79 ∷ 79 ∷ 77 ∷ 48 ∷ 49 ∷ 1 ∷ 2 ∷ 3 ∷ 4 ∷ 5 ∷ 6 ∷ 7 ∷ 8 ∷ 0 ∷ 0 ∷ []
 
 abbrev pub endBytes : List ℕ
 endBytes = 82 ∷ 69 ∷ 65 ∷ 68 ∷ 82 ∷ 79 ∷ 79 ∷ 77 ∷ 48 ∷ 49 ∷ 0 ∷ 0 ∷ 0 ∷ 0 ∷ 0 ∷ 0 ∷ 1 ∷ 2 ∷ 255 ∷ 255 ∷ []
@@ -113,8 +113,8 @@ pub record EveryLayout : Type 0 where
   pub long-data-read : downstreamOf longDataBytes ≡ says data-packet (258 ∷ 1 ∷ [])
   pub long-data-messages : messagesOf longDataBytes ≡ long ∷ []
   pub long-data-written : mold.encoded room 258 (long ∷ []) ≡ longDataBytes
-  pub heartbeat-read : downstreamOf heartbeatBytes ≡ says heartbeat (258 ∷ [])
-  pub heartbeat-written : mold.encoded room 258 [] ≡ heartbeatBytes
+  pub heartbeat-read : downstreamOf heartbeatBytes ≡ says heartbeat (72623859790382856 ∷ [])
+  pub heartbeat-written : mold.encoded room 72623859790382856 [] ≡ heartbeatBytes
   pub end-read : downstreamOf endBytes ≡ says end-of-session (258 ∷ [])
   pub end-written : mold.encodedEnd room 258 ≡ endBytes
   pub request-read : requestOf requestBytes ≡ says wanted (258 ∷ 3 ∷ [])

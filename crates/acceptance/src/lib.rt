@@ -2,7 +2,8 @@
 // can't pass without its proof, and `specs/Conditions.antt` is the one file to open.
 ghost use Rattle.receiver.specs.Calls.{CallsDeliverTrue};
 ghost use Rattle.exports_receiver.specs.Run.{HostGetsTrue};
-ghost use Rattle.acceptance.specs.Conditions.{Condition1, Condition2, Condition3, Condition3IsMeant};
+ghost use Rattle.acceptance.specs.Conditions.{Condition1, Condition2, Condition2IsMeant};
+ghost use Rattle.acceptance.specs.Conditions.{Condition3, Condition3IsMeant};
 ghost use Rattle.acceptance.specs.Examples.{EveryExample};
 ghost use Rattle.acceptance.specs.Layouts.{EveryLayout};
 
@@ -14,6 +15,7 @@ pub fn condition_1()
 // Read and written exactly; the login's rules; the receiver's table and its requests.
 pub fn condition_2()
     ensures { λ _. ⌜ Condition2 ⌝ }
+    ensures is_meant { λ _. ⌜ Condition2IsMeant ⌝ }
 {}
 
 // Exactly the true messages, in order, each once, for every list of datagrams: of the receiver, of calls of its

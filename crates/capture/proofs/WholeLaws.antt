@@ -2,14 +2,21 @@
 use mathlib.Core.Path.{_≡_, refl, ap, sym, _∙_}
 use mathlib.Core.List.{List, [], _∷_, _++_}
 use mathlib.Core.Bool.{Bool, true, false}
-use Prim.Native.Nat.{ℕ, zero, suc, _-_, _≤_, _<_}
+use Prim.Native.Nat.{ℕ, zero, suc, _+_, _-_, _≤_, _<_}
 use native.Mathlib.Omega.{arith}
 use lib.ListN.{length, drop}
 use borrow.Author.Tests.{lt-ltb, le-ltb, eq-eqb, ne-eqb}
 use Rattle.wire.specs.Choice.{if_then_else_}
 use Rattle.wire.specs.Bytes.{joined}
-use Rattle.wire.specs.Output.{Writes}
+use Rattle.wire.specs.Bounds.{sessionSize}
+use Rattle.wire.specs.Words.{answer, refused, says}
+use Rattle.wire.specs.Output.{wrote, writtenWords, writeRefusal, writeAnswer, Writes}
+use Rattle.wire.specs.declared.refusal.Refusal.{Refusal}
 use Rattle.wire.specs.declared.output.Written.{Written}
+use Rattle.wire.specs.declared.output.Written.the-variants.{Wrote}
+use Rattle.wire.specs.declared.output.Written.the-variants as written
+use Rattle.wire.proofs.Words.{which-of}
+use Rattle.wire.proofs.Outputs.{no-write-refusal, wrote-so, wrote-front}
 use Rattle.wire.proofs.Cases.{below-or-not, zero-or-not}
 use Rattle.receiver.specs.declared.receiver.Receiver.{Receiver}
 use Rattle.receiver.specs.Receiver.{receiverStartRefusal, startReceiver, receiverAfter, refusedReceiver, refusalFor}
@@ -34,7 +41,7 @@ use Rattle.capture_text.proofs.TextLaws.{report-fits, refused-fits}
 use Rattle.capture.specs.declared.reading.Stage.{Stage}
 use Rattle.capture.specs.declared.reading.Stage.the-variants.{Settings, Records, Done, Refused}
 use Rattle.capture.specs.declared.reading.Reading.{Reading}
-use Rattle.capture.specs.Reading.{reading, startReading, startedOf, reported, atStage, atOf, stageOf, endedBy, finishOf, textAt, textOf}
+use Rattle.capture.specs.Reading.{reading, startReading, startedOf, reported, atStage, atOf, stageOf, endedBy, finishOf, textAt, textOf, Prints}
 use Rattle.capture.specs.Turning.{turning, startTurning, turnAt, turnedOf}
 use Rattle.capture.specs.Whole.{recordsReport, captureOf, captureText, AnyCutting, AnyTurns, EndIsOver, StartTakesSettings, CapturePromises}
 use Rattle.capture.proofs.FoldLaws.{over-stage, fold-datagrams, pieces-fold, turns-fold}
@@ -238,3 +245,30 @@ capture-promises =
       over-stays = over-stays;
       fits-the-room = record { any-reading = λ s e. reading-fits (s .stage) (s .report) e; any-capture = capture-fits };
     }
+
+-- ---- as the code of `printed` has it: a room of its size is lent
+
+said-room : (l bs : List ℕ) → writeRefusal 0 l 0 bs ≡ 0 → writeAnswer 0 l 0 bs ≡ says wrote (length bs ∷ [])
+unfolding writeAnswer
+said-room l bs z = rw z
+
+module _ (s : Reading) (w : Written) (l m : List ℕ) (h : Writes w l m 0 0 (textOf s)) where
+  pub printed-so : (k : ℕ) → w ≡ Wrote k → length l ≡ room → Prints (record { text = m; size = k }) (textOf s)
+  unfolding writtenWords
+  printed-so k e n =
+      let a : writeAnswer 0 l 0 (textOf s) ≡ says wrote (k ∷ []) = sym (h .answers) ∙ ap writtenWords e in
+      let o = wrote-so 0 l 0 (textOf s) k a in
+      record {
+        whole = rw (h .leaves) (wrote-front 0 l (textOf s) k a);
+        within = omega (arith, o .room, o .size);
+      }
+
+  pub printed-not : (r : Refusal) → w ≡ written.Refused r → length l ≡ room → length (s .report .receiver .session) ≡ sessionSize
+      → Prints (record { text = m; size = 0 }) (textOf s)
+  unfolding writtenWords
+  printed-not r e n ten =
+      let f : 0 + length (textOf s) ≤ length l = omega (arith, reading-fits (s .stage) (s .report) ten) in
+      let a = said-room l (textOf s) (no-write-refusal 0 l 0 (textOf s) refl f) in
+      let v : refused ≡ answer wrote = which-of (sym (ap writtenWords e) ∙ h .answers ∙ a) in
+      let z : _≡_ {A = ℕ} 0 1 = cc in
+      absurd (omega arith)

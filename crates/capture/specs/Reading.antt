@@ -1,7 +1,9 @@
 -- A capture read piece by piece, as a list of bytes: the report is a fold over its events.
-use Prim.Native.Nat.{ℕ, _-_}
+use Prim.Native.Nat.{ℕ, _-_, _≤_}
 use mathlib.Core.List.{List}
 use mathlib.Core.Bool.{Bool, true, false}
+use mathlib.Core.Path.{_≡_}
+use lib.ListN.{take}
 use lib.Dec.{eqb}
 use Rattle.wire.specs.Choice.{if_then_else_}
 use Rattle.receiver.specs.declared.receiver.Receiver.{Receiver}
@@ -12,11 +14,12 @@ use Rattle.capture_events.specs.Events.{Event, opened, bad-settings, datagram, 
 use Rattle.capture_events.specs.Events.{At, settings, records, done, refused, Read, readPiece, End, readLast}
 use Rattle.capture_tally.specs.declared.report.Report.{Report}
 use Rattle.capture_tally.specs.Report.{freshOf, stepOf, cutOf}
-use Rattle.capture_text.specs.Text.{reportText, refusedText}
+use Rattle.capture_text.specs.Text.{reportText, refusedText, room}
 use Rattle.capture.specs.declared.reading.Stage.{Stage}
 use Rattle.capture.specs.declared.reading.Stage.the-variants.{Settings, Records, Done, Refused}
 use Rattle.capture.specs.declared.reading.Reading.{Reading}
 use Rattle.capture.specs.declared.reading.Fed.{Fed}
+use Rattle.capture.specs.declared.reading.Printed.{Printed}
 
 abbrev pub reading : Stage → Report → Reading
 reading s x = record { stage = s; report = x }
@@ -101,6 +104,11 @@ textAt Refused x = refusedText
 
 abbrev pub textOf : Reading → List ℕ
 textOf s = textAt (s .stage) (s .report)
+
+-- a text stands whole at the front of what is handed back, and is no longer than that
+pub record Prints (r : Printed) (text : List ℕ) : Type 0 where
+  pub whole : take (r .size) (r .text) ≡ text
+  pub within : r .size ≤ room
 
 -- ---- for private helpers alone; no public promise uses it
 

@@ -6,6 +6,7 @@ use capture_settings::settings;
 use capture_settings::settings::Settings;
 use capture_tally::report::Report;
 use capture_text::report_text;
+use capture_text::report_text::ROOM;
 use receiver::receiver::Receiver;
 use wire::kinds;
 use wire::kinds::LENGTH_SIZE;
@@ -18,7 +19,7 @@ ghost use Rattle.wire.specs.Output.{Writes};
 ghost use Rattle.capture_events.specs.Events.{readRecords, readSettings, readOn, waitsAt};
 ghost use Rattle.capture_tally.specs.Report.{freshOf};
 ghost use Rattle.capture.specs.Reading.{fed, startReading, startedOf, roomOf, atOf, isOver, fedBy};
-ghost use Rattle.capture.specs.Reading.{endOf, feedOf, finishOf, textOf};
+ghost use Rattle.capture.specs.Reading.{endOf, feedOf, finishOf, textOf, Prints};
 ghost use Rattle.capture.specs.Whole.{CapturePromises};
 
 // What comes next of a capture: its settings, or records; or nothing, at its end or where its settings are refused.
@@ -33,6 +34,12 @@ pub enum Stage {
 pub struct Reading {
     pub stage: Stage,
     pub report: Report,
+}
+
+// What a reading prints: so many bytes at the front.
+pub struct Printed {
+    pub text: [u8; ROOM],
+    pub size: usize,
 }
 
 // A reading after some bytes, and how many of them were used.
@@ -228,6 +235,17 @@ impl Reading {
             Stage::Records => report_text::write_report(out, report),
             Stage::Done => report_text::write_report(out, report),
             Stage::Refused => report_text::write_refused(out),
+        }
+    }
+
+    // What it prints, whole: every text fits.
+    pub fn printed(self) -> Printed
+        ensures { λ r. ⌜ Prints r (textOf self) ⌝ }
+    {
+        let mut text = [0u8; ROOM];
+        match self.write(&mut text) {
+            Written::Wrote { size } => Printed { text, size },
+            Written::Refused(_) => Printed { text, size: 0 },
         }
     }
 }

@@ -8,6 +8,7 @@ use lib.Seq.{length-take-le}
 use native.Mathlib.Omega.{arith}
 use borrow.Author.Needs.{needs}
 use Rattle.capture_events.specs.Turns.{mostKept}
+use Rattle.capture_text.specs.Text.{room}
 use Rattle.capture.specs.declared.turning.Turning.{Turning}
 use Rattle.capture.specs.Reading.{isOver}
 use Rattle.capture.specs.Turning.{startTurning, turnedOf}
@@ -27,7 +28,7 @@ unfolding EndIsOver
 last-over s t m e = ap (λ (x : Turning). isOver (x .reading .stage)) e ∙ capture-promises .end-is-over s m
 
 -- what is printed stands in the text
-pub part-length : (k : ℕ) (l : List ℕ) → k ≤ length l → k ≡ length (take k l)
-part-length k l h = sym (length-take-le k l h)
+pub part-length : (k : ℕ) (l : List ℕ) → length l ≡ room → k ≤ room → k ≡ length (take k l)
+part-length k l e h = sym (length-take-le k l (omega arith))
 
 pub ruleset laws = (fresh-kept, over-told, last-over, part-length, needs)

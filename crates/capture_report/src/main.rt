@@ -5,12 +5,12 @@ use capture::turning::Turning;
 use capture_text::report_text::ROOM;
 use libc::STDIN_FILENO;
 use libc::STDOUT_FILENO;
-use wire::output::Written;
 ghost use mathlib.Core.Path.{_≡_};
 ghost use mathlib.Core.Bool.{true};
-ghost use Prim.Native.Nat.{_<_};
+ghost use Prim.Native.Nat.{_<_, _≤_};
 ghost use lib.ListN.{length};
 ghost use Rattle.capture_events.specs.Turns.{mostKept};
+ghost use Rattle.capture_text.specs.Text.{room};
 ghost use Rattle.capture.specs.Reading.{isOver};
 
 // Reads once behind the bytes that are kept, where there is room for one more at the least, and answers how many came:
@@ -43,19 +43,17 @@ fn read_all(buf: &mut [u8]) -> Reading
 }
 
 // Prints the first bytes of a text.
-fn print_front(text: &[u8], size: usize) {
-    if size <= text.len() {
-        io::write_all(STDOUT_FILENO, &text[..size]);
-    }
+fn print_front(text: [u8; ROOM], size: usize)
+    requires { ⌜ size ≤ room ⌝ }
+{
+    io::write_all(STDOUT_FILENO, &text[..size]);
 }
 
 // Prints what a capture came to.
 fn print(reading: Reading) {
-    let mut text = [0u8; ROOM];
-    match reading.write(&mut text) {
-        Written::Wrote { size } => print_front(&text, size),
-        Written::Refused(_) => {}
-    }
+    let printed = reading.printed();
+    let text = printed.text;
+    print_front(text, printed.size);
 }
 
 fn run(buf: &mut [u8])

@@ -4,15 +4,16 @@ use mathlib.Core.List.{List, [], _∷_}
 use mathlib.Core.Bool.{Bool, false}
 use mathlib.Core.Path.{_≡_}
 use lib.ListN.{length, take}
-use lib.Dec.{eqb}
+use lib.Dec.{ltb, eqb}
 use Rattle.wire.specs.Choice.{if_then_else_}
 use Rattle.wire.specs.Text.{ascii, readroom}
-use Rattle.wire.specs.Words.{answer, says}
+use Rattle.wire.specs.Refusals.{badSetting}
+use Rattle.wire.specs.Words.{answer, says, refuses}
 use Rattle.text_fields.specs.Letters.{space}
 use Rattle.soupbintcp.specs.Fields.{notAuthorized}
 use Rattle.login.specs.declared.account.Account.{Account}
-use Rattle.login.specs.Account.{sameText}
-use Rattle.login.specs.Decision.{accepted, granted, rejects, Attempt}
+use Rattle.login.specs.Account.{sameText, mostAccounts, verdictOf}
+use Rattle.login.specs.Decision.{accepted, granted, rejects, decisionOf, Attempt}
 use Rattle.login.specs.Statements.{Lock, Rules, LoginRules}
 use Rattle.login.specs.Examples.{account, ann, attempts}
 
@@ -41,10 +42,11 @@ stopsEarly [] e = false
 stopsEarly (a ∷ t) e =
     if sameText (a .username) (e .username) then sameFront (a .password) (e .password) else stopsEarly t e
 
--- the lock with the fault that document 01 lists
+-- the lock with the fault that document 01 lists, and no other
 abbrev pub stopsAtZeroOrSpace : Lock
 stopsAtZeroOrSpace x =
-    if stopsEarly (x .table) (x .entry) then letsEveryoneIn x else letsNoOneIn x
+    if ltb mostAccounts (length (x .table)) then refuses badSetting
+    else decisionOf (verdictOf (stopsEarly (x .table) (x .entry))) (x .asked) (x .wanted) (x .session) (x .last)
 
 -- ---- entries for `ann`, whose password is `cafe7`
 

@@ -68,8 +68,8 @@ fn blank() -> Account
     }
 }
 
-// Whether two fields have the same text. Every byte is compared, so that neither a zero, a space nor a difference
-// ends it early.
+// Whether two fields have the same text. Every byte is compared: neither a zero, a space nor a difference ends it early
+// in this source; SECURITY.md says what was seen in the compiled code.
 fn is_same(a: &[u8], b: &[u8]) -> bool
     ensures { λ r. ⌜ r ≡ sameText (now (a .entry)) (now (b .entry)) ⌝ }
 {

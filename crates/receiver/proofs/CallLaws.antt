@@ -1,6 +1,6 @@
 -- Calls of `take` one after the other go the way of the receiver of the table, so condition 3 holds of what they return.
 use Prim.Native.Nat.{ℕ}
-use mathlib.Core.Path.{_≡_, refl}
+use mathlib.Core.Path.{_≡_, refl, sym, _∙_}
 use mathlib.Core.List.{List}
 use Rattle.receiver.specs.declared.receiver.Receiver.{Receiver}
 use Rattle.receiver.specs.Feed.{Message, Datagram, Session, Faithful, after, delivered}
@@ -19,13 +19,14 @@ runs none = record { ends-at = refl; gives = refl }
 runs (call t c cs) =
     let i = runs cs in
     record {
-      ends-at = rw (← c .leaves) (i .ends-at);
-      gives = rw (← c .leaves, ← c .answers, i .gives);
+      ends-at = rw (← c .1) (i .ends-at);
+      gives = rw (← c .1, ← c .0, i .gives);
     }
 
 start-faithful : (s : Session) (start : ℕ) (r : Receiver) → StartCall s start r → Faithful plain s start r
 unfolding Condition3For
-start-faithful s start r c = rw (c .leaves) (condition-3 s start (c .limit) (c .not-refused) (c .from-one) (c .to-past-last))
+start-faithful s start r c =
+    rw (c .leaves ∙ c .call .1) (condition-3 s start (c .limit) (sym (c .call .0) ∙ c .not-refused) (c .from-one) (c .to-past-last))
 
 pub calls-deliver-true : CallsDeliverTrue
 calls-deliver-true =

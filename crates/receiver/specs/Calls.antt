@@ -1,34 +1,32 @@
--- Calls of `new` and `take` themselves, one after the other: each record of a call is the very promise of the function.
+-- Calls of `new` and `take` themselves, one after the other: each call is the very promise of the function, by its name.
 use Prim.Native.Nat.{ℕ, _+_, _≤_}
 use mathlib.Core.List.{List, [], _∷_, _++_}
 use mathlib.Core.Bool.{true}
 use mathlib.Core.Path.{_≡_}
 use lib.ListN.{length}
 use Rattle.receiver.specs.declared.receiver.Receiver.{Receiver}
+use Rattle.receiver.specs.declared.receiver.Started.{Started}
 use Rattle.receiver.specs.declared.receiver.Taken.{Taken}
 use Rattle.receiver.specs.Table.{answerWords}
-use Rattle.receiver.specs.Receiver.{receiverStartRefusal, startReceiver, answerOf, receiverAfter}
+use Rattle.receiver.specs.Receiver.{Starts, Takes}
 use Rattle.receiver.specs.Delivery.{messagesDelivered}
 use Rattle.receiver.specs.Feed.{Message, Datagram, Session, OfKind, AllOfKind, lastOf, messagesFrom}
 
--- a call of `take` on the receiver r and the datagram d that returned t
-pub record TakeCall (r : Receiver) (d : Datagram) (t : Taken) : Type 0 where
-  pub answers : answerWords (t .answer) ≡ answerOf r d
-  pub leaves : t .receiver ≡ receiverAfter r d
-
--- the first call takes the receiver r, each later one the receiver that the call before returned; the last returned x,
+-- calls of `take`: the first takes the receiver r, each later one the receiver that the call before returned; the last returned x,
 -- and ms are the messages that the answers deliver
 pub data Calls : Receiver → List Datagram → Receiver → List Message → Type 0 where
   none : {r : Receiver} → Calls r [] r []
-  call : {r x : Receiver} {d : Datagram} {ds : List Datagram} {ms : List Message} (t : Taken) → TakeCall r d t
+  call : {r x : Receiver} {d : Datagram} {ds : List Datagram} {ms : List Message} (t : Taken) → Takes t r d
       → Calls (t .receiver) ds x ms
       → Calls r (d ∷ ds) x (messagesDelivered (answerWords (t .answer)) d ++ ms)
 
--- a call of `new` that isn't refused, at a number from 1 to one past the session's last, and returned the receiver r
+-- a call of `new` that returned the receiver r and no refusal, at a number from 1 to one past the session's last
 pub record StartCall (s : Session) (start : ℕ) (r : Receiver) : Type 0 where
   pub limit : ℕ
-  pub not-refused : receiverStartRefusal start limit ≡ 0
-  pub leaves : r ≡ startReceiver (s .name) start limit
+  pub returned : Started
+  pub call : Starts returned (s .name) start limit
+  pub not-refused : returned .refusal .number ≡ 0
+  pub leaves : r ≡ returned .receiver
   pub from-one : 1 ≤ start
   pub to-past-last : start ≤ lastOf s + 1
 

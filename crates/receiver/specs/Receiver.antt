@@ -14,6 +14,7 @@ use Rattle.moldudp64.specs.Header.{numberOf, countOf}
 use Rattle.moldudp64.specs.Downstream.{DownstreamKind, data-packet, heartbeat, end-of-session, kindOf, wellFormed}
 use Rattle.moldudp64.specs.Downstream.{refusalOf}
 use Rattle.receiver.specs.declared.receiver.Receiver.{Receiver}
+use Rattle.receiver.specs.declared.receiver.Started.{Started}
 use Rattle.receiver.specs.declared.receiver.Taken.{Taken}
 use Rattle.receiver.specs.Table.{AnswerKind, Outcome, table, answerWords}
 
@@ -87,6 +88,17 @@ answerOf r l = if accepted r l then tableRow r l .reply else refuses (refusalFor
 -- what it is then: a refusal leaves it as it was
 unfoldable pub receiverAfter : Receiver → List ℕ → Receiver
 receiverAfter r l = if accepted r l then afterRow r (tableRow r l) else r
+
+-- ---- what a call promises
+
+-- of `new`, which returned x
+abbrev pub Starts : Started → List ℕ → ℕ → ℕ → Type 0
+Starts x name n limit =
+    (x .refusal .number ≡ receiverStartRefusal n limit) × (x .receiver ≡ startReceiver name n limit)
+
+-- of `take`, which returned x
+abbrev pub Takes : Taken → Receiver → List ℕ → Type 0
+Takes x r l = (answerWords (x .answer) ≡ answerOf r l) × (x .receiver ≡ receiverAfter r l)
 
 -- ---- for private helpers alone; no public promise uses it
 

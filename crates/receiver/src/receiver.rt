@@ -15,9 +15,9 @@ ghost use Rattle.wire.specs.Bounds.{largestNumber};
 ghost use Rattle.wire.specs.Refusals.{badSetting};
 ghost use Rattle.moldudp64.specs.Header.{endCount};
 ghost use Rattle.moldudp64.specs.Downstream.{data-packet, heartbeat, end-of-session, downstreamOf, downstreamWords};
-ghost use Rattle.receiver.specs.Table.{askOutcome, table, answerWords};
-ghost use Rattle.receiver.specs.Receiver.{receiver, refusedReceiver, receiverStartRefusal, startReceiver};
-ghost use Rattle.receiver.specs.Receiver.{ownRefusal, refusalFor, answerOf, receiverAfter, TakesRow};
+ghost use Rattle.receiver.specs.Table.{askOutcome, table};
+ghost use Rattle.receiver.specs.Receiver.{receiver, refusedReceiver, ownRefusal, refusalFor};
+ghost use Rattle.receiver.specs.Receiver.{Starts, Takes, TakesRow};
 ghost use Rattle.receiver.specs.Statements.{ReceiverPromises};
 ghost use Rattle.receiver.specs.Condition3.{Condition3};
 ghost use Rattle.receiver.specs.Witnesses.{NotVacuous, NotWeak};
@@ -91,8 +91,7 @@ impl Receiver {
 
     // A fresh receiver, or the refusal 19.
     pub fn new(session: [u8; SESSION_SIZE], next: SequenceNumber, limit: MessageCount) -> Started
-        ensures { λ r. ⌜ (r .refusal .number ≡ receiverStartRefusal (next .0) (limit .0))
-            × (r .receiver ≡ startReceiver session (next .0) (limit .0)) ⌝ }
+        ensures { λ r. ⌜ Starts r session (next .0) (limit .0) ⌝ }
         ensures condition_3 { λ _. ⌜ Condition3 ⌝ }
         ensures not_vacuous { λ _. ⌜ NotVacuous ⌝ }
         ensures not_weak { λ _. ⌜ NotWeak ⌝ }
@@ -123,8 +122,7 @@ impl Receiver {
 
     // Takes a datagram, with one walk over its blocks: the table works on what the reader found.
     pub fn take(self, datagram: &[u8]) -> Taken
-        ensures { λ r. ⌜ (answerWords (r .answer) ≡ answerOf self (now (datagram .entry)))
-            × (r .receiver ≡ receiverAfter self (now (datagram .entry))) ⌝ }
+        ensures { λ r. ⌜ Takes r self (now (datagram .entry)) ⌝ }
         ensures promises { λ _. ⌜ ReceiverPromises ⌝ }
     {
         let packet = downstream::read(datagram);

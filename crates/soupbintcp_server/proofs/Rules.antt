@@ -2,6 +2,7 @@
 use borrow.Author.Needs.{needs}
 use Rattle.soupbintcp.proofs.FrontLaws.{packet-size}
 use Rattle.soupbintcp_server.proofs.ServerLaws.{server-start-19, server-refused, server-name-bad, last-small, last-large, server-start-0, server-fresh, last-falls, last-passes, last-good, last-19, last-stays, last-moved, entry-read, login-accepted, login-rejected, login-refused, waiting-L, waiting-plus, waiting-other, in-U, in-R, server-in-plus, in-O, server-in-other, row-waiting, server-row-in, server-row-closed, table-refused, server-step-more, server-step-refused, server-step-packet, server-step}
+use Rattle.soupbintcp_server.proofs.StatementLaws.{by-a-record, only-by-the-rules}
 
 pub ruleset server-starts = (server-start-19, server-refused, server-name-bad, last-small, last-large, server-start-0, server-fresh, needs)
 
@@ -20,3 +21,8 @@ pub ruleset server-states = (row-waiting, server-row-in, server-row-closed)
 pub ruleset server-fronts = (table-refused, server-step-more, server-step-refused, server-step-packet, packet-size)
 
 pub ruleset tables = (server-step)
+
+-- with what an accepted answer rests on
+pub ruleset recorded = (by-a-record, server-fronts)
+
+pub ruleset ruled = (only-by-the-rules, tables)

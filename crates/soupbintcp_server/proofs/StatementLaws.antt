@@ -270,6 +270,11 @@ unfolding OnlyByTheRules
 only-by-the-rules r t s l o e =
     login-exactly-when .only-when t s l (ap (λ (w : Words reply.SessionAnswerKind). w .which) (sym (o .answers)) ∙ e)
 
+-- the same of a step from what was found
+pub by-a-record : (r : Stepped) (f : Found) (s : Server) (l : List ℕ) → ServerSteps r (stepWith s (verdictOn f (entryOf l)) l) → OnlyByTheRules r (f .account ∷ []) s l
+unfolding OnlyByTheRules
+by-a-record r f s l o e = only-by-its-record f s l (ap (λ (w : Words reply.SessionAnswerKind). w .which) (sym (o .answers)) ∙ e)
+
 pub server-promises : ServerPromises
 server-promises =
     record {

@@ -19,6 +19,7 @@ use wire::parts;
 use wire::refusal;
 use wire::refusal::Refusal;
 ghost use mathlib.Core.Path.{_≡_};
+ghost use mathlib.Core.List.{[], _∷_};
 ghost use Prim.Native.Nat.{_≤_};
 ghost use Rattle.wire.specs.Refusals.{badSetting};
 ghost use Rattle.login.specs.Account.{verdictOn};
@@ -33,7 +34,8 @@ ghost use Rattle.soupbintcp_server.specs.Server.{server, refusedServer, 
 ghost use Rattle.soupbintcp_server.specs.Server.{lastRefusal, withLast};
 ghost use Rattle.soupbintcp_server.specs.Server.{entryOf, ServerSteps, loginRow, waitingRow, inRow, serverRow};
 ghost use Rattle.soupbintcp_server.specs.Server.{stepWith, serverStep};
-ghost use Rattle.soupbintcp_server.specs.Statements.{EntryIsItsFields, ServerPromises};
+ghost use Rattle.soupbintcp_server.specs.Statements.{EntryIsItsFields, OnlyByTheRules};
+ghost use Rattle.soupbintcp_server.specs.Statements.{ServerPromises};
 
 pub enum ServerState {
     // No login yet.
@@ -155,6 +157,7 @@ impl Server {
     // Takes the front of a client's stream, the accounts being lent as bytes.
     pub fn step(self, table: &[u8], stream: &[u8]) -> Stepped
         ensures { λ r. ⌜ ServerSteps r (serverStep (accountsOf (now (table .entry))) self (now (stream .entry))) ⌝ }
+        ensures accepts { λ r. ⌜ OnlyByTheRules r (accountsOf (now (table .entry))) self (now (stream .entry)) ⌝ }
         ensures promises { λ _. ⌜ ServerPromises ⌝ }
     {
         self.step_with(table::lookup(table, entry(stream)), stream)
@@ -165,6 +168,7 @@ impl Server {
     pub fn step_with(self, found: Found, stream: &[u8]) -> Stepped
         ensures { λ r. ⌜ ServerSteps r (stepWith self (verdictOn found (entryOf (now (stream .entry))))
             (now (stream .entry))) ⌝ }
+        ensures accepts { λ r. ⌜ OnlyByTheRules r (found .account ∷ []) self (now (stream .entry)) ⌝ }
     {
         if found.too_many {
             return self.stay(Answer::Refused(refusal::BAD_SETTING));

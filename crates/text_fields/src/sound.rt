@@ -14,7 +14,7 @@ const LEAST_USERNAME: usize = 1;
 const LEAST_PASSWORD: usize = 1;
 
 // Whether a field is sound: at least so many letters or digits at its left end, and then spaces alone. One pass over
-// all bytes, with no branch on any, so that its time tells nothing of a password but its size.
+// all bytes, with no branch on any in this source; SECURITY.md says what was seen in the compiled code.
 fn is_sound(field: &[u8], least: usize) -> bool
     ensures { λ r. ⌜ r ≡ sound least (now (field .entry)) ⌝ }
 {

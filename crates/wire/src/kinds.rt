@@ -1,5 +1,5 @@
-// Kinds of number that must never be mixed: each is a type of its own and does its own arithmetic, so that no caller
-// takes one apart. Every operation is total; where a result would pass its kind's largest, it is the largest.
+// Kinds of number that must never be mixed: each is a type of its own. Numbers, counts and places of messages do their
+// own arithmetic. Every operation is total; where a result would pass its kind's largest, it is the largest.
 ghost use mathlib.Core.Path.{_≡_};
 ghost use Prim.Native.Nat.{_+_, _-_, min};
 ghost use lib.Dec.{ltb, leb, eqb};

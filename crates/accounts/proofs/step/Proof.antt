@@ -35,6 +35,7 @@ use Rattle.login.proofs.account.Account.Laws as R′
 use Rattle.login.proofs.account.Found.Laws as F′
 use Rattle.soupbintcp_server.specs.declared.server.Server.{Server}
 use Rattle.soupbintcp_server.specs.Server.{entryOf, ServerSteps, stepWith}
+use Rattle.soupbintcp_server.specs.Statements.{OnlyByTheRules}
 use Rattle.soupbintcp_server.specs.Statements.{EntryIsItsFields}
 use Rattle.soupbintcp_server.proofs.ServerLaws.{server-step}
 use Rattle.soupbintcp_server.proofs.StatementLaws.{only-by-the-rules}
@@ -116,7 +117,8 @@ module _ {M : Type 1} (𝓤 : URA M) (H : Heap 𝓤) (A : Atoms 𝓤) (W : Given
           -- [the table's token; the stream's; what it owns; the locals]
           move ! (1 ∷ 2 ∷ []) $ join ! $
           asks ! (fmOf 𝓤 H (W .laws) 𝓣) step-with.ended (step-with.clauses 𝓤 H A mem run) step-with-known (((κz, tt), (qz, tt), tt, (s, (r, (z, tt))), (server-val s ∷ [], (wr ∷ [], (vz ∷ [], tt)))), tt)
-          (λ o. ServerSteps o (stepWith s (verdictOn r (entryOf (z .now))) (z .now))) (λ o _. id⊢ 𝓤 _)
+          (λ o. ServerSteps o (stepWith s (verdictOn r (entryOf (z .now))) (z .now)))
+          (λ o _. fst∗ 𝓤 (fact 𝓤 (ServerSteps o (stepWith s (verdictOn r (entryOf (z .now))) (z .now)))) (fact 𝓤 (OnlyByTheRules o (r .account ∷ []) s (z .now))))
           (‵ (flft κz qz) ⊛ ‵ Stream) (lent 𝓤 (A .lft κz qz) (beside 𝓤 (LL.makes Peer.the-type Peer′.the-plain 𝓤 H A s (server-val s ∷ []) gs) (beside 𝓤 (found-makes 𝓤 H A r (wr ∷ []) gr) (ahead 𝓤 (sem 𝓤 H A Stream) (id⊢ 𝓤 (emp 𝓤))))))
           (and-then ! (reads ! 4 refl) (and-then ! (reads ! 10 refl) (and-then ! (reads ! 8 refl) (no-more !)))) (λ o wo fo go.
           -- [the stream's token; the table's; the locals]

@@ -5,9 +5,9 @@
 //!
 //! Five points of the interface were settled only after the library had been run, so that both agree there says little
 //! of who is right; the header states them since. A feed looks at settings once 57 bytes are there; with 2^32 - 1
-//! records read it uses no byte and isn't over; settings that are read start a capture's counts anew, and a count stops
-//! at 2^64 - 1; the cursor over a datagram that would be refused stands at place 20. That a record cut short is among
-//! the records read was changed then too; there the readings decide, as refused records count.
+//! records read it is over and uses all that follows; settings that are read start a capture's counts anew, and a count
+//! stops at 2^64 - 1; the cursor over a datagram that would be refused stands at place 20. That a record cut short is
+//! among the records read was changed then too; there the readings decide, as refused records count.
 
 pub mod capture;
 pub mod login;

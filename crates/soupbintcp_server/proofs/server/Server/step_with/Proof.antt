@@ -1,5 +1,5 @@
 -- The table's 19, then what the front says, and then the row of the packet there.
-use Rattle.soupbintcp_server.proofs.Rules.{server-fronts}
+use Rattle.soupbintcp_server.proofs.Rules.{server-fronts, recorded}
 use Rattle.soupbintcp_server.proofs.server.Server.step_with.Statement.{statement}
 use Rattle.soupbintcp_server.proofs.server.Server.step_with.Tie as tie
 
@@ -8,7 +8,7 @@ step-with-spec =
     tie.close
     (tie.spec
     (λ c κs. search server-fronts)  -- stay-requires
-    (λ c. search server-fronts)  -- returns
+    (λ c. (search server-fronts, search recorded))  -- returns
     (λ c κs. search server-fronts)  -- read-requires
     (λ c. search server-fronts)  -- enum-told
     (λ c κs. search server-fronts)  -- stay-requires-2
@@ -16,7 +16,7 @@ step-with-spec =
     (λ c κs. search server-fronts)  -- stay-requires-3
     (λ c. search server-fronts)  -- enum-known-packet
     (λ c κs. search server-fronts)  -- take-requires
-    (λ c. search server-fronts)  -- returns-2
-    (λ c. search server-fronts)  -- returns-3
-    (λ c. search server-fronts)  -- returns-4
+    (λ c. (search server-fronts, search recorded))  -- returns-2
+    (λ c. (search server-fronts, search recorded))  -- returns-3
+    (λ c. (search server-fronts, search recorded))  -- returns-4
     )
