@@ -64,7 +64,7 @@ capture_start: started | 41 state
 capture_feed: settings, need more | settings, refused | settings, read | records, all used |
     records, some kept | records, the most there are | done before | refused before | 41 state | 41 words
 capture_finish: settings, refused | settings, cut short | settings, whole | records, cut short |
-    records, some ignored | records, whole | done before | refused before | 41 state
+    records, the most there are | records, whole | done before | refused before | 41 state
 capture_write: report | settings=refused | 41 state | 41 output | 41 words
 capture_report: report | settings=refused | 41 output | 41 words
 ";
