@@ -97,6 +97,7 @@ macro_rules! exported {
     };
     (@ [$(#[$doc:meta])* $name:ident] [$($parameters:tt)*] {$($c:tt)*} {$($lent:tt)*}) => {
         $(#[$doc])*
+        #[inline]
         pub fn $name($($parameters)*) -> u32 {
             meet_the_version();
             extern "C" {

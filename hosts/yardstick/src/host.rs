@@ -45,9 +45,12 @@ impl<'a> Delivered<'a> {
     #[inline]
     pub fn new(datagram: &'a [u8], words: &TakeWords) -> Self {
         let [_, _, count, skipped] = words.map(|word| word as u16);
-        let mut cursor = [0; raw::CURSOR_SIZE];
-        raw::receiver_walk(datagram, count, skipped, &mut cursor);
-        Delivered { datagram, cursor }
+        let mut delivered = Delivered {
+            datagram,
+            cursor: [0; raw::CURSOR_SIZE],
+        };
+        raw::receiver_walk(datagram, count, skipped, &mut delivered.cursor);
+        delivered
     }
 }
 

@@ -1,97 +1,102 @@
-//! Compares the library with the yardstick at each datagram, and then times both: `--runs` says how often, `--seed` on which
-//! captures. Printed are nanoseconds for a datagram, the least of all runs.
+//! Compares the library with the yardstick at each datagram, and then times both, in turns in one process.
+//!
+//! It prints what the captures drew, and a table: nanoseconds for a datagram, the least of all runs; `--runs` says how many.
 
 mod measure;
 
-use measure::{library, rust, Table};
+use measure::{library, row, rust};
 use std::process::ExitCode;
 use yardstick::captures::{everything, heartbeats, in_order, in_order_of_size, troubled, Capture};
-use yardstick::compare::compare;
+use yardstick::compare::{compare, Drawn};
 use yardstick::SEED;
 
-/// About 300 KB, which a core's cache holds.
+const RUNS: usize = 31;
+
+/// Datagrams of a capture that a core's cache holds: about 300 KB of them are read.
 const IN_CACHE: usize = 500;
 
-/// More than any cache holds.
-const FROM_MEMORY: usize = 100_000_000;
-
-/// How many datagrams are compared of each kind of capture that isn't timed as a whole.
+/// Datagrams of a capture that is only compared.
 const COMPARED: usize = 100_000;
 
-struct Choices {
-    runs: usize,
-    seed: u64,
+/// Bytes of a capture that comes from memory: more than any cache holds.
+const FROM_MEMORY: usize = 100_000_000;
+
+fn runs(mut arguments: impl Iterator<Item = String>) -> Option<usize> {
+    match (arguments.next(), arguments.next(), arguments.next()) {
+        (None, ..) => Some(RUNS),
+        (Some(name), Some(value), None) if name == "--runs" => {
+            value.parse().ok().filter(|&runs| runs > 0)
+        }
+        _ => None,
+    }
 }
 
-fn choices(mut arguments: impl Iterator<Item = String>) -> Option<Choices> {
-    let mut choices = Choices {
-        runs: 31,
-        seed: SEED,
-    };
-    while let Some(name) = arguments.next() {
-        let value = arguments.next()?;
-        match name.as_str() {
-            "--runs" => choices.runs = value.parse().ok().filter(|&runs| runs > 0)?,
-            "--seed" => choices.seed = value.parse().ok()?,
-            _ => return None,
+struct Captures {
+    in_order: Capture,
+    troubled: Capture,
+    everything: Capture,
+    heartbeats: Capture,
+}
+
+impl Captures {
+    fn of(datagrams: usize) -> Captures {
+        Captures {
+            in_order: in_order(SEED, datagrams),
+            troubled: troubled(SEED, datagrams),
+            everything: everything(SEED, datagrams),
+            heartbeats: heartbeats(datagrams),
         }
     }
-    Some(choices)
-}
 
-/// Compares on a capture, and says what it drew.
-fn compared(name: &str, capture: &Capture) {
-    let (datagrams, drawn) = (capture.len(), compare(capture));
-    println!("equal at each of {datagrams} datagrams, {name}: {drawn}");
-}
-
-fn compare_all(seed: u64) {
-    compared("in order", &in_order(seed, COMPARED));
-    compared("loss", &troubled(seed, COMPARED));
-    compared("heartbeats", &heartbeats(COMPARED));
-    let every = everything(seed, COMPARED);
-    compared("every answer", &every);
-    compare(&every).assert_everything();
-}
-
-fn time_all(choices: &Choices) {
-    let seed = choices.seed;
-    let ordered = in_order(seed, IN_CACHE);
-    let long = in_order_of_size(seed, FROM_MEMORY);
-    compared("from memory", &long);
-    let takes = [
-        ("take, in order", &ordered),
-        ("take, loss, doubled and swapped", &troubled(seed, IN_CACHE)),
-        (
-            "take, every answer and refusal",
-            &everything(seed, IN_CACHE),
-        ),
-        ("take, in order, from memory", &long),
-        ("take, heartbeats alone", &heartbeats(IN_CACHE)),
-    ];
-    let mut table = Table::new(choices.runs);
-    for (name, capture) in takes {
-        compare(capture);
-        table.row(name, capture, library::takes, rust::takes);
+    /// Each is compared at each datagram, and the one that has to draw everything did.
+    fn compare(&self) {
+        compared("in order", &self.in_order);
+        compared("loss, doubled, swapped", &self.troubled);
+        compared("heartbeats", &self.heartbeats);
+        compared("everything", &self.everything).assert_everything();
     }
-    for (name, capture) in [("in order", &ordered), ("in order, from memory", &long)] {
-        let row = |end: &str| format!("take and walk, {name}; Rust's walk {end}");
-        table.row(
-            &row("called"),
-            capture,
-            library::walks,
-            rust::walks_by_calls,
-        );
-        table.row(&row("inlined"), capture, library::walks, rust::walks);
+}
+
+fn compared(name: &str, capture: &Capture) -> Drawn {
+    let drawn = compare(capture);
+    println!("{name}: equal at {} datagrams: {drawn}", capture.len());
+    drawn
+}
+
+fn time(runs: usize, short: &Captures, long: &Capture) {
+    let takes = [
+        ("take, in order", &short.in_order),
+        ("take, loss, doubled and swapped", &short.troubled),
+        ("take, every answer and refusal", &short.everything),
+        ("take, in order, from memory", long),
+        ("take, heartbeats alone", &short.heartbeats),
+    ];
+    for (name, capture) in takes {
+        row(name, runs, capture, library::takes, rust::takes);
+    }
+    let walks = [
+        ("take and walk, in order", &short.in_order),
+        ("take and walk, in order, from memory", long),
+    ];
+    for (name, capture) in walks {
+        let name = |rust: &str| format!("{name}; Rust's walk {rust}");
+        let (called, inlined) = (name("called"), name("inlined"));
+        row(&called, runs, capture, library::walks, rust::walks_by_calls);
+        row(&inlined, runs, capture, library::walks, rust::walks);
     }
 }
 
 fn main() -> ExitCode {
-    let Some(choices) = choices(std::env::args().skip(1)) else {
-        eprintln!("usage: yardstick [--runs NUMBER] [--seed NUMBER]");
+    let Some(runs) = runs(std::env::args().skip(1)) else {
+        eprintln!("usage: yardstick [--runs NUMBER]");
         return ExitCode::from(2);
     };
-    compare_all(choices.seed);
-    time_all(&choices);
+    Captures::of(COMPARED).compare();
+    let (short, long) = (Captures::of(IN_CACHE), in_order_of_size(SEED, FROM_MEMORY));
+    short.compare();
+    compared("in order, from memory", &long);
+    println!("\n| measure | library, ns | Rust, ns | ratio |");
+    println!("|---|---|---|---|");
+    time(runs, &short, &long);
     ExitCode::SUCCESS
 }

@@ -1,4 +1,4 @@
-//! Times of the library and of Rust over one capture, in turns in one process.
+//! Times of the library and of Rust over one capture, in turns.
 
 pub mod library;
 pub mod rust;
@@ -7,37 +7,25 @@ use std::hint::black_box;
 use std::time::Instant;
 use yardstick::captures::Capture;
 
-/// A capture is fed again until so many datagrams were taken, so that a run is long beside the clock's steps.
+/// A short capture is fed again until so many datagrams were taken, so that a run is long beside the clock's steps.
 const DATAGRAMS_A_RUN: usize = 20_000;
 
-/// Feeds a capture to a fresh receiver. Its sum is over what was answered, and equal on both sides.
+/// Feeds a capture to a fresh receiver, and sums what is answered.
 type Side = fn(&Capture) -> u64;
 
-pub struct Table {
-    runs: usize,
+/// A row of the table. What else the machine does meets both sides, since they run in turns.
+pub fn row(name: &str, runs: usize, capture: &Capture, library: Side, rust: Side) {
+    assert_eq!(library(capture), rust(capture), "{name}: the sums differ");
+    let (mut ours, mut theirs) = (f64::MAX, f64::MAX);
+    for _ in 0..runs {
+        ours = ours.min(nanoseconds(capture, library));
+        theirs = theirs.min(nanoseconds(capture, rust));
+    }
+    let ratio = ours / theirs;
+    println!("| {name} | {ours:.1} | {theirs:.1} | {ratio:.2} |");
 }
 
-impl Table {
-    pub fn new(runs: usize) -> Table {
-        println!();
-        println!("| measure | library, ns | Rust, ns | ratio |");
-        println!("|---|---|---|---|");
-        Table { runs }
-    }
-
-    pub fn row(&mut self, name: &str, capture: &Capture, library: Side, rust: Side) {
-        assert_eq!(library(capture), rust(capture), "{name}: the sums differ");
-        let (mut ours, mut theirs) = (f64::MAX, f64::MAX);
-        for _ in 0..self.runs {
-            ours = ours.min(nanoseconds(capture, library));
-            theirs = theirs.min(nanoseconds(capture, rust));
-        }
-        let ratio = ours / theirs;
-        println!("| {name} | {ours:.1} | {theirs:.1} | {ratio:.2} |");
-    }
-}
-
-/// For one datagram, over one run.
+/// The time for a datagram, over one run.
 fn nanoseconds(capture: &Capture, side: Side) -> f64 {
     let times = DATAGRAMS_A_RUN.div_ceil(capture.len());
     let start = Instant::now();
@@ -47,7 +35,7 @@ fn nanoseconds(capture: &Capture, side: Side) -> f64 {
     start.elapsed().as_secs_f64() * 1e9 / (times * capture.len()) as f64
 }
 
-/// What a program does with a message at the least: it looks at its length and its first byte.
+/// The least that a program does with a message: it looks at its length and its first byte.
 #[inline(always)]
 fn glance(message: &[u8]) -> u64 {
     message.len() as u64 + message.first().map_or(0, |&byte| byte.into())

@@ -20,7 +20,9 @@ pub fn walks(capture: &Capture) -> u64 {
         let (code, words) = host.take(datagram);
         sum += u64::from(code) + words[raw::TAKE_ANSWER];
         if words[raw::TAKE_ANSWER] == raw::RECEIVER_DELIVER {
-            sum += Delivered::new(datagram, &words).map(glance).sum::<u64>();
+            for message in &mut Delivered::new(datagram, &words) {
+                sum += glance(message);
+            }
         }
     }
     sum
