@@ -16,7 +16,7 @@ const RUNS: usize = 31;
 const IN_CACHE: usize = 500;
 
 /// Datagrams of a capture that is only compared.
-const COMPARED: usize = 100_000;
+const COMPARED: usize = 20_000;
 
 /// Bytes of a capture that comes from memory: more than any cache holds.
 const FROM_MEMORY: usize = 100_000_000;

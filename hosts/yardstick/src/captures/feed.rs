@@ -85,18 +85,32 @@ impl Feed {
         datagram
     }
 
+    /// One message, in a datagram of the largest size or of a byte more.
+    fn large(&mut self, first: u64) -> Vec<u8> {
+        let mut datagram = header(first, 1);
+        let size = LARGEST + self.random.below(2);
+        let length = size - datagram.len() - 2;
+        datagram.extend((length as u16).to_be_bytes());
+        datagram.resize(size, 0);
+        datagram
+    }
+
     /// A datagram that leaves the receiver as it is: no message in it is due, and no end is at the number that is.
     fn elsewhere(&mut self) -> Vec<u8> {
         let (before, due) = (self.before(), self.next);
         let ahead = due + self.random.between(1, 300) as u64;
-        match self.random.below(7) {
+        match self.random.below(8) {
             0 => self.messages(before, (due - before).min(30) as u16),
             1 => header(before, 0),
             2 => header(due, 0),
             3 => header(before, END),
             4 => self.messages(ahead, 3),
-            // the last numbers that there are
-            5 => self.messages(u64::MAX - 30, 30),
+            // the last numbers that there are, or one too many
+            5 => {
+                let many = 30 + self.random.below(2) as u16;
+                self.messages(u64::MAX - 30, many)
+            }
+            6 => self.large(ahead),
             _ => header(ahead, self.random.pick(&[0, END])),
         }
     }
