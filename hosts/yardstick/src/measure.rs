@@ -8,7 +8,7 @@ use std::time::Instant;
 use yardstick::captures::Capture;
 
 /// A short capture is fed again until so many datagrams were taken, so that a run is long beside the clock's steps.
-const DATAGRAMS_A_RUN: usize = 20_000;
+const DATAGRAMS_A_RUN: usize = 200_000;
 
 /// Feeds a capture to a fresh receiver, and sums what is answered.
 type Side = fn(&Capture) -> u64;
