@@ -109,9 +109,12 @@ impl<'a> Iterator for Messages<'a> {
 
     #[inline]
     fn next(&mut self) -> Option<&'a [u8]> {
-        self.left = self.left.checked_sub(1)?;
+        if self.left == 0 {
+            return None;
+        }
         let (message, rest) = split_block(self.rest)?;
         self.rest = rest;
+        self.left -= 1;
         Some(message)
     }
 }
