@@ -1,7 +1,7 @@
 #!/usr/bin/env bash
 # The hosts' tests, over target/staticlib/libeiderwagon.a, which tools/host_library.sh builds: the Rust wrapper with its
-# examples, the differential tests, the header as C and as C++, the examples and the test in C, with warnings as
-# errors, and the programs that the pages print.
+# examples, the differential tests, the yardstick's comparison, the header as C and as C++, the examples and the test in
+# C, with warnings as errors, and the programs that the pages print.
 set -euo pipefail
 cd "$(dirname "$0")"
 

@@ -26,7 +26,7 @@ def known():
 def main():
     words = known()
     page = PAGE.read_text()
-    paths = set(re.findall(r"`((?:crates|docs|hosts|include|tools)/[\w./-]+)`", page))
+    paths = set(re.findall(r"`((?:bench|crates|docs|hosts|include|tools)/[\w./-]+)`", page))
     names = set(re.findall(r"`(\w[\w·:-]*)`", page))
     missing = [path for path in sorted(paths) if not (ROOT / path).exists()]
     missing += [name for name in sorted(names) if not set(name.split("::")) <= words]

@@ -97,6 +97,8 @@ macro_rules! exported {
     };
     (@ [$(#[$doc:meta])* $name:ident] [$($parameters:tt)*] {$($c:tt)*} {$($lent:tt)*}) => {
         $(#[$doc])*
+        // Compiled into its caller: else each call of the library goes through one more.
+        #[inline]
         pub fn $name($($parameters)*) -> u32 {
             meet_the_version();
             extern "C" {

@@ -1,0 +1,116 @@
+//! The library and the yardstick at each datagram: the same answer, the same receiver after it, the same messages.
+
+use crate::captures::Capture;
+use crate::host::{Delivered, Host, TakeWords};
+use crate::mold::{Messages, Refusal};
+use crate::receiver::{Answer, Receiver};
+use crate::{LIMIT, NEXT, SESSION};
+use eiderwagon::raw;
+use std::collections::BTreeMap;
+use std::fmt::{self, Display, Formatter};
+
+/// The receiver's answers, and the refusals that a datagram can draw.
+pub const OUTCOMES: [&str; 14] = [
+    "deliver", "old", "quiet", "ask", "ended", "11", "12", "13", "14", "15", "16", "17", "18", "20",
+];
+
+/// How often each outcome was drawn, and how many messages were delivered.
+#[derive(Default)]
+pub struct Drawn {
+    outcomes: BTreeMap<String, usize>,
+    pub messages: usize,
+}
+
+impl Drawn {
+    pub fn count(&self, outcome: &str) -> usize {
+        self.outcomes.get(outcome).copied().unwrap_or(0)
+    }
+
+    /// Panics where an outcome was never drawn.
+    pub fn assert_everything(&self) {
+        let missing: Vec<_> = OUTCOMES
+            .into_iter()
+            .filter(|outcome| self.count(outcome) == 0)
+            .collect();
+        assert!(missing.is_empty(), "never drawn: {missing:?}");
+    }
+}
+
+impl Display for Drawn {
+    fn fmt(&self, f: &mut Formatter<'_>) -> fmt::Result {
+        let drawn = OUTCOMES.map(|outcome| (outcome, self.count(outcome)));
+        for (outcome, count) in drawn.into_iter().filter(|(_, count)| *count > 0) {
+            write!(f, "{outcome} {count}, ")?;
+        }
+        write!(f, "messages {}", self.messages)
+    }
+}
+
+/// Feeds a capture to both. Panics at the first difference.
+pub fn compare(capture: &Capture) -> Drawn {
+    let mut host = Host::start();
+    let mut receiver = Receiver::start(*SESSION, NEXT, LIMIT).expect("the start is good");
+    let mut drawn = Drawn::default();
+    for (place, datagram) in capture.datagrams().enumerate() {
+        let words = host.take(datagram);
+        let answer = receiver.take(datagram);
+        assert_eq!(words, in_words(answer), "the answers to datagram {place}");
+        assert_eq!(host.next(), receiver.next(), "n after datagram {place}");
+        assert_eq!(
+            host.is_ended(),
+            receiver.is_ended(),
+            "ended after datagram {place}"
+        );
+        let name = name(answer);
+        assert!(OUTCOMES.contains(&name.as_str()), "{name} isn't listed");
+        *drawn.outcomes.entry(name).or_default() += 1;
+        if let Ok(Answer::Deliver { count, skipped, .. }) = answer {
+            drawn.messages += usize::from(count);
+            let messages = Messages::new(datagram, count, skipped);
+            compare_messages(Delivered::new(datagram, &words.1), messages, place);
+        }
+    }
+    drawn
+}
+
+/// Each is the same bytes at the same place of the datagram, and neither has more.
+fn compare_messages(mut library: Delivered, rust: Messages, place: usize) {
+    for expected in rust {
+        let message = library.next();
+        assert_eq!(message, Some(expected), "a message of datagram {place}");
+        let same_place = message.is_some_and(|message| std::ptr::eq(message, expected));
+        assert!(same_place, "a message's place in datagram {place}");
+    }
+    assert_eq!(library.next(), None, "more messages in datagram {place}");
+}
+
+/// The code and the words that the header gives an answer.
+fn in_words(answer: Result<Answer, Refusal>) -> (u32, TakeWords) {
+    match answer {
+        Ok(Answer::Deliver {
+            first,
+            count,
+            skipped,
+        }) => {
+            let words = [raw::RECEIVER_DELIVER, first, count.into(), skipped.into()];
+            (raw::OK, words)
+        }
+        Ok(Answer::Old) => (raw::OK, [raw::RECEIVER_OLD, 0, 0, 0]),
+        Ok(Answer::Quiet) => (raw::OK, [raw::RECEIVER_QUIET, 0, 0, 0]),
+        Ok(Answer::Ask { first, count }) => (raw::OK, [raw::RECEIVER_ASK, first, count.into(), 0]),
+        Ok(Answer::Ended) => (raw::OK, [raw::RECEIVER_ENDED, 0, 0, 0]),
+        Err(refusal) => (refusal as u32, [0; raw::TAKE_WORDS]),
+    }
+}
+
+fn name(answer: Result<Answer, Refusal>) -> String {
+    let name = match answer {
+        Ok(Answer::Deliver { .. }) => "deliver",
+        Ok(Answer::Old) => "old",
+        Ok(Answer::Quiet) => "quiet",
+        Ok(Answer::Ask { .. }) => "ask",
+        Ok(Answer::Ended) => "ended",
+        Err(refusal) => return (refusal as u32).to_string(),
+    };
+    name.to_string()
+}

@@ -1,0 +1,103 @@
+//! The plain receiver in ordinary Rust: document 01's table.
+
+use crate::mold::{Datagram, Kind, Refusal, Session};
+
+pub const LARGEST_LIMIT: u16 = 65_534;
+
+#[derive(Clone, Copy, Debug, PartialEq, Eq)]
+pub enum Answer {
+    /// `mold::Messages::new` walks over them.
+    Deliver {
+        first: u64,
+        count: u16,
+        skipped: u16,
+    },
+    Old,
+    Quiet,
+    Ask {
+        first: u64,
+        count: u16,
+    },
+    Ended,
+}
+
+#[derive(Clone, Debug, PartialEq, Eq)]
+pub struct Receiver {
+    session: Session,
+    next: u64,
+    limit: u16,
+    ended: bool,
+}
+
+impl Receiver {
+    pub fn start(session: Session, next: u64, limit: u16) -> Result<Self, Refusal> {
+        if next == 0 || !(1..=LARGEST_LIMIT).contains(&limit) {
+            return Err(Refusal::BadSetting);
+        }
+        Ok(Receiver {
+            session,
+            next,
+            limit,
+            ended: false,
+        })
+    }
+
+    pub fn next(&self) -> u64 {
+        self.next
+    }
+
+    pub fn is_ended(&self) -> bool {
+        self.ended
+    }
+
+    /// A call, as the library's is, wherever it stands.
+    #[inline(never)]
+    pub fn take(&mut self, datagram: &[u8]) -> Result<Answer, Refusal> {
+        let Datagram {
+            session,
+            number,
+            kind,
+        } = Datagram::read(datagram)?;
+        if session != self.session {
+            return Err(Refusal::SessionDiffers);
+        }
+        if self.ended {
+            return Err(Refusal::SessionEnded);
+        }
+        if number > self.next {
+            return Ok(self.ask(number));
+        }
+        match kind {
+            Kind::Data { count } => Ok(self.take_data(number, count)),
+            Kind::Heartbeat if number < self.next => Ok(Answer::Old),
+            Kind::Heartbeat => Ok(Answer::Quiet),
+            Kind::EndOfSession if number < self.next => Err(Refusal::EndBelowExpected),
+            Kind::EndOfSession => {
+                self.ended = true;
+                Ok(Answer::Ended)
+            }
+        }
+    }
+
+    fn ask(&self, number: u64) -> Answer {
+        let missing = number - self.next;
+        Answer::Ask {
+            first: self.next,
+            count: missing.min(self.limit.into()) as u16,
+        }
+    }
+
+    /// Data that begins at the expected number or before it.
+    fn take_data(&mut self, number: u64, count: u16) -> Answer {
+        let (first, end) = (self.next, number + u64::from(count));
+        if end <= first {
+            return Answer::Old;
+        }
+        self.next = end;
+        Answer::Deliver {
+            first,
+            count: (end - first) as u16,
+            skipped: (first - number) as u16,
+        }
+    }
+}
