@@ -1048,16 +1048,18 @@ static void end_a_capture(void) {
     CHECK(lent.state[EIDERWAGON_CAPTURE_STAGE_AT] == EIDERWAGON_CAPTURE_DONE);
     uses_all();
 
-    /* After 2^32 - 1 records nothing is used any more, and it isn't over. */
-    lent.state[EIDERWAGON_CAPTURE_CODE_AT] = EIDERWAGON_CAPTURE_OPEN;
-    lent.state[EIDERWAGON_CAPTURE_STAGE_AT] = EIDERWAGON_CAPTURE_RECORDS;
+    /* By 2^32 - 1 records: those that were read before, and one more. */
     memset(records, 0, 8);
-    records[0] = records[1] = records[2] = records[3] = 0xFF;
-    DONE(eiderwagon_capture_feed(LEND(lent.state), zeros, 2, WORDS(FEED)));
-    CHECK(LENT(FEED_USED) == 0 && LENT(FEED_OVER) == 0);
-    records[0] = 0xFE;
-    DONE(eiderwagon_capture_feed(LEND(lent.state), zeros, 4, WORDS(FEED)));
-    CHECK(LENT(FEED_USED) == 2 && LENT(FEED_OVER) == 0);
+    for (int more = 0; more < 2; more++) {
+        lent.state[EIDERWAGON_CAPTURE_CODE_AT] = EIDERWAGON_CAPTURE_OPEN;
+        lent.state[EIDERWAGON_CAPTURE_STAGE_AT] = EIDERWAGON_CAPTURE_RECORDS;
+        records[0] = (uint8_t)(0xFF - more);
+        records[1] = records[2] = records[3] = 0xFF;
+        DONE(eiderwagon_capture_feed(LEND(lent.state), zeros, 4, WORDS(FEED)));
+        CHECK(LENT(FEED_USED) == 4 && LENT(FEED_OVER) == 1);
+        CHECK(lent.state[EIDERWAGON_CAPTURE_STAGE_AT] == EIDERWAGON_CAPTURE_DONE);
+        uses_all();
+    }
     CHECK(number_in(lent.state, EIDERWAGON_CAPTURE_RECORDS_AT, 8) == UINT32_MAX);
     CHECK(number_in(lent.state, EIDERWAGON_CAPTURE_REFUSED_AT, 8) == 1);
 }
@@ -1171,7 +1173,9 @@ static void change_no_byte_where_more_is_needed(void) {
         DONE(eiderwagon_client_step(LEND(lent.state), zeros, 1, WORDS(CLIENT_STEP)));
         CHECK(memcmp(before.state, lent.state, sizeof lent.state) == 0);
 
+        /* a reading of fewer than the most records */
         lent.state[EIDERWAGON_CAPTURE_CODE_AT] = EIDERWAGON_CAPTURE_OPEN;
+        memset(lent.state + EIDERWAGON_CAPTURE_RECORDS_AT, 0, 8);
         memcpy(&before, &lent, sizeof lent);
         DONE(eiderwagon_capture_feed(LEND(lent.state), zeros, 1, WORDS(FEED)));
         CHECK(LENT(FEED_USED) == 0 && LENT(FEED_OVER) == 0);
