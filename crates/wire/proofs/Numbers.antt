@@ -1,5 +1,5 @@
 -- Laws of `number` and `bytes`, each over the width.
-use mathlib.Core.Path.{_≡_, refl, sym}
+use mathlib.Core.Path.{_≡_, refl, ap, sym, _∙_}
 use mathlib.Core.List.{List, [], _∷_, _++_, append-assoc}
 use Prim.Native.Nat.{ℕ, zero, suc, _+_, _*_, _/_, _%_, _-_, _^_, _≤_, _<_}
 use native.Mathlib.Omega.{arith}
@@ -77,6 +77,34 @@ small-number (suc n) l at small =
     let b = small (at + n) in
     omega (arith, pow-suc 256 n)
 
+-- ---- as the code of `at_the_end` has it: n bytes are read, and v is their number
+
+-- fewer than eight bytes leave room for one more
+pub read-room : (n : ℕ) (l : List ℕ) (at v : ℕ) → AreBytes l → v ≡ number l at n → n < 8 → v < 2 ^ 56
+read-room n l at v small e h = go n h (small-number n l at small)
+  where
+    go : (k : ℕ) → k < 8 → number l at n < 256 ^ k → v < 2 ^ 56
+    go zero f b = omega arith
+    go (suc zero) f b = omega arith
+    go (suc (suc zero)) f b = omega arith
+    go (suc (suc (suc zero))) f b = omega arith
+    go (suc (suc (suc (suc zero)))) f b = omega arith
+    go (suc (suc (suc (suc (suc zero))))) f b = omega arith
+    go (suc (suc (suc (suc (suc (suc zero)))))) f b = omega arith
+    go (suc (suc (suc (suc (suc (suc (suc zero))))))) f b = omega arith
+    go (suc (suc (suc (suc (suc (suc (suc (suc k)))))))) f b = absurd (omega arith)
+
+pub read-none : (l : List ℕ) (at : ℕ) → 0 ≡ number l at 0
+unfolding number
+read-none l at = refl
+
+pub read-more : (n : ℕ) (l : List ℕ) (at v b : ℕ) → v ≡ number l at n → b ≡ getD l (at + n) 0 → v * 256 + b ≡ number l at (n + 1)
+unfolding number
+read-more n l at v b e f = rw (add-one n, e, f)
+
+pub read-all : (n : ℕ) (l : List ℕ) (at v : ℕ) → v ≡ number l at n → n ≤ 8 → 8 ≤ n → v ≡ number l at 8
+read-all n l at v e h k = let m : n ≡ 8 = omega arith in e ∙ ap (number l at) m
+
 -- ---- as the code of `be16` and `be64` has them
 
 number-2 : (l : List ℕ) (at : ℕ) → number l at 2 ≡ getD l at 0 * 256 + getD l (at + 1) 0
@@ -102,3 +130,14 @@ pub read-8 : (l : List ℕ) (at r a b c d i j k m : ℕ) → r ≡ ((((((a * 256
     → a ≡ getD l at 0 → b ≡ getD l (at + 1) 0 → c ≡ getD l (at + 2) 0 → d ≡ getD l (at + 3) 0
     → i ≡ getD l (at + 4) 0 → j ≡ getD l (at + 5) 0 → k ≡ getD l (at + 6) 0 → m ≡ getD l (at + 7) 0 → r ≡ number l at 8
 read-8 l at r a b c d i j k m e e₀ e₁ e₂ e₃ e₄ e₅ e₆ e₇ = cc (number-8 l at)
+
+-- the same in front of a slice, and where that is the rest of another
+pub read-front : (l : List ℕ) (r : ℕ)
+    → r ≡ ((((((getD l 0 0 * 256 + getD l 1 0) * 256 + getD l 2 0) * 256 + getD l 3 0) * 256 + getD l 4 0) * 256 + getD l 5 0) * 256 + getD l 6 0) * 256 + getD l 7 0
+    → r ≡ number l 0 8
+read-front l r e = e ∙ sym (number-8 l 0)
+
+pub read-rest : (l : List ℕ) (at r : ℕ) → r ≡ number (take (length l - at) (drop at l)) 0 8 → r ≡ number l at 8
+read-rest l at r e =
+    let z : at + 0 ≡ at = omega arith in
+    e ∙ ap (λ (m : List ℕ). number m 0 8) (part-to-end at l) ∙ number-drop at l 0 8 ∙ ap (λ (n : ℕ). number l n 8) z

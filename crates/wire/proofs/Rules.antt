@@ -1,7 +1,7 @@
 -- The laws that the functions' proofs need, for `search`: one set for each file of src/.
 use borrow.Author.Needs.{needs}
 use mathlib.Core.Path.{refl}
-use Rattle.wire.proofs.Numbers.{byte-past, read-past, read-2, read-8}
+use Rattle.wire.proofs.Numbers.{byte-past, read-past, read-2, read-8, read-front, read-rest, read-none, read-more, read-all}
 use Rattle.wire.proofs.PartLaws.{part-none, part-rest, part-all, too-few, first-six, first-ten}
 use Rattle.wire.proofs.Rooms.{no-room, number-room, count-room}
 use Rattle.wire.proofs.Outputs.{output-laws, lay-beyond, lay-over, lay-done, size-bytes}
@@ -11,7 +11,7 @@ use Rattle.wire.proofs.Same.{same-start, same-beyond, same-cut, same-ag
 
 pub ruleset rooms = (no-room, number-room, count-room, needs)
 
-pub ruleset numbers = (byte-past, read-past, read-2, read-8, needs)
+pub ruleset numbers = (byte-past, read-past, read-2, read-8, read-front, read-rest, read-none, read-more, read-all, needs)
 
 pub ruleset parts = (part-none, part-rest, part-all, too-few, first-six, first-ten, needs)
 

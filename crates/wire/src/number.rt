@@ -1,9 +1,11 @@
 // Big-endian numbers read from a slice, the most significant byte first. A byte past the end counts as 0, so that every
 // place of every slice has a number and no caller has to test before it reads.
 use crate::kinds::ByteOffset;
+use crate::kinds::NUMBER_SIZE;
 use crate::parts::byte;
 ghost use mathlib.Core.Path.{_≡_};
-ghost use Prim.Native.Nat.{_+_, _*_};
+ghost use Prim.Native.Nat.{_+_, _*_, _≤_};
+ghost use lib.ListN.{length};
 ghost use Rattle.wire.specs.Bytes.{number};
 
 fn join16(a: u8, b: u8) -> u16
@@ -12,19 +14,12 @@ fn join16(a: u8, b: u8) -> u16
     (a as u16) * 256 + (b as u16)
 }
 
-fn join32(a: u16, b: u16) -> u64
-    ensures { λ r. ⌜ r ≡ a * 65536 + b ⌝ }
-{
-    (a as u64) * 65536 + (b as u64)
-}
-
-// Joined as a tree, two by two, which the compiler turns into one load of eight bytes.
+// Each step takes one byte more: in this form the compiler makes one load of eight bytes and one swap of it.
 fn join64(a: u8, b: u8, c: u8, d: u8, e: u8, f: u8, g: u8, h: u8) -> u64
     ensures { λ r. ⌜ r ≡ ((((((a * 256 + b) * 256 + c) * 256 + d) * 256 + e) * 256 + f) * 256 + g) * 256 + h ⌝ }
 {
-    let high = join32(join16(a, b), join16(c, d));
-    let low = join32(join16(e, f), join16(g, h));
-    high * 4294967296 + low
+    let four = ((a as u64 * 256 + b as u64) * 256 + c as u64) * 256 + d as u64;
+    (((four * 256 + e as u64) * 256 + f as u64) * 256 + g as u64) * 256 + h as u64
 }
 
 // The 16-bit number at a place.
@@ -38,22 +33,41 @@ pub fn be16(s: &[u8], at: ByteOffset) -> u16
     join16(byte(s, ByteOffset(i)), byte(s, ByteOffset(i + 1)))
 }
 
-// The 64-bit number at a place: the one leaf that reads an eight-byte number.
+// The 64-bit number at a place: the one leaf that reads an eight-byte number. Where all eight bytes are there, which
+// one test says, they are read as one.
 pub fn be64(s: &[u8], at: ByteOffset) -> u64
     ensures { λ r. ⌜ r ≡ number (now (s .entry)) (at .0) 8 ⌝ }
 {
     let i = at.0;
+    if s.len() < NUMBER_SIZE {
+        return at_the_end(s, i);
+    }
+    if s.len() - NUMBER_SIZE < i {
+        return at_the_end(s, i);
+    }
+    in_front(&s[i..])
+}
+
+// The number in front of a slice that has all eight bytes.
+fn in_front(s: &[u8]) -> u64
+    requires { ⌜ 8 ≤ length (now s) ⌝ }
+    ensures { λ r. ⌜ r ≡ number (now (s .entry)) 0 8 ⌝ }
+{
+    join64(s[0], s[1], s[2], s[3], s[4], s[5], s[6], s[7])
+}
+
+// The same where the slice may end before the number does, byte by byte.
+fn at_the_end(s: &[u8], i: usize) -> u64
+    ensures { λ r. ⌜ r ≡ number (now (s .entry)) i 8 ⌝ }
+{
     if s.len() <= i {
         return 0;
     }
-    join64(
-        byte(s, ByteOffset(i)),
-        byte(s, ByteOffset(i + 1)),
-        byte(s, ByteOffset(i + 2)),
-        byte(s, ByteOffset(i + 3)),
-        byte(s, ByteOffset(i + 4)),
-        byte(s, ByteOffset(i + 5)),
-        byte(s, ByteOffset(i + 6)),
-        byte(s, ByteOffset(i + 7)),
-    )
+    let mut value: u64 = 0;
+    let mut count: usize = 0;
+    while count < NUMBER_SIZE {
+        value = value * 256 + byte(s, ByteOffset(i + count)) as u64;
+        count += 1;
+    }
+    value
 }
