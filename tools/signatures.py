@@ -20,9 +20,9 @@ def split(parameters):
 
 
 def in_sources():
-    """The functions marked `pub extern "C"`, over all crates."""
+    """The functions marked `pub extern "C"`, over all libraries."""
     found = {}
-    for item in (item for crate in sources.crates() for item in sources.items_of(crate) if item.is_exported):
+    for item in (item for crate in sources.libraries() for item in sources.items_of(crate) if item.is_exported):
         parameters, answer = re.fullmatch(r"\((.*)\)(.*)", item.signature).groups()
         found[item.name] = split(parameters) + [("answer", answer.replace("->", "").strip())]
     return found

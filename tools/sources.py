@@ -6,8 +6,8 @@ import pathlib
 import re
 
 ROOT = pathlib.Path(__file__).resolve().parent.parent
-# what the program of vectors stands on: no library of the tender's, and without promises (docs/DECISIONS.md)
-UNPROMISED = "vector"
+# what the program of vectors stands on, and what is only measured: no library of the tender's (docs/DECISIONS.md)
+ASIDE = ("vector", "bench_")
 ITEM = re.compile(r'^( *)(?:#\[\w+\]\s*)*((?:pub )?)(?:extern "C" |unsafe )*(?:(fn) (\w+)|(const) (\w+):)', re.M)
 HEAD_ENDS = re.compile(r"\s*(?:\{|\b(?:ghost|requires|ensures)\b)")
 CLAUSE = re.compile(r"\s*(ghost|requires|ensures)\b ?(\w*)\s*(?=\{)")
@@ -23,7 +23,7 @@ def crates():
 
 def libraries():
     """The libraries of crates.txt that make promises, in its order."""
-    return [n for n in crates() if not n.startswith(UNPROMISED) and (ROOT / "crates" / n / "src/lib.rt").exists()]
+    return [n for n in crates() if not n.startswith(ASIDE) and (ROOT / "crates" / n / "src/lib.rt").exists()]
 
 
 def reached_by(crate):
