@@ -1,10 +1,10 @@
 #!/usr/bin/env bash
-# Builds the library for hosts in other languages: target/staticlib/libeiderwagon.a, the archives of the crates with
-# exported functions as one. `rt staticlib` proves its crate again, so one whose archive is newer than its last proof is
+# Builds the library for hosts in other languages: target/staticlib/libeiderwagon.a, the archives of the crates
+# `exports_` as one. `rt staticlib` proves its crate again, so one whose archive is newer than its last proof is
 # left alone; nothing else that was proved and hasn't changed is proved again.
 set -euo pipefail
 cd "$(dirname "$0")/.."
-crates=$(grep -lr '#\[no_mangle\]' --include='*.rt' crates | cut -d/ -f2 | sort -u)
+crates=$(cd crates && printf '%s\n' exports_*)
 library=target/staticlib/libeiderwagon.a
 
 # the archives are joined with binutils, which come from Debian's packages where they are missing
