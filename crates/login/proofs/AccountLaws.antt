@@ -8,6 +8,7 @@ use native.Mathlib.Numerals.{add-one}
 use lib.ListN.{length, drop, getD, drop-of-length-le}
 use lib.Seq.{drop-cons}
 use lib.Dec.{eqb}
+use borrow.Author.Tests.{eq-eqb, ne-eqb}
 use Rattle.wire.specs.Choice.{if_then_else_}
 use Rattle.wire.specs.Bytes.{sameBytes}
 use Rattle.wire.proofs.Same.{same-length, false-or-true}
@@ -70,6 +71,20 @@ module _ (a b : List ℕ) where
             and-first same (eqb p q) (sameText (drop (i + 1) a) (drop (i + 1) b)) (sameText a b)
             (rw (e, f) (rw (front a i h, front b i n) at (s .rest)));
       }
+
+  -- a difference decides
+  pub same-differs : (i p q : ℕ) → SameOn a b true i → i < length a → p ≡ lower (getD a i 0) → q ≡ lower (getD b i 0)
+      → (p ≡ q → ⊥) → false ≡ sameText a b
+  same-differs i p q s h e f n =
+      let d : eqb p q ≡ false = ne-eqb p q n in
+      rw d at (same-next true i p q s h e f .rest)
+
+  -- and where there is none the texts are the same
+  pub same-step : (i p q : ℕ) → SameOn a b true i → i < length a → p ≡ lower (getD a i 0) → q ≡ lower (getD b i 0) → p ≡ q
+      → SameOn a b true (i + 1)
+  same-step i p q s h e f n =
+      let d : eqb p q ≡ true = eq-eqb p q n in
+      rw d at (same-next true i p q s h e f)
 
   pub same-end : (same : Bool) (i : ℕ) → SameOn a b same i → length a ≤ i → same ≡ sameText a b
   unfolding sameText lowered sameBytes

@@ -4,15 +4,16 @@ use mathlib.Core.List.{List, [], _∷_}
 use mathlib.Core.Bool.{Bool, true, false, not}
 use Prim.Native.Nat.{ℕ, zero, suc, _-_, _/_, _≤_, _<_}
 use native.Mathlib.Omega.{arith}
-use lib.ListN.{length, take, drop, length-drop}
+use lib.ListN.{length, take, drop, length-take, length-drop}
 use borrow.Author.Tests.{lt-ltb, not-true, not-false}
 use Rattle.wire.proofs.Numbers.{part-to-end}
 use Rattle.wire.specs.Parts.{firstBytes}
 use Rattle.wire.proofs.PartLaws.{first-there}
 use Rattle.login.specs.declared.account.Account.{Account}
 use Rattle.login.specs.declared.account.Found.{Found}
-use Rattle.login.specs.Account.{soundAccount, isOf, mostAccounts, blankAccount, deciding, foundIn}
+use Rattle.login.specs.Account.{sameText, soundAccount, isOf, mostAccounts, blankAccount, deciding, foundIn}
 use Rattle.login.specs.Table.{accountSize, accountOf, accountsUpTo, accountsOf}
+use Rattle.login.proofs.AccountLaws.{of-both, of-not}
 use Rattle.login.proofs.FoundLaws.{found-unsound, found-sound}
 
 -- ---- the records of a table
@@ -47,8 +48,21 @@ module _ (l : List ℕ) where
   unfolding accountsOf accountsUpTo
   records-none h = let e : length l / 16 ≡ 0 = omega arith in rw e refl
 
+pub username-there : (l : List ℕ) → 16 ≤ length l → length (take 6 l) ≡ 6
+username-there l h = omega (arith, length-take 6 l)
+
 pub rest-less : (l : List ℕ) → 16 ≤ length l → length (take (length l - 16) (drop 16 l)) < length l
 rest-less l h = rw (part-to-end 16 l, length-drop 16 l) (omega arith)
+
+-- the first record: t is what the comparison of its username gave
+module _ (l : List ℕ) (e : Account) (t : Bool) (f : t ≡ sameText (take 6 l) (e .username)) where
+  pub first-of : (a : Account) (r : Bool) → t ≡ true → a ≡ accountOf l → r ≡ soundAccount a → r ≡ isOf (accountOf l) e
+  unfolding accountOf
+  first-of a r g h i = of-both (accountOf l) e t r f g (rw h at i)
+
+  pub first-other : t ≡ false → false ≡ isOf (accountOf l) e
+  unfolding accountOf
+  first-other g = of-not (accountOf l) e t f g
 
 -- ---- the lookup: l is the table, e the entry, rest what is left of the table, r what is found
 
@@ -78,19 +92,19 @@ module _ (l : List ℕ) (e : Account) where
     looked : (a : Account) (r : Found) → deciding (accountsOf rest) e ≡ a → r ≡ record { account = a; «too_many» = false } → r ≡ foundIn (accountsOf l) e
     looked a r f g = g ∙ rw (← f, s .same) (sym (found-sound (accountsOf l) e (few-records l (s .few)) (s .entry-sound)))
 
-    pub lookup-decides : (a : Account) (t : Bool) (r : Found) → 16 ≤ length rest → a ≡ accountOf rest → t ≡ isOf a e → t ≡ true
-        → r ≡ record { account = a; «too_many» = false } → r ≡ foundIn (accountsOf l) e
+    pub lookup-decides : (a : Account) (t : Bool) (r : Found) → 16 ≤ length rest → t ≡ isOf (accountOf rest) e → t ≡ true
+        → a ≡ accountOf rest → r ≡ record { account = a; «too_many» = false } → r ≡ foundIn (accountsOf l) e
     unfolding deciding
-    lookup-decides a t r h f g i j = looked a r (rw (records-more rest h, ← f, ← g, i) refl) j
+    lookup-decides a t r h g i f j = looked a r (rw (records-more rest h, ← g, i) (sym f)) j
 
-    pub lookup-again : (a : Account) (t : Bool) → 16 ≤ length rest → a ≡ accountOf rest → t ≡ isOf a e → t ≡ false
+    pub lookup-again : (t : Bool) → 16 ≤ length rest → t ≡ isOf (accountOf rest) e → t ≡ false
         → LookedIn l e (take (length rest - 16) (drop 16 rest))
     unfolding deciding
-    lookup-again a t h f g i =
+    lookup-again t h g i =
         record {
           few = s .few;
           entry-sound = s .entry-sound;
-          same = rw (part-to-end 16 rest) (rw (records-more rest h, ← f, ← g, i) at (s .same));
+          same = rw (part-to-end 16 rest) (rw (records-more rest h, ← g, i) at (s .same));
         }
 
     pub lookup-end : (r : Found) → length rest < 16 → r ≡ record { account = blankAccount; «too_many» = false } → r ≡ foundIn (accountsOf l) e

@@ -68,9 +68,27 @@ fn blank() -> Account
     }
 }
 
-// Whether two fields have the same text. Every byte is compared: neither a zero, a space nor a difference ends it early
-// in this source; SECURITY.md says what was seen in the compiled code.
-fn is_same(a: &[u8], b: &[u8]) -> bool
+// Whether two usernames have the same text. The first difference ends it, as most records of a table differ early;
+// SECURITY.md says what the time then tells.
+fn is_same_username(a: &[u8], b: &[u8]) -> bool
+    ensures { λ r. ⌜ r ≡ sameText (now (a .entry)) (now (b .entry)) ⌝ }
+{
+    if a.len() != b.len() {
+        return false;
+    }
+    let mut i: usize = 0;
+    while i < a.len() {
+        if lower(a[i]) != lower(b[i]) {
+            return false;
+        }
+        i += 1;
+    }
+    true
+}
+
+// Whether two passwords have the same text. Every byte is compared: neither a zero, a space nor a difference ends it
+// early in this source; SECURITY.md says what was seen in the compiled code.
+fn is_same_password(a: &[u8], b: &[u8]) -> bool
     ensures { λ r. ⌜ r ≡ sameText (now (a .entry)) (now (b .entry)) ⌝ }
 {
     if a.len() != b.len() {
@@ -100,14 +118,21 @@ pub fn is_sound(account: Account) -> bool
     }
 }
 
+// Whether a field has the entry's username.
+pub(crate) fn has_username(field: &[u8], entry: Account) -> bool
+    ensures { λ r. ⌜ r ≡ sameText (now (field .entry)) (entry .username) ⌝ }
+{
+    let username = entry.username;
+    is_same_username(field, &username)
+}
+
 // Whether a record is sound and has the entry's username: the first such record of a table decides. Few records have
 // the username, so it is looked at first.
 pub fn is_of(account: Account, entry: Account) -> bool
     ensures { λ r. ⌜ r ≡ isOf account entry ⌝ }
 {
-    let a = account.username;
-    let b = entry.username;
-    if is_same(&a, &b) {
+    let username = account.username;
+    if has_username(&username, entry) {
         is_sound(account)
     } else {
         false
@@ -121,7 +146,7 @@ fn has_password(account: Account, entry: Account) -> bool
     let a = account.password;
     let b = entry.password;
     if is_sound(entry) {
-        is_same(&a, &b)
+        is_same_password(&a, &b)
     } else {
         false
     }

@@ -9,7 +9,7 @@ use wire::parts;
 ghost use mathlib.Core.Path.{_≡_};
 ghost use Prim.Native.Nat.{_≤_};
 ghost use lib.ListN.{length};
-ghost use Rattle.login.specs.Account.{foundIn};
+ghost use Rattle.login.specs.Account.{isOf, foundIn};
 ghost use Rattle.login.specs.Table.{accountSize, accountOf, accountsOf};
 ghost use Rattle.login.specs.Statements.{FoundDecides};
 
@@ -27,6 +27,19 @@ fn first(table: &[u8]) -> Account
     }
 }
 
+// Whether the first record of a table is sound and has the entry's username. Few have the username, so it is compared
+// first, and where it stands.
+fn first_is_of(table: &[u8], entry: Account) -> bool
+    requires { ⌜ accountSize ≤ length (now table) ⌝ }
+    ensures { λ r. ⌜ r ≡ isOf (accountOf (now (table .entry))) entry ⌝ }
+{
+    if account::has_username(&table[..USERNAME_SIZE], entry) {
+        account::is_sound(first(table))
+    } else {
+        false
+    }
+}
+
 // The record of a table that decides on an entry: the first sound one with its username. An unsound entry is not looked
 // for.
 pub fn lookup(table: &[u8], entry: Account) -> Found
@@ -41,9 +54,8 @@ pub fn lookup(table: &[u8], entry: Account) -> Found
     }
     let mut rest = table;
     while RECORD_SIZE <= rest.len() {
-        let account = first(rest);
-        if account::is_of(account, entry) {
-            return Found::decided_by(account);
+        if first_is_of(rest, entry) {
+            return Found::decided_by(first(rest));
         }
         rest = &rest[RECORD_SIZE..];
     }

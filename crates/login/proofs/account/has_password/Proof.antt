@@ -8,9 +8,9 @@ has-password-spec =
     tie.close
     (tie.spec
     (λ c κs. search accounts)  -- is-sound-requires
-    (λ c. search accounts)  -- slice-aggregate-is-same
-    (λ c. search accounts)  -- slice-aggregate-is-same-2
-    (λ c κs. search accounts)  -- is-same-requires
+    (λ c. search accounts)  -- slice-aggregate-is-same-password
+    (λ c. search accounts)  -- slice-aggregate-is-same-password-2
+    (λ c κs. search accounts)  -- is-same-password-requires
     (λ c. search accounts)  -- returns
     (λ c. search accounts)  -- returns-2
     )

@@ -7,9 +7,8 @@ pub is-of-spec : {M : Type 1} → statement M
 is-of-spec =
     tie.close
     (tie.spec
-    (λ c. search accounts)  -- slice-aggregate-is-same
-    (λ c. search accounts)  -- slice-aggregate-is-same-2
-    (λ c κs. search accounts)  -- is-same-requires
+    (λ c. search accounts)  -- slice-aggregate-has-username
+    (λ c κs. search accounts)  -- has-username-requires
     (λ c κs. search accounts)  -- is-sound-requires
     (λ c. search accounts)  -- returns
     (λ c. search accounts)  -- returns-2

@@ -24,8 +24,8 @@ lookup-spec =
     (λ c κs. search tables)  -- nobody-requires
     (λ c. (search tables, found-decides))  -- returns-2
     (λ c. search tables)  -- loop-holds
+    (λ c κs. search tables)  -- first-is-of-requires
     (λ c κs. search tables)  -- first-requires
-    (λ c κs. search tables)  -- is-of-requires
     (λ c κs. search tables)  -- decided-by-requires
     (λ c. (search tables, found-decides))  -- returns-3
     (λ c. search tables)  -- sub-rest

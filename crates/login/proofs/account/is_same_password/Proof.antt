@@ -3,8 +3,8 @@ use Prim.Native.Nat.{_-_}
 use lib.ListN.{length}
 use Rattle.login.proofs.AccountLaws.{SameOn}
 use Rattle.login.proofs.Rules.{accounts}
-use Rattle.login.proofs.account.is_same.Statement.{statement}
-use Rattle.login.proofs.account.is_same.Tie as tie
+use Rattle.login.proofs.account.is_same_password.Statement.{statement}
+use Rattle.login.proofs.account.is_same_password.Tie as tie
 
 abbrev Inv-loop : tie.InvT-loop
 Inv-loop a b same₀ i₀ same i = SameOn a b same i
@@ -12,8 +12,8 @@ Inv-loop a b same₀ i₀ same i = SameOn a b same i
 abbrev μ-loop : tie.MeasureT-loop
 μ-loop a b same₀ i₀ same i = length a - i
 
-pub is-same-spec : {M : Type 1} → statement M
-is-same-spec =
+pub is-same-password-spec : {M : Type 1} → statement M
+is-same-password-spec =
     tie.close
     (tie.spec
     Inv-loop
