@@ -1,11 +1,11 @@
 -- Laws of the front and of its parts: h is the head as it was read, f the fields, x the front, p its packet, k its size.
 use mathlib.Core.Path.{_≡_, refl, ap, sym, _∙_}
 use mathlib.Core.List.{List, [], _∷_}
-use mathlib.Core.Bool.{Bool}
+use mathlib.Core.Bool.{Bool, true, false, not}
 use Prim.Native.Nat.{ℕ, _+_, _-_, _≤_}
 use native.Mathlib.Omega.{arith}
 use lib.ListN.{getD, take, drop}
-use borrow.Author.Tests.{ne-eqb}
+use borrow.Author.Tests.{ne-eqb, not-true}
 use Rattle.wire.specs.Words.{Words, Case, answer, refused, says, refuses, Injective}
 use Rattle.wire.specs.declared.refusal.Refusal.{Refusal}
 use Rattle.wire.specs.declared.kinds.SequenceNumber.{SequenceNumber}
@@ -25,7 +25,7 @@ use Rattle.soupbintcp.specs.declared.front.Front.{Front}
 use Rattle.soupbintcp.specs.declared.front.Front.the-variants.{Whole, NeedMore, Refused}
 use Rattle.soupbintcp.specs.Letters.{PacketKind, debug, accepted, rejected, sequenced, server-heartbeat, end-of-session, login, unsequenced, client-heartbeat, logout, packetKind, packetValues}
 use Rattle.soupbintcp.specs.Head.{HeadKind, whole, need-more, headWords, headOf, packetLength, letterOf}
-use Rattle.soupbintcp.specs.Fields.{FieldsKind, good, bad-field, sessionBytes, numberBytes, blankAllowed, leastNumberOf, fieldsWords, fieldsAt, fieldsOf}
+use Rattle.soupbintcp.specs.Fields.{FieldsKind, good, bad-field, hasFields, sessionBytes, numberBytes, blankAllowed, leastNumberOf, fieldsWords, fieldsAt, fieldsOf}
 use Rattle.soupbintcp.specs.Front.{FrontKind, packet, wants-more, frontWords, frontPacket, frontAt, frontOf, packetAt, packetBytes, payloadOf, sessionOf, loginPart, usernameOf, passwordOf}
 use Rattle.soupbintcp.proofs.HeadLaws.{IsWhole, whole-so, head-cases, head-in-whole}
 
@@ -37,6 +37,14 @@ pub fields-read : (l y z : List ℕ) (c : ℕ) (blank ok : Bool) (n : Number) (l
     → fieldsWords r ≡ fieldsAt c (getD l 3 0) ok (numberWords n) → fieldsWords r ≡ fieldsOf l
 unfolding fieldsOf
 fields-read l y z c blank ok n least r e f g h i j k m = rw (← e, ← f, ← g, ← h, ← i, ← j, ← k) m
+
+-- a letter without them: t is what the test of the letter gave, and neither ok nor n counts
+pub fields-none : (l : List ℕ) (c : ℕ) (t ok : Bool) (n : Number) (r : Fields) → c ≡ letterOf l → t ≡ hasFields c → not t ≡ true
+    → fieldsWords r ≡ fieldsAt c (getD l 3 0) ok (numberWords n) → fieldsWords r ≡ fieldsOf l
+unfolding fieldsOf fieldsAt
+fields-none l c t ok n r e f g m =
+    let h : hasFields c ≡ false = sym f ∙ not-true t g in
+    rw (← e, h) (rw h at m)
 
 -- ---- the front, as it is read
 

@@ -47,7 +47,7 @@ fn session_at(letter: u8) -> ByteOffset
 }
 
 // Whether a packet of a letter has a session and a number.
-fn has_fields(letter: u8) -> bool
+pub(crate) fn has_fields(letter: u8) -> bool
     ensures { λ r. ⌜ r ≡ hasFields letter ⌝ }
 {
     if letter == b'A' { true } else { letter == b'L' }

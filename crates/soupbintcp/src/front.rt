@@ -8,6 +8,7 @@ use crate::packet::LOGIN_PASSWORD_AT;
 use crate::packet::Packet;
 use crate::packet::Sender;
 use text_fields::number;
+use text_fields::number::Number;
 use text_fields::session;
 use text_fields::sound::PASSWORD_SIZE;
 use text_fields::sound::USERNAME_SIZE;
@@ -28,11 +29,15 @@ pub enum Front {
     Refused(Refusal),
 }
 
-// The fields of the packet in front, which is there whole.
+// The fields of the packet in front, which is there whole. They are looked for in A and L alone: no other letter has a
+// session and a number, so what is said of them there doesn't count.
 fn read_fields(stream: &[u8]) -> Fields
     ensures { λ r. ⌜ fieldsWords r ≡ fieldsOf (now (stream .entry)) ⌝ }
 {
     let letter = fields::letter(stream);
+    if !fields::has_fields(letter) {
+        return fields::packet(stream, letter, false, Number::Bad);
+    }
     let good = session::is_session(
         fields::session_field(stream, letter),
         fields::is_blank_allowed(letter),

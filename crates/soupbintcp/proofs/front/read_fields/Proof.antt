@@ -1,5 +1,4 @@
--- The fields are read at the letter's places, and judged by its rules.
-use borrow.Author.Needs.{needs}
+-- The fields are read at the letter's places, and judged by its rules; a letter without them needs none.
 use Rattle.soupbintcp.proofs.Rules.{fronts}
 use Rattle.soupbintcp.proofs.front.read_fields.Statement.{statement}
 use Rattle.soupbintcp.proofs.front.read_fields.Tie as tie
@@ -8,13 +7,16 @@ pub read-fields-spec : {M : Type 1} → statement M
 read-fields-spec =
     tie.close
     (tie.spec
-    (λ c κs. search needs)  -- letter-requires
-    (λ c κs. search needs)  -- session-field-requires
-    (λ c κs. search needs)  -- is-blank-allowed-requires
-    (λ c κs. search needs)  -- is-session-requires
-    (λ c κs. search needs)  -- number-field-requires
-    (λ c κs. search needs)  -- least-requires
-    (λ c κs. search needs)  -- read-requires
-    (λ c κs. search needs)  -- packet-requires
+    (λ c κs. search fronts)  -- letter-requires
+    (λ c κs. search fronts)  -- has-fields-requires
+    (λ c κs. search fronts)  -- packet-requires
     (λ c. search fronts)  -- returns
+    (λ c κs. search fronts)  -- session-field-requires
+    (λ c κs. search fronts)  -- is-blank-allowed-requires
+    (λ c κs. search fronts)  -- is-session-requires
+    (λ c κs. search fronts)  -- number-field-requires
+    (λ c κs. search fronts)  -- least-requires
+    (λ c κs. search fronts)  -- read-requires
+    (λ c κs. search fronts)  -- packet-requires-2
+    (λ c. search fronts)  -- returns-2
     )
