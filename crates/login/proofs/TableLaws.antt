@@ -5,7 +5,8 @@ use mathlib.Core.Bool.{Bool, true, false, not}
 use Prim.Native.Nat.{ℕ, zero, suc, _-_, _/_, _≤_, _<_}
 use native.Mathlib.Omega.{arith}
 use lib.ListN.{length, take, drop, length-take, length-drop}
-use borrow.Author.Tests.{lt-ltb, not-true, not-false}
+use lib.Dec.{ltb}
+use borrow.Author.Tests.{ltb-false, not-true, not-false}
 use Rattle.wire.proofs.Numbers.{part-to-end}
 use Rattle.wire.specs.Parts.{firstBytes}
 use Rattle.wire.proofs.PartLaws.{first-there}
@@ -67,30 +68,33 @@ module _ (l : List ℕ) (e : Account) (t : Bool) (f : t ≡ sameText (take 6 l) 
 -- ---- the lookup: l is the table, e the entry, rest what is left of the table, r what is found
 
 pub record LookedIn (l : List ℕ) (e : Account) (rest : List ℕ) : Type 0 where
-  pub few : length l / 16 ≤ 1024
+  pub few : length (accountsOf l) ≤ mostAccounts
   pub entry-sound : soundAccount e ≡ true
   pub same : deciding (accountsOf rest) e ≡ deciding (accountsOf l) e
 
-few-records : (l : List ℕ) → length l / 16 ≤ 1024 → length (accountsOf l) ≤ mostAccounts
-few-records l h = omega (arith, records-length l)
+-- the test of its length: m is what it gave
+pub too-long : (l : List ℕ) → ltb 1024 (length l / 16) ≡ ltb mostAccounts (length (accountsOf l))
+too-long l = rw (records-length l) refl
+
+module _ (l : List ℕ) (e : Account) (m : Bool) (f : m ≡ ltb mostAccounts (length (accountsOf l))) where
+  pub lookup-many : (r : Found) → m ≡ true → r ≡ record { account = blankAccount; «too_many» = true } → r ≡ foundIn (accountsOf l) e
+  unfolding foundIn
+  lookup-many r g h = h ∙ rw (← f, g) refl
+
+  module _ (t : Bool) (g : m ≡ false) (h : t ≡ soundAccount e) where
+    few-records : length (accountsOf l) ≤ mostAccounts
+    few-records = ltb-false _ _ (sym f ∙ g)
+
+    pub lookup-unsound : (r : Found) → not t ≡ true → r ≡ record { account = blankAccount; «too_many» = false } → r ≡ foundIn (accountsOf l) e
+    lookup-unsound r i j = j ∙ sym (found-unsound (accountsOf l) e few-records (sym h ∙ not-true t i))
+
+    pub lookup-start : not t ≡ false → LookedIn l e l
+    lookup-start i = record { few = few-records; entry-sound = sym h ∙ not-false t i; same = refl }
 
 module _ (l : List ℕ) (e : Account) where
-  pub lookup-many : (r : Found) → 1024 < length l / 16 → r ≡ record { account = blankAccount; «too_many» = true } → r ≡ foundIn (accountsOf l) e
-  unfolding foundIn
-  lookup-many r h f =
-      let n : mostAccounts < length (accountsOf l) = omega (arith, records-length l) in
-      f ∙ rw (lt-ltb _ _ n) refl
-
-  pub lookup-unsound : (t : Bool) (r : Found) → length l / 16 ≤ 1024 → t ≡ soundAccount e → not t ≡ true
-      → r ≡ record { account = blankAccount; «too_many» = false } → r ≡ foundIn (accountsOf l) e
-  lookup-unsound t r h f g i = i ∙ sym (found-unsound (accountsOf l) e (few-records l h) (sym f ∙ not-true t g))
-
-  pub lookup-start : (t : Bool) → length l / 16 ≤ 1024 → t ≡ soundAccount e → not t ≡ false → LookedIn l e l
-  lookup-start t h f g = record { few = h; entry-sound = sym f ∙ not-false t g; same = refl }
-
   module _ (rest : List ℕ) (s : LookedIn l e rest) where
     looked : (a : Account) (r : Found) → deciding (accountsOf rest) e ≡ a → r ≡ record { account = a; «too_many» = false } → r ≡ foundIn (accountsOf l) e
-    looked a r f g = g ∙ rw (← f, s .same) (sym (found-sound (accountsOf l) e (few-records l (s .few)) (s .entry-sound)))
+    looked a r f g = g ∙ rw (← f, s .same) (sym (found-sound (accountsOf l) e (s .few) (s .entry-sound)))
 
     pub lookup-decides : (a : Account) (t : Bool) (r : Found) → 16 ≤ length rest → t ≡ isOf (accountOf rest) e → t ≡ true
         → a ≡ accountOf rest → r ≡ record { account = a; «too_many» = false } → r ≡ foundIn (accountsOf l) e

@@ -9,12 +9,20 @@ use wire::parts;
 ghost use mathlib.Core.Path.{_≡_};
 ghost use Prim.Native.Nat.{_≤_};
 ghost use lib.ListN.{length};
-ghost use Rattle.login.specs.Account.{isOf, foundIn};
+ghost use lib.Dec.{ltb};
+ghost use Rattle.login.specs.Account.{isOf, mostAccounts, foundIn};
 ghost use Rattle.login.specs.Table.{accountSize, accountOf, accountsOf};
 ghost use Rattle.login.specs.Statements.{FoundDecides};
 
 // Bytes of a record.
 pub const RECORD_SIZE: usize = USERNAME_SIZE + PASSWORD_SIZE;
+
+// Whether a table has too many records: 19.
+pub fn is_too_long(table: &[u8]) -> bool
+    ensures { λ r. ⌜ r ≡ ltb mostAccounts (length (accountsOf (now (table .entry)))) ⌝ }
+{
+    MOST_ACCOUNTS < table.len() / RECORD_SIZE
+}
 
 // The first record of a table.
 fn first(table: &[u8]) -> Account
@@ -46,7 +54,7 @@ pub fn lookup(table: &[u8], entry: Account) -> Found
     ensures { λ r. ⌜ r ≡ foundIn (accountsOf (now (table .entry))) entry ⌝ }
     ensures decides { λ _. ⌜ FoundDecides ⌝ }
 {
-    if MOST_ACCOUNTS < table.len() / RECORD_SIZE {
+    if is_too_long(table) {
         return Found::in_too_many();
     }
     if !account::is_sound(entry) {

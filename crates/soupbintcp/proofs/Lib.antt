@@ -4,5 +4,6 @@ pub mod FieldLaws
 pub mod FrontLaws
 pub mod KindLaws
 pub mod StableLaws
+pub mod InFrontLaws
 pub mod ScanLaws
 pub mod Rules

@@ -91,3 +91,11 @@ pub record FrontPromises : Type 0 where
   pub stable-bytes : StableBytes
   pub kind-of-letter : KindOfLetter
   pub tells-apart : Injective frontWords
+
+-- ---- for private helpers alone; no public promise uses it
+
+-- a packet of this kind was read in front, so that its fields stand at their places
+pub record IsInFront (s : Sender) (k : PacketKind) (l : List ℕ) : Type 0 where
+  pub size : ℕ
+  pub values : List ℕ
+  pub said : frontOf s l ≡ says (packet k) (size ∷ values)

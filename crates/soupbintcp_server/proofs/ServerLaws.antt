@@ -3,30 +3,36 @@ use mathlib.Core.Path.{_≡_, refl, sym, _∙_}
 use mathlib.Core.List.{List, [], _∷_}
 use mathlib.Core.Bool.{Bool, false, true, not}
 use Prim.Native.Nat.{ℕ, _-_, _≤_, _<_}
-use borrow.Author.Tests.{lt-ltb, le-ltb, not-true, not-false}
+use lib.ListN.{length, take, drop}
+use lib.Dec.{ltb}
+use borrow.Author.Tests.{lt-ltb, le-ltb, ltb-false, not-true, not-false}
 use types.Run.{OneOf}
 use denote.Enum.Declared.{tagOf}
 use Rattle.wire.specs.Words.{Words}
 use Rattle.wire.specs.declared.kinds.SequenceNumber.{SequenceNumber}
 use Rattle.wire.specs.declared.refusal.Refusal.{Refusal}
 use Rattle.wire.specs.Parts.{firstBytes}
+use Rattle.decimal.specs.Decimal.{isDigit}
 use Rattle.text_fields.specs.Session.{goodSession}
+use Rattle.text_fields.specs.Letters.{isLetterOrDigit}
+use Rattle.text_fields.specs.Sound.{wordLength, sound}
 use Rattle.soupbintcp.specs.declared.packet.Sender.the-variants.{Client}
 use Rattle.soupbintcp.specs.declared.packet.Packet.{Packet}
 use Rattle.soupbintcp.specs.declared.packet.Packet.the-variants as packet
 use Rattle.soupbintcp.specs.declared.front.Front.{Front}
 use Rattle.soupbintcp.specs.declared.front.Front.the-variants as front
 use Rattle.soupbintcp.specs.Letters.{debug, login, unsequenced, client-heartbeat, logout, packetKind, packetValues, letterFor}
-use Rattle.soupbintcp.specs.Front.{frontWords, frontOf, sessionOf, usernameOf, passwordOf}
+use Rattle.soupbintcp.specs.Front.{frontWords, frontOf, sessionOf, usernameOf, passwordOf, IsInFront}
+use Rattle.soupbintcp.proofs.InFrontLaws.{login-username, login-password, login-session, no-username}
 use Rattle.soupbintcp.proofs.packet.Packet.{the-type}
 use Rattle.login.specs.declared.account.Account.{Account}
 use Rattle.login.specs.declared.account.Found.{Found}
 use Rattle.login.specs.declared.decision.Decision.{Decision}
 use Rattle.login.specs.declared.decision.Decision.the-variants as decision
-use Rattle.login.specs.Account.{VerdictKind, isKnown, verdictOf, foundIn, verdictOn}
+use Rattle.login.specs.Account.{VerdictKind, soundAccount, mostAccounts, isKnown, lookupOf, verdictOf, blankAccount, foundIn, verdictOn}
 use Rattle.login.specs.Decision.{decisionWords, decisionOf}
 use Rattle.login.specs.Statements.{FoundDecides}
-use Rattle.login.proofs.FoundLaws.{says-19, says-known}
+use Rattle.login.proofs.FoundLaws.{found-unsound, found-decides, says-19, says-known}
 use Rattle.soupbintcp_session.specs.declared.answer.Answer.{Answer}
 use Rattle.soupbintcp_session.specs.declared.answer.Answer.the-variants.{NeedMore, Accepted, Rejected, Unsequenced, Heartbeat, Debug, LoggedOut, Refused}
 use Rattle.soupbintcp_session.specs.Answer.{incoming, sessionAnswerWords}
@@ -112,6 +118,32 @@ pub entry-read : (l u p a b : List ℕ) → u ≡ usernameOf Client l → a ≡ 
 unfolding entryOf
 entry-read l u p a b e f g h = rw (← e, ← g, ← f, ← h)
 
+-- at the places of a login request that was read in front
+pub entry-there : (l u p a b : List ℕ) → IsInFront Client login l → u ≡ take 6 (drop 3 l) → a ≡ firstBytes 6 u → p ≡ take 10 (drop 9 l) → b ≡ firstBytes 10 p
+    → record { username = a; password = b } ≡ entryOf l
+entry-there l u p a b f e g h i = entry-read l u p a b (e ∙ login-username Client l f) g (h ∙ login-password Client l f) i
+
+pub is-login : (l : List ℕ) (p : Packet) (n : SequenceNumber) → IsInFront Client (packetKind p) l → p ≡ packet.Login n → IsInFront Client login l
+unfolding packetKind
+is-login l p n f e = rw e at f
+
+-- what is found for it in a table t of accounts: for another packet, which has no entry, nothing
+pub found-login : (t : List Account) (l : List ℕ) (e : Account) (r : Found) → e ≡ entryOf l → r ≡ foundIn t e → r ≡ foundIn t (entryOf l)
+found-login t l e r g h = rw g at h
+
+abbrev not-login : List ℕ
+not-login = 0 ∷ 1 ∷ 2 ∷ 3 ∷ 4 ∷ 5 ∷ 7 ∷ 8 ∷ 9 ∷ []
+
+no-entry : (l : List ℕ) → usernameOf Client l ≡ [] → soundAccount (entryOf l) ≡ false
+unfolding entryOf soundAccount firstBytes sound wordLength isLetterOrDigit isDigit
+no-entry l e = rw e refl
+
+pub found-other : (t : List Account) (l : List ℕ) (p : Packet) (r : Found) → length t ≤ mostAccounts → IsInFront Client (packetKind p) l
+    → OneOf not-login (tagOf the-type p) → r ≡ record { account = blankAccount; «too_many» = false } → r ≡ foundIn t (entryOf l)
+unfolding tagFor
+found-other t l p r h f k e =
+    e ∙ sym (found-unsound t (entryOf l) h (no-entry l (no-username Client l (packetKind p) f (other-letter not-login login p tt k))))
+
 -- ---- a login that was decided on: d is the decision
 
 module _ (s : Server) (d : Decision) (size : ℕ) (r : Stepped) where
@@ -143,11 +175,12 @@ module _ (s : Server) (p : Packet) (size : ℕ) (w : Words VerdictKind) (asked :
 
 -- the entry of the packet in front is compared with the record that was found
 pub waiting-L : (s : Server) (p : Packet) (size : ℕ) (f : Found) (l : List ℕ) (r : Stepped) (n : SequenceNumber) (y : List ℕ) (e : Account) (d : Decision)
-    → p ≡ packet.Login n → y ≡ sessionOf Client l → e ≡ entryOf l → decisionWords d ≡ decisionOf (verdictOn f e) y (n .0) (s .session) (s .last .0)
+    → p ≡ packet.Login n → IsInFront Client (packetKind p) l → y ≡ take 10 (drop 19 l) → e ≡ entryOf l → decisionWords d ≡ decisionOf (verdictOn f e) y (n .0) (s .session) (s .last .0)
     → ServerSteps r (loginRow s size (decisionWords d))
     → ServerSteps r (waitingRow s (verdictOn f (entryOf l)) (incoming size (letterFor (packetKind p)) (packetValues p) (sessionOf Client l)))
-waiting-L s p size f l r n y e d g h i j k =
-    login-row s p size (verdictOn f (entryOf l)) (sessionOf Client l) r n d g (rw (h, i) at j) k
+waiting-L s p size f l r n y e d g o h i j k =
+    let a : y ≡ sessionOf Client l = h ∙ login-session Client l (is-login l p n o g) in
+    login-row s p size (verdictOn f (entryOf l)) (sessionOf Client l) r n d g (rw (a, i) at j) k
 
 abbrev not-waiting : List ℕ
 not-waiting = 1 ∷ 2 ∷ 3 ∷ 4 ∷ 5 ∷ 7 ∷ 8 ∷ 9 ∷ []
@@ -235,8 +268,36 @@ module _ (s : Server) (l : List ℕ) (f : Found) (few : f .«too_many» ≡ fals
   unfolding frontRowAt frontWords
   server-step-packet p size e g h = rw (← by-front, ← e, g) h
 
--- with a table t of accounts: e is the entry in front, f what was found for it
-pub server-step : (s : Server) (l : List ℕ) (t : List Account) (f : Found) (e : Account) (r : Stepped) → e ≡ entryOf l → f ≡ foundIn t e → FoundDecides
-    → ServerSteps r (stepWith s (verdictOn f (entryOf l)) l) → ServerSteps r (serverStep t s l)
-unfolding serverStep FoundDecides
-server-step s l t f e r g h d k = rw (h, g, d t (entryOf l)) at k
+-- with a table t of accounts: m is what the test of its length gave
+module _ (s : Server) (l : List ℕ) (t : List Account) (m : Bool) (is : m ≡ ltb mostAccounts (length t)) where
+  pub step-too-long : (r : Stepped) → m ≡ true → r ≡ refuses-with s 19 → ServerSteps r (serverStep t s l)
+  unfolding serverStep lookupOf stepAt sessionAnswerWords
+  step-too-long r h g = rw (← is, h, g) (exactly _)
+
+  module _ (few : m ≡ false) where
+    abbrev f : Found
+    f = foundIn t (entryOf l)
+
+    f-few : f .«too_many» ≡ false
+    unfolding foundIn
+    f-few = rw (← is, few) refl
+
+    from-found : (r : Stepped) → ServerSteps r (stepWith s (verdictOn f (entryOf l)) l) → ServerSteps r (serverStep t s l)
+    unfolding serverStep FoundDecides
+    from-found r k = rw (found-decides t (entryOf l)) at k
+
+    pub few-enough : length t ≤ mostAccounts
+    few-enough = ltb-false _ _ (sym is ∙ few)
+
+    module _ (x : Front) (r : Stepped) where
+      pub step-more : frontWords x ≡ frontOf Client l → x ≡ front.NeedMore → r ≡ goes-to NeedMore 0 s → ServerSteps r (serverStep t s l)
+      step-more e g h = from-found r (server-step-more s l f f-few x r e g h)
+
+      pub step-refused : (y : Refusal) → frontWords x ≡ frontOf Client l → x ≡ front.Refused y → r ≡ goes-to (Refused y) 0 s
+          → ServerSteps r (serverStep t s l)
+      step-refused y e g h = from-found r (server-step-refused s l f f-few x r y e g h)
+
+      pub step-packet : (p : Packet) (size : ℕ) (y : Found) → frontWords x ≡ frontOf Client l → x ≡ front.Whole p size → y ≡ foundIn t (entryOf l)
+          → ServerSteps r (rowAt (s .state) s (verdictOn y (entryOf l)) (incoming size (letterFor (packetKind p)) (packetValues p) (sessionOf Client l)))
+          → ServerSteps r (serverStep t s l)
+      step-packet p size y e g i h = from-found r (server-step-packet s l f f-few x r p size e g (rw i at h))

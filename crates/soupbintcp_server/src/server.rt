@@ -7,10 +7,14 @@ use login::table;
 use soupbintcp::front;
 use soupbintcp::front::Front;
 use soupbintcp::packet::HEAD_SIZE;
+use soupbintcp::packet::LOGIN_PASSWORD_AT;
+use soupbintcp::packet::LOGIN_SESSION_AT;
 use soupbintcp::packet::Packet;
 use soupbintcp::packet::Sender;
 use soupbintcp_session::answer::Answer;
 use text_fields::session;
+use text_fields::sound::PASSWORD_SIZE;
+use text_fields::sound::USERNAME_SIZE;
 use wire::kinds;
 use wire::kinds::ByteOffset;
 use wire::kinds::SESSION_SIZE;
@@ -21,14 +25,15 @@ use wire::refusal::Refusal;
 ghost use mathlib.Core.Path.{_≡_};
 ghost use mathlib.Core.List.{[], _∷_};
 ghost use Prim.Native.Nat.{_≤_};
+ghost use lib.ListN.{length};
 ghost use Rattle.wire.specs.Refusals.{badSetting};
-ghost use Rattle.login.specs.Account.{verdictOn};
+ghost use Rattle.login.specs.Account.{mostAccounts, foundIn, verdictOn};
 ghost use Rattle.login.specs.Table.{accountsOf};
 ghost use Rattle.login.specs.Decision.{decisionWords};
-ghost use Rattle.soupbintcp.specs.Letters.{packetKind, packetValues, letterFor};
+ghost use Rattle.soupbintcp.specs.Letters.{login, packetKind, packetValues, letterFor};
 ghost use Rattle.soupbintcp.specs.declared.packet.Sender.the-variants.{Client};
 ghost use Rattle.soupbintcp.specs.Head.{headSize};
-ghost use Rattle.soupbintcp.specs.Front.{sessionOf};
+ghost use Rattle.soupbintcp.specs.Front.{sessionOf, IsInFront};
 ghost use Rattle.soupbintcp_session.specs.Answer.{incoming};
 ghost use Rattle.soupbintcp_server.specs.Server.{server, refusedServer, serverStartRefusal, startServer};
 ghost use Rattle.soupbintcp_server.specs.Server.{lastRefusal, withLast};
@@ -73,6 +78,29 @@ pub fn entry(stream: &[u8]) -> Account
     Account {
         username: parts::six(front::username(stream, Sender::Client)),
         password: parts::ten(front::password(stream, Sender::Client)),
+    }
+}
+
+// The entry of the login request that was read in front, at its places.
+fn login_entry(stream: &[u8]) -> Account
+    requires { ⌜ IsInFront Client login (now stream) ⌝ }
+    ensures { λ r. ⌜ r ≡ entryOf (now (stream .entry)) ⌝ }
+{
+    Account {
+        username: parts::six(parts::part(stream, ByteOffset(HEAD_SIZE), USERNAME_SIZE)),
+        password: parts::ten(parts::part(stream, LOGIN_PASSWORD_AT, PASSWORD_SIZE)),
+    }
+}
+
+// What a table has for the packet that was read in front: nothing where that is no login.
+fn found_for(table: &[u8], packet: Packet, stream: &[u8]) -> Found
+    requires { ⌜ (length (accountsOf (now table)) ≤ mostAccounts)
+        × IsInFront Client (packetKind packet) (now stream) ⌝ }
+    ensures { λ r. ⌜ r ≡ foundIn (accountsOf (now (table .entry))) (entryOf (now (stream .entry))) ⌝ }
+{
+    match packet {
+        Packet::Login { number: _ } => table::lookup(table, login_entry(stream)),
+        _ => Found::nobody(),
     }
 }
 
@@ -154,13 +182,23 @@ impl Server {
         }
     }
 
-    // Takes the front of a client's stream, the accounts being lent as bytes.
+    // Takes the front of a client's stream, the accounts being lent as bytes. The front is read once, and the accounts
+    // are looked at for a login alone.
     pub fn step(self, table: &[u8], stream: &[u8]) -> Stepped
         ensures { λ r. ⌜ ServerSteps r (serverStep (accountsOf (now (table .entry))) self (now (stream .entry))) ⌝ }
         ensures accepts { λ r. ⌜ OnlyByTheRules r (accountsOf (now (table .entry))) self (now (stream .entry)) ⌝ }
         ensures promises { λ _. ⌜ ServerPromises ⌝ }
     {
-        self.step_with(table::lookup(table, entry(stream)), stream)
+        if table::is_too_long(table) {
+            return self.stay(Answer::Refused(refusal::BAD_SETTING));
+        }
+        match front::read(stream, Sender::Client) {
+            Front::NeedMore => self.stay(Answer::NeedMore),
+            Front::Refused(r) => self.stay(Answer::Refused(r)),
+            Front::Whole { packet, size } => {
+                self.take(packet, size, found_for(table, packet, stream), stream)
+            }
+        }
     }
 
     // The same from what a lookup found, so that the accounts may be kept in any form. The record is compared with the
@@ -214,9 +252,9 @@ impl Server {
         }
     }
 
-    // The row of the table for the packet in front.
+    // The row of the table for the packet that was read in front.
     fn take(self, packet: Packet, size: usize, found: Found, stream: &[u8]) -> Stepped
-        requires { ⌜ headSize ≤ size ⌝ }
+        requires { ⌜ (headSize ≤ size) × IsInFront Client (packetKind packet) (now stream) ⌝ }
         ensures { λ r. ⌜ ServerSteps r (serverRow self (verdictOn found (entryOf (now (stream .entry))))
             (incoming size (letterFor (packetKind packet)) (packetValues packet)
             (sessionOf Client (now (stream .entry))))) ⌝ }
@@ -231,17 +269,18 @@ impl Server {
 
     // Waiting for a login.
     fn take_waiting(self, packet: Packet, size: usize, found: Found, stream: &[u8]) -> Stepped
+        requires { ⌜ IsInFront Client (packetKind packet) (now stream) ⌝ }
         ensures { λ r. ⌜ ServerSteps r (waitingRow self (verdictOn found (entryOf (now (stream .entry))))
             (incoming size (letterFor (packetKind packet)) (packetValues packet)
             (sessionOf Client (now (stream .entry))))) ⌝ }
     {
         match packet {
             Packet::Login { number } => {
-                let asked = front::session(stream, Sender::Client);
+                let asked = parts::part(stream, LOGIN_SESSION_AT, SESSION_SIZE);
                 let session = self.session;
                 let last = self.last;
                 self.log_in(
-                    decision::decide(found, entry(stream), asked, number, session, last),
+                    decision::decide(found, login_entry(stream), asked, number, session, last),
                     size,
                 )
             }

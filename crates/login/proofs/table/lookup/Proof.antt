@@ -18,6 +18,7 @@ lookup-spec =
     (tie.spec
     Inv-loop
     μ-loop
+    (λ c κs. search tables)  -- is-too-long-requires
     (λ c κs. search tables)  -- in-too-many-requires
     (λ c. (search tables, found-decides))  -- returns
     (λ c κs. search tables)  -- is-sound-requires

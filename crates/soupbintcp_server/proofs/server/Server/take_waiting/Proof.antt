@@ -8,8 +8,8 @@ take-waiting-spec =
     tie.close
     (tie.spec
     (λ c. search waiting-rows)  -- enum-known-packet
-    (λ c κs. search waiting-rows)  -- session-requires
-    (λ c κs. search waiting-rows)  -- entry-requires
+    (λ c κs. search waiting-rows)  -- part-requires
+    (λ c κs. search waiting-rows)  -- login-entry-requires
     (λ c κs. search waiting-rows)  -- decide-requires
     (λ c κs. search waiting-rows)  -- log-in-requires
     (λ c. search waiting-rows)  -- enum-told
