@@ -4,6 +4,7 @@ use mathlib.Core.List.{List, [], _∷_}
 use mathlib.Core.Bool.{Bool, true, false, not}
 use Prim.Native.Nat.{ℕ, _+_, _-_, _≤_, _<_}
 use lib.Dec.{eqb}
+use lib.ListN.{take, drop}
 use borrow.Author.Tests.{lt-ltb, le-ltb, eq-eqb, ne-eqb, not-true, not-false}
 use types.Run.{OneOf}
 use denote.Enum.Declared.{tagOf}
@@ -19,7 +20,8 @@ use Rattle.soupbintcp.specs.declared.packet.Packet.the-variants as packet
 use Rattle.soupbintcp.specs.declared.front.Front.{Front}
 use Rattle.soupbintcp.specs.declared.front.Front.the-variants as front
 use Rattle.soupbintcp.specs.Letters.{debug, accepted, rejected, sequenced, server-heartbeat, end-of-session, packetKind, packetValues, letterFor}
-use Rattle.soupbintcp.specs.Front.{frontWords, frontOf, sessionOf}
+use Rattle.soupbintcp.specs.Front.{frontWords, frontOf, sessionOf, IsInFront}
+use Rattle.soupbintcp.proofs.InFrontLaws.{accepted-session}
 use Rattle.soupbintcp.proofs.packet.Packet.{the-type}
 use Rattle.soupbintcp_session.specs.declared.answer.Answer.{Answer}
 use Rattle.soupbintcp_session.specs.declared.answer.Answer.the-variants.{NeedMore, Accepted, Rejected, Sequenced, Heartbeat, Debug, EndOfSession, Refused}
@@ -113,12 +115,19 @@ module _ (c : Client) (size : ℕ) (given : List ℕ) (t : Bool) where
 
 -- ---- a login was asked for
 
-module _ (c : Client) (p : Packet) (size : ℕ) (given : List ℕ) (r : Stepped) where
-  pub asked-A : (n : SequenceNumber) (y : List ℕ) → p ≡ packet.Accepted n → y ≡ given → ClientSteps r (acceptedRow c size y (n .0))
-      → ClientSteps r (askedRow c (incoming size (letterFor (packetKind p)) (packetValues p) given))
-  unfolding askedRow letterFor packetKind packetValues
-  asked-A n y e f g = rw (e, ← f) g
+is-accepted : (l : List ℕ) (p : Packet) (n : SequenceNumber) → IsInFront Server (packetKind p) l → p ≡ packet.Accepted n → IsInFront Server accepted l
+unfolding packetKind
+is-accepted l p n f e = rw e at f
 
+pub asked-A : (c : Client) (p : Packet) (size : ℕ) (l : List ℕ) (r : Stepped) (n : SequenceNumber) (y : List ℕ) → p ≡ packet.Accepted n
+    → IsInFront Server (packetKind p) l → y ≡ take 10 (drop 3 l) → ClientSteps r (acceptedRow c size y (n .0))
+    → ClientSteps r (askedRow c (incoming size (letterFor (packetKind p)) (packetValues p) (sessionOf Server l)))
+unfolding askedRow letterFor packetKind packetValues
+asked-A c p size l r n y e i f g =
+    let h : y ≡ sessionOf Server l = f ∙ accepted-session Server l (is-accepted l p n i e) in
+    rw (e, ← h) g
+
+module _ (c : Client) (p : Packet) (size : ℕ) (given : List ℕ) (r : Stepped) where
   pub asked-J : (reason : ℕ) → p ≡ packet.Rejected reason → r ≡ goes-to (Rejected reason) size (becomes c Closed)
       → ClientSteps r (askedRow c (incoming size (letterFor (packetKind p)) (packetValues p) given))
   unfolding askedRow letterFor packetKind packetValues sessionAnswerWords

@@ -20,7 +20,7 @@ ghost use Rattle.wire.specs.Refusals.{badSetting};
 ghost use Rattle.soupbintcp.specs.Letters.{packetKind, packetValues, letterFor};
 ghost use Rattle.soupbintcp.specs.declared.packet.Sender.the-variants.{Server};
 ghost use Rattle.soupbintcp.specs.Head.{headSize};
-ghost use Rattle.soupbintcp.specs.Front.{sessionOf};
+ghost use Rattle.soupbintcp.specs.Front.{sessionOf, IsInFront};
 ghost use Rattle.soupbintcp_session.specs.Answer.{incoming};
 ghost use Rattle.soupbintcp_client.specs.Client.{client, refusedClient, clientStartRefusal, startClient};
 ghost use Rattle.soupbintcp_client.specs.Client.{sessionAsked, numberAsked, ClientSteps, acceptedRow};
@@ -146,9 +146,9 @@ impl Client {
         }
     }
 
-    // The row of the table for the packet in front.
+    // The row of the table for the packet that was read in front.
     fn take(self, packet: Packet, size: usize, stream: &[u8]) -> Stepped
-        requires { ⌜ headSize ≤ size ⌝ }
+        requires { ⌜ (headSize ≤ size) × IsInFront Server (packetKind packet) (now stream) ⌝ }
         ensures { λ r. ⌜ ClientSteps r (clientRow self (incoming size (letterFor (packetKind packet))
             (packetValues packet) (sessionOf Server (now (stream .entry))))) ⌝ }
     {
@@ -163,12 +163,14 @@ impl Client {
 
     // A login was asked for.
     fn take_asked(self, packet: Packet, size: usize, stream: &[u8]) -> Stepped
+        requires { ⌜ IsInFront Server (packetKind packet) (now stream) ⌝ }
         ensures { λ r. ⌜ ClientSteps r (askedRow self (incoming size (letterFor (packetKind packet))
             (packetValues packet) (sessionOf Server (now (stream .entry))))) ⌝ }
     {
         match packet {
             Packet::Accepted { number } => {
-                self.log_in(size, front::session(stream, Sender::Server), number)
+                let given = parts::part(stream, ByteOffset(HEAD_SIZE), SESSION_SIZE);
+                self.log_in(size, given, number)
             }
             Packet::Rejected { reason } => self.goes(
                 Answer::Rejected { reason },

@@ -8,7 +8,7 @@ take-asked-spec =
     tie.close
     (tie.spec
     (λ c. search asked-rows)  -- enum-known-packet
-    (λ c κs. search asked-rows)  -- session-requires
+    (λ c κs. search asked-rows)  -- part-requires
     (λ c κs. search asked-rows)  -- log-in-requires
     (λ c. search asked-rows)  -- enum-known-packet-2
     (λ c κs. search asked-rows)  -- goes-requires
