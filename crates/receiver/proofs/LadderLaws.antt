@@ -1,11 +1,12 @@
 -- Laws of the refusals: r is the receiver, l the datagram, p what the reader found in it.
-use mathlib.Core.Path.{_≡_, sym, _∙_}
+use mathlib.Core.Path.{_≡_, refl, sym, _∙_}
 use mathlib.Core.List.{List, [], _∷_}
 use mathlib.Core.Bool.{Bool, true, false, not}
-use Prim.Native.Nat.{ℕ}
+use Prim.Native.Nat.{ℕ, _+_, _≤_, _<_}
 use lib.ListN.{take}
-use lib.Dec.{ltb}
-use borrow.Author.Tests.{ne-eqb}
+use lib.Dec.{ltb, leb}
+use borrow.Author.Tests.{leb-true, leb-false, lt-ltb, le-ltb, ne-eqb}
+use Rattle.wire.specs.Bounds.{largestNumber}
 use Rattle.wire.specs.Bytes.{sameBytes}
 use Rattle.wire.specs.declared.refusal.Refusal.{Refusal}
 use Rattle.wire.specs.declared.kinds.SequenceNumber.{SequenceNumber}
@@ -16,7 +17,7 @@ use Rattle.moldudp64.specs.declared.downstream.Downstream.the-variants.{Data, H
 use Rattle.moldudp64.specs.Downstream.{DownstreamKind, data-packet, heartbeat, end-of-session, kindOf, refusalOf, downstreamOf, downstreamWords}
 use Rattle.moldudp64.proofs.DownstreamLaws.{kind-read, refusal-read, refused-number, number-read}
 use Rattle.receiver.specs.declared.receiver.Receiver.{Receiver}
-use Rattle.receiver.specs.Receiver.{otherSession, endBelow, ownRefusal, refusalFor}
+use Rattle.receiver.specs.Receiver.{otherSession, endBelow, ownRefusal, refusalFor, notReadAt, notRead, belowReadAt, belowRead, refusalRead}
 
 -- ---- the receiver's own rungs
 
@@ -37,39 +38,58 @@ module _ (r : Receiver) (l : List ℕ) (low b : Bool) where
   unfolding ownRefusal otherSession
   own-0 e f g h = rw (← e, f, g, h)
 
--- ---- the ladder, by what the reader found
+-- ---- the ladder, by what was read
 
-past-16 : (r : Receiver) (l : List ℕ) (k : DownstreamKind) → refusalOf l ≡ 0 → kindOf l ≡ k → ownRefusal r l (endBelow k (numberOf l) (r .next .0)) ≡ refusalFor r l
+module _ (p : Downstream) where
+  pub read-refused : (x : Refusal) → p ≡ Refused x → x .number ≡ notRead (downstreamWords p)
+  unfolding downstreamWords notReadAt
+  read-refused x e = rw e
+
+  module _ (n : SequenceNumber) (c : MessageCount) (t : Bool) (e : p ≡ Data n c) (f : t ≡ leb (n .0 + c .0) largestNumber) where
+    pub read-14 : t ≡ false → 14 ≡ notRead (downstreamWords p)
+    unfolding downstreamWords notReadAt
+    read-14 g = let h : largestNumber < n .0 + c .0 = leb-false _ _ (sym f ∙ g) in rw (e, lt-ltb _ _ h)
+
+    pub read-data : t ≡ true → 0 ≡ notRead (downstreamWords p)
+    unfolding downstreamWords notReadAt
+    read-data g = let h : n .0 + c .0 ≤ largestNumber = leb-true _ _ (sym f ∙ g) in rw (e, le-ltb _ _ h)
+
+  pub read-heartbeat : (n : SequenceNumber) → p ≡ Heartbeat n → 0 ≡ notRead (downstreamWords p)
+  unfolding downstreamWords notReadAt
+  read-heartbeat n e = rw e
+
+  pub read-end : (n : SequenceNumber) → p ≡ EndOfSession n → 0 ≡ notRead (downstreamWords p)
+  unfolding downstreamWords notReadAt
+  read-end n e = rw e
+
+module _ (r : Receiver) (p : Downstream) where
+  pub below-end : (n : SequenceNumber) (t : Bool) → p ≡ EndOfSession n → t ≡ ltb (n .0) (r .next .0) → t ≡ belowRead r (downstreamWords p)
+  unfolding downstreamWords belowReadAt endBelow
+  below-end n t e f = rw e f
+
+  pub below-data : (n : SequenceNumber) (c : MessageCount) → p ≡ Data n c → false ≡ belowRead r (downstreamWords p)
+  unfolding downstreamWords belowReadAt endBelow
+  below-data n c e = rw e
+
+  pub below-heartbeat : (n : SequenceNumber) → p ≡ Heartbeat n → false ≡ belowRead r (downstreamWords p)
+  unfolding downstreamWords belowReadAt endBelow
+  below-heartbeat n e = rw e
+
+  pub below-refused : (x : Refusal) → p ≡ Refused x → false ≡ belowRead r (downstreamWords p)
+  unfolding downstreamWords belowReadAt
+  below-refused x e = rw e
+
+module _ (r : Receiver) (l : List ℕ) (p : Downstream) (k : ℕ) (e : k ≡ notRead (downstreamWords p)) where
+  pub for-not-read : (k ≡ 0 → ⊥) → k ≡ refusalRead r l (downstreamWords p)
+  unfolding refusalRead
+  for-not-read z = rw (← e, ne-eqb _ _ z)
+
+  pub for-own : (low : Bool) (m : ℕ) → k ≡ 0 → low ≡ belowRead r (downstreamWords p) → m ≡ ownRefusal r l low → m ≡ refusalRead r l (downstreamWords p)
+  unfolding refusalRead
+  for-own low m z f g = rw (← e, z, ← f) g
+
+-- ---- what the reader finds in l
+
+pub past-16 : (r : Receiver) (l : List ℕ) → refusalOf l ≡ 0 → ownRefusal r l (endBelow (kindOf l) (numberOf l) (r .next .0)) ≡ refusalFor r l
 unfolding refusalFor
-past-16 r l k e f = rw (e, f)
-
-pub for-refused : (r : Receiver) (l : List ℕ) (p : Downstream) (x : Refusal) → downstreamWords p ≡ downstreamOf l → p ≡ Refused x → x .number ≡ refusalFor r l
-unfolding downstreamWords refusalFor
-for-refused r l p x e f =
-    let g = sym (rw f at e) in
-    let z = refusal-read l (x .number) g in
-    let n = refused-number l (x .number) g in
-    rw (ne-eqb _ _ z) (sym n)
-
-pub for-data : (r : Receiver) (l : List ℕ) (p : Downstream) (n : SequenceNumber) (c : MessageCount) (k : ℕ) → downstreamWords p ≡ downstreamOf l → p ≡ Data n c
-    → k ≡ ownRefusal r l false → k ≡ refusalFor r l
-unfolding downstreamWords endBelow
-for-data r l p n c k e f g =
-    let s = kind-read l data-packet (n .0 ∷ c .0 ∷ []) (sym (rw f at e)) in
-    g ∙ past-16 r l data-packet (s .0) (s .1)
-
-pub for-heartbeat : (r : Receiver) (l : List ℕ) (p : Downstream) (n : SequenceNumber) (k : ℕ) → downstreamWords p ≡ downstreamOf l → p ≡ Heartbeat n
-    → k ≡ ownRefusal r l false → k ≡ refusalFor r l
-unfolding downstreamWords endBelow
-for-heartbeat r l p n k e f g =
-    let s = kind-read l heartbeat (n .0 ∷ []) (sym (rw f at e)) in
-    g ∙ past-16 r l heartbeat (s .0) (s .1)
-
-pub for-end : (r : Receiver) (l : List ℕ) (p : Downstream) (n : SequenceNumber) (low : Bool) (k : ℕ) → downstreamWords p ≡ downstreamOf l
-    → p ≡ EndOfSession n → low ≡ ltb (n .0) (r .next .0) → k ≡ ownRefusal r l low → k ≡ refusalFor r l
-unfolding downstreamWords endBelow
-for-end r l p n low k e f d g =
-    let h = sym (rw f at e) in
-    let s = kind-read l end-of-session (n .0 ∷ []) h in
-    let v = number-read l end-of-session (n .0) [] h in
-    g ∙ rw d (rw (← v) (past-16 r l end-of-session (s .0) (s .1)))
+past-16 r l e = rw e

@@ -1,6 +1,7 @@
 pub mod StartLaws
 pub mod LadderLaws
 pub mod TableLaws
+pub mod ReadLaws
 pub mod Promises
 pub mod FeedLaws
 pub mod Sorts

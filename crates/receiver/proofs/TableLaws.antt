@@ -1,12 +1,15 @@
 -- Laws of the table and of the receiver's answer: r is the receiver, n its number, f and c the datagram's number and count.
 use mathlib.Core.Path.{_≡_, refl, sym, _∙_}
 use mathlib.Core.List.{List, [], _∷_}
-use mathlib.Core.Bool.{true}
+use mathlib.Core.Bool.{Bool, true, false}
 use Prim.Native.Nat.{ℕ, _+_, _-_, _≤_, _<_, min}
 use native.Mathlib.Omega.{arith}
 use mir.Val.{Fits}
 use mir.Syntax.{w16}
-use borrow.Author.Tests.{lt-ltb, le-ltb, ne-eqb}
+use lib.Dec.{ltb, eqb}
+use borrow.Author.Tests.{lt-ltb, le-ltb, ltb-false, eqb-true, ne-eqb}
+use Rattle.wire.specs.Bounds.{largestNumber}
+use Rattle.wire.specs.Choice.{if_then_else_}
 use Rattle.wire.specs.declared.refusal.Refusal.{Refusal}
 use Rattle.wire.specs.declared.kinds.SequenceNumber.{SequenceNumber}
 use Rattle.wire.specs.declared.kinds.MessageCount.{MessageCount}
@@ -14,15 +17,13 @@ use Rattle.wire.specs.declared.kinds.MessagePlace.{MessagePlace}
 use Rattle.moldudp64.specs.declared.downstream.Downstream.{Downstream}
 use Rattle.moldudp64.specs.declared.downstream.Downstream.the-variants.{Data, Heartbeat, EndOfSession}
 use Rattle.moldudp64.specs.declared.downstream.Downstream.the-variants as found
-use Rattle.moldudp64.specs.Downstream.{DownstreamKind, data-packet, heartbeat, end-of-session, downstreamOf, downstreamWords}
-use Rattle.moldudp64.proofs.DownstreamLaws.{sound, kind-read, number-read, refusal-read, refused-number, data-read}
+use Rattle.moldudp64.specs.Downstream.{DownstreamKind, data-packet, heartbeat, end-of-session, downstreamWords}
 use Rattle.receiver.specs.declared.receiver.Receiver.{Receiver}
 use Rattle.receiver.specs.declared.receiver.Taken.{Taken}
 use Rattle.receiver.specs.declared.receiver.Answer.{Answer}
 use Rattle.receiver.specs.declared.receiver.Answer.the-variants.{Deliver, Old, Quiet, Ask, Ended, Refused}
 use Rattle.receiver.specs.Table.{answerWords, askOutcome, table}
-use Rattle.receiver.specs.Receiver.{receiver, refusalFor, tableRow, afterRow, answerOf, receiverAfter, TakesRow}
-use Rattle.receiver.proofs.LadderLaws.{for-refused}
+use Rattle.receiver.specs.Receiver.{receiver, refusalFor, tableRow, ownRefusal, afterRow, answerOf, receiverAfter, notReadAt, notRead, belowRead, refusalRead, rowReadAt, answerRead, afterRead, TakesRow}
 
 abbrev stays : Receiver → Answer → Taken
 stays r a = record { answer = a; receiver = r }
@@ -84,11 +85,77 @@ pub end-now : (r m : Receiver) (f : ℕ) → f ≤ r .next .0 → m ≡ receiver
 unfolding table answerWords
 end-now r m f h e = rw (le-ltb _ _ h) (record { answers = refl; leaves = e })
 
--- ---- the answer to a datagram: k is its refusal, p what the reader found
+-- ---- the answer by what was read: k is its refusal, p what was read
 
-pub refused-answer : (r : Receiver) (l : List ℕ) (x : Refusal) → x .number ≡ refusalFor r l → (x .number ≡ 0 → ⊥) → answerWords (Refused x) ≡ answerOf r l
-unfolding answerWords answerOf
-refused-answer r l x e z = rw (← e, ne-eqb _ _ z)
+module _ (r : Receiver) (l : List ℕ) (p : Downstream) where
+  pub refused-read : (x : Refusal) → x .number ≡ refusalRead r l (downstreamWords p) → (x .number ≡ 0 → ⊥)
+      → answerWords (Refused x) ≡ answerRead r l (downstreamWords p)
+  unfolding answerWords answerRead
+  refused-read x e z = rw (← e, ne-eqb _ _ z)
+
+  pub refused-kept : (k : ℕ) → k ≡ refusalRead r l (downstreamWords p) → (k ≡ 0 → ⊥) → r ≡ afterRead r l (downstreamWords p)
+  unfolding afterRead
+  refused-kept k e z = rw (← e, ne-eqb _ _ z)
+
+  module _ (k : ℕ) (g : k ≡ refusalRead r l (downstreamWords p)) (z : k ≡ 0) where
+    none : refusalRead r l (downstreamWords p) ≡ 0
+    none = sym g ∙ z
+
+    read-good : notRead (downstreamWords p) ≡ 0
+    unfolding refusalRead
+    read-good = go (eqb (notRead (downstreamWords p)) 0) refl none
+      where
+        go : (t : Bool) → eqb (notRead (downstreamWords p)) 0 ≡ t → (if t then ownRefusal r l (belowRead r (downstreamWords p)) else notRead (downstreamWords p)) ≡ 0
+            → notRead (downstreamWords p) ≡ 0
+        go true e o = eqb-true _ _ e
+        go false e o = o
+
+    module _ (x : Taken) (n : SequenceNumber) (c : MessageCount) (f : p ≡ Data n c) (t : TakesRow x r (table (r .limit .0) (r .next .0) data-packet (n .0) (c .0))) where
+      pub data-answer : answerWords (x .answer) ≡ answerRead r l (downstreamWords p)
+      unfolding answerRead rowReadAt downstreamWords
+      data-answer = rw none (rw f (t .answers))
+
+      pub data-after : x .receiver ≡ afterRead r l (downstreamWords p)
+      unfolding afterRead rowReadAt downstreamWords
+      data-after = rw none (rw f (t .leaves))
+
+    module _ (x : Taken) (n : SequenceNumber) (f : p ≡ Heartbeat n) (t : TakesRow x r (table (r .limit .0) (r .next .0) heartbeat (n .0) 0)) where
+      pub heartbeat-answer : answerWords (x .answer) ≡ answerRead r l (downstreamWords p)
+      unfolding answerRead rowReadAt downstreamWords
+      heartbeat-answer = rw none (rw f (t .answers))
+
+      pub heartbeat-after : x .receiver ≡ afterRead r l (downstreamWords p)
+      unfolding afterRead rowReadAt downstreamWords
+      heartbeat-after = rw none (rw f (t .leaves))
+
+    module _ (x : Taken) (n : SequenceNumber) (f : p ≡ EndOfSession n) (t : TakesRow x r (table (r .limit .0) (r .next .0) end-of-session (n .0) 65535)) where
+      pub end-answer : answerWords (x .answer) ≡ answerRead r l (downstreamWords p)
+      unfolding answerRead rowReadAt downstreamWords table
+      end-answer = rw none (rw f (t .answers))
+
+      pub end-after : x .receiver ≡ afterRead r l (downstreamWords p)
+      unfolding afterRead rowReadAt downstreamWords table
+      end-after = rw none (rw f (t .leaves))
+
+    pub data-fits : (n : SequenceNumber) (c : MessageCount) → p ≡ Data n c → n .0 + c .0 ≤ 18446744073709551615
+    unfolding downstreamWords notReadAt
+    data-fits n c f = ltb-false _ _ (go (ltb largestNumber (n .0 + c .0)) (rw f at read-good))
+      where
+        go : (t : Bool) → _≡_ {A = ℕ} (if t then 14 else 0) 0 → t ≡ false
+        go true e = absurd (omega arith)
+        go false e = refl
+
+    -- a refusal of number 0 that was made up
+    module _ (y : Refusal) (f : p ≡ found.Refused y) where
+      pub found-answer : answerWords (Refused y) ≡ answerRead r l (downstreamWords p)
+      unfolding answerWords answerRead rowReadAt downstreamWords notReadAt
+      found-answer = let o : y .number ≡ 0 = rw f at read-good in rw none (rw (f, o))
+
+      pub found-kept : r ≡ afterRead r l (downstreamWords p)
+      unfolding afterRead rowReadAt downstreamWords
+      found-kept = rw none (rw f)
+
+-- ---- the answer to a datagram, refused or not
 
 pub refused-stays : (r : Receiver) (l : List ℕ) (k : ℕ) → k ≡ refusalFor r l → (k ≡ 0 → ⊥) → r ≡ receiverAfter r l
 unfolding receiverAfter
@@ -101,80 +168,3 @@ row-answer r l e = rw e
 pub row-after : (r : Receiver) (l : List ℕ) → refusalFor r l ≡ 0 → receiverAfter r l ≡ afterRow r (tableRow r l)
 unfolding receiverAfter
 row-after r l e = rw e
-
--- a row taken is the answer and the receiver after it
-pub record Done (r : Receiver) (l : List ℕ) (x : Taken) : Type 0 where
-  pub answered : answerWords (x .answer) ≡ answerOf r l
-  pub after : x .receiver ≡ receiverAfter r l
-
-done : (r : Receiver) (l : List ℕ) (x : Taken) (k : ℕ) → k ≡ refusalFor r l → k ≡ 0 → TakesRow x r (tableRow r l) → Done r l x
-done r l x k e z t =
-    let w = sym e ∙ z in
-    record { answered = t .answers ∙ sym (row-answer r l w); after = t .leaves ∙ sym (row-after r l w) }
-
-done-data : (r : Receiver) (l : List ℕ) (p : Downstream) (n : SequenceNumber) (c : MessageCount) (x : Taken) (k : ℕ)
-    → downstreamWords p ≡ downstreamOf l → p ≡ Data n c → k ≡ refusalFor r l → k ≡ 0
-    → TakesRow x r (table (r .limit .0) (r .next .0) data-packet (n .0) (c .0)) → Done r l x
-unfolding downstreamWords
-done-data r l p n c x k e f g z t =
-    let d = data-read l (n .0) (c .0) (sym (rw f at e)) in
-    done r l x k g z (rw (d .kind, ← d .first, ← d .count) t)
-
-done-heartbeat : (r : Receiver) (l : List ℕ) (p : Downstream) (n : SequenceNumber) (x : Taken) (k : ℕ)
-    → downstreamWords p ≡ downstreamOf l → p ≡ Heartbeat n → k ≡ refusalFor r l → k ≡ 0
-    → TakesRow x r (table (r .limit .0) (r .next .0) heartbeat (n .0) 0) → Done r l x
-unfolding downstreamWords table
-done-heartbeat r l p n x k e f g z t =
-    let h = sym (rw f at e) in
-    done r l x k g z (rw (kind-read l heartbeat (n .0 ∷ []) h .1, number-read l heartbeat (n .0) [] h) t)
-
-done-end : (r : Receiver) (l : List ℕ) (p : Downstream) (n : SequenceNumber) (x : Taken) (k : ℕ)
-    → downstreamWords p ≡ downstreamOf l → p ≡ EndOfSession n → k ≡ refusalFor r l → k ≡ 0
-    → TakesRow x r (table (r .limit .0) (r .next .0) end-of-session (n .0) 65535) → Done r l x
-unfolding downstreamWords table
-done-end r l p n x k e f g z t =
-    let h = sym (rw f at e) in
-    done r l x k g z (rw (kind-read l end-of-session (n .0 ∷ []) h .1, number-read l end-of-session (n .0) [] h) t)
-
-module _ (r : Receiver) (l : List ℕ) (p : Downstream) (x : Taken) (k : ℕ) where
-  pub data-answer : (n : SequenceNumber) (c : MessageCount) → downstreamWords p ≡ downstreamOf l → p ≡ Data n c → k ≡ refusalFor r l → k ≡ 0
-      → TakesRow x r (table (r .limit .0) (r .next .0) data-packet (n .0) (c .0)) → answerWords (x .answer) ≡ answerOf r l
-  data-answer n c e f g z t = done-data r l p n c x k e f g z t .answered
-
-  pub data-after : (n : SequenceNumber) (c : MessageCount) → downstreamWords p ≡ downstreamOf l → p ≡ Data n c → k ≡ refusalFor r l → k ≡ 0
-      → TakesRow x r (table (r .limit .0) (r .next .0) data-packet (n .0) (c .0)) → x .receiver ≡ receiverAfter r l
-  data-after n c e f g z t = done-data r l p n c x k e f g z t .after
-
-  pub heartbeat-answer : (n : SequenceNumber) → downstreamWords p ≡ downstreamOf l → p ≡ Heartbeat n → k ≡ refusalFor r l → k ≡ 0
-      → TakesRow x r (table (r .limit .0) (r .next .0) heartbeat (n .0) 0) → answerWords (x .answer) ≡ answerOf r l
-  heartbeat-answer n e f g z t = done-heartbeat r l p n x k e f g z t .answered
-
-  pub heartbeat-after : (n : SequenceNumber) → downstreamWords p ≡ downstreamOf l → p ≡ Heartbeat n → k ≡ refusalFor r l → k ≡ 0
-      → TakesRow x r (table (r .limit .0) (r .next .0) heartbeat (n .0) 0) → x .receiver ≡ receiverAfter r l
-  heartbeat-after n e f g z t = done-heartbeat r l p n x k e f g z t .after
-
-  pub end-answer : (n : SequenceNumber) → downstreamWords p ≡ downstreamOf l → p ≡ EndOfSession n → k ≡ refusalFor r l → k ≡ 0
-      → TakesRow x r (table (r .limit .0) (r .next .0) end-of-session (n .0) 65535) → answerWords (x .answer) ≡ answerOf r l
-  end-answer n e f g z t = done-end r l p n x k e f g z t .answered
-
-  pub end-after : (n : SequenceNumber) → downstreamWords p ≡ downstreamOf l → p ≡ EndOfSession n → k ≡ refusalFor r l → k ≡ 0
-      → TakesRow x r (table (r .limit .0) (r .next .0) end-of-session (n .0) 65535) → x .receiver ≡ receiverAfter r l
-  end-after n e f g z t = done-end r l p n x k e f g z t .after
-
--- what the reader refuses, the ladder does too
-pub never-refused : (r : Receiver) (l : List ℕ) (p : Downstream) (y : Refusal) (k : ℕ) → downstreamWords p ≡ downstreamOf l → p ≡ found.Refused y
-    → k ≡ refusalFor r l → k ≡ 0 → ⊥
-unfolding downstreamWords
-never-refused r l p y k e f g z =
-    let h = sym (rw f at e) in
-    refusal-read l (y .number) h (refused-number l (y .number) h ∙ for-refused r l p y e f ∙ sym g ∙ z)
-
--- data's numbers fit
-pub data-fits : (l : List ℕ) (p : Downstream) (n : SequenceNumber) (c : MessageCount) → downstreamWords p ≡ downstreamOf l → p ≡ Data n c
-    → n .0 + c .0 ≤ 18446744073709551615
-unfolding downstreamWords
-data-fits l p n c e f =
-    let d = data-read l (n .0) (c .0) (sym (rw f at e)) in
-    let s = sound l (d .well) .numbers-fit in
-    let b = d .blocks in
-    omega (arith, d .first)

@@ -3,16 +3,16 @@ use Prim.Native.Nat.{ℕ}
 use mathlib.Core.List.{List}
 use mathlib.Core.Bool.{Bool, true, false, not}
 use mathlib.Core.Path.{_≡_}
-use lib.ListN.{take}
+use lib.ListN.{getD, take}
 use lib.Dec.{ltb, eqb}
 use Rattle.wire.specs.Choice.{if_then_else_}
-use Rattle.wire.specs.Refusals.{badSetting, sessionDiffers, sessionEnded, endBelowExpected}
+use Rattle.wire.specs.Refusals.{badSetting, numbersRunOut, sessionDiffers, sessionEnded, endBelowExpected}
 use Rattle.wire.specs.Bounds.{leastNumber, largestNumber, leastLimit, largestLimit, sessionSize, blank}
-use Rattle.wire.specs.Words.{Words, refuses}
+use Rattle.wire.specs.Words.{Words, Case, answer, refused, refuses}
 use Rattle.wire.specs.Bytes.{sameBytes}
 use Rattle.moldudp64.specs.Header.{numberOf, countOf}
 use Rattle.moldudp64.specs.Downstream.{DownstreamKind, data-packet, heartbeat, end-of-session, kindOf, wellFormed}
-use Rattle.moldudp64.specs.Downstream.{refusalOf}
+use Rattle.moldudp64.specs.Downstream.{runOut, refusalOf, downstreamOf}
 use Rattle.receiver.specs.declared.receiver.Receiver.{Receiver}
 use Rattle.receiver.specs.declared.receiver.Started.{Started}
 use Rattle.receiver.specs.declared.receiver.Taken.{Taken}
@@ -89,6 +89,58 @@ answerOf r l = if accepted r l then tableRow r l .reply else refuses (refusalFor
 unfoldable pub receiverAfter : Receiver → List ℕ → Receiver
 receiverAfter r l = if accepted r l then afterRow r (tableRow r l) else r
 
+-- ---- the same by what a reader found, in its words w, of a datagram that begins with l. Anyone can make them up: 14 is
+-- then for numbers that no datagram has
+
+-- the number and the count in them
+abbrev pub numberRead : Words DownstreamKind → ℕ
+numberRead w = getD (w .values) 0 0
+
+abbrev pub countRead : Words DownstreamKind → ℕ
+countRead w = getD (w .values) 1 0
+
+-- what the reader refused, or 14 for data
+unfoldable pub notReadAt : Words DownstreamKind → Case DownstreamKind → ℕ
+notReadAt w (answer data-packet) = if runOut (numberRead w) (countRead w) then numbersRunOut else 0
+notReadAt w (answer heartbeat) = 0
+notReadAt w (answer end-of-session) = 0
+notReadAt w refused = w .refusal
+
+abbrev pub notRead : Words DownstreamKind → ℕ
+notRead w = notReadAt w (w .which)
+
+-- the ground of 20
+unfoldable pub belowReadAt : Receiver → Words DownstreamKind → Case DownstreamKind → Bool
+belowReadAt r w (answer k) = endBelow k (numberRead w) (r .next .0)
+belowReadAt r w refused = false
+
+abbrev pub belowRead : Receiver → Words DownstreamKind → Bool
+belowRead r w = belowReadAt r w (w .which)
+
+-- that, then 17, 18, 20, or 0
+unfoldable pub refusalRead : Receiver → List ℕ → Words DownstreamKind → ℕ
+refusalRead r l w = if eqb (notRead w) 0 then ownRefusal r l (belowRead r w) else notRead w
+
+-- the row of the table; a refusal of number 0, which no reader gives, is handed up
+unfoldable pub rowReadAt : Receiver → Words DownstreamKind → Case DownstreamKind → Outcome
+rowReadAt r w (answer k) = table (r .limit .0) (r .next .0) k (numberRead w) (countRead w)
+rowReadAt r w refused = record { reply = refuses 0; next = r .next .0; ends = false }
+
+abbrev pub rowRead : Receiver → Words DownstreamKind → Outcome
+rowRead r w = rowReadAt r w (w .which)
+
+unfoldable pub answerRead : Receiver → List ℕ → Words DownstreamKind → Words AnswerKind
+answerRead r l w =
+    if eqb (refusalRead r l w) 0 then rowRead r w .reply else refuses (refusalRead r l w)
+
+unfoldable pub afterRead : Receiver → List ℕ → Words DownstreamKind → Receiver
+afterRead r l w = if eqb (refusalRead r l w) 0 then afterRow r (rowRead r w) else r
+
+-- what a reader finds in a datagram is answered as the datagram is
+pub record ReadAsWhole : Type 0 where
+  pub answers : (r : Receiver) (l : List ℕ) → answerRead r l (downstreamOf l) ≡ answerOf r l
+  pub leaves : (r : Receiver) (l : List ℕ) → afterRead r l (downstreamOf l) ≡ receiverAfter r l
+
 -- ---- what a call promises
 
 -- of `new`, which returned x
@@ -99,6 +151,10 @@ Starts x name n limit =
 -- of `take`, which returned x
 abbrev pub Takes : Taken → Receiver → List ℕ → Type 0
 Takes x r l = (answerWords (x .answer) ≡ answerOf r l) × (x .receiver ≡ receiverAfter r l)
+
+-- of `take_read`, which returned x
+abbrev pub TakesRead : Taken → Receiver → List ℕ → Words DownstreamKind → Type 0
+TakesRead x r l w = (answerWords (x .answer) ≡ answerRead r l w) × (x .receiver ≡ afterRead r l w)
 
 -- ---- for private helpers alone; no public promise uses it
 

@@ -14,10 +14,10 @@ ghost use Prim.Native.Nat.{_+_, _≤_};
 ghost use Rattle.wire.specs.Bounds.{largestNumber};
 ghost use Rattle.wire.specs.Refusals.{badSetting};
 ghost use Rattle.moldudp64.specs.Header.{endCount};
-ghost use Rattle.moldudp64.specs.Downstream.{data-packet, heartbeat, end-of-session, downstreamOf, downstreamWords};
+ghost use Rattle.moldudp64.specs.Downstream.{data-packet, heartbeat, end-of-session, downstreamWords};
 ghost use Rattle.receiver.specs.Table.{askOutcome, table};
-ghost use Rattle.receiver.specs.Receiver.{receiver, refusedReceiver, ownRefusal, refusalFor};
-ghost use Rattle.receiver.specs.Receiver.{Starts, Takes, TakesRow};
+ghost use Rattle.receiver.specs.Receiver.{receiver, refusedReceiver, ownRefusal, notRead, belowRead, refusalRead};
+ghost use Rattle.receiver.specs.Receiver.{ReadAsWhole, Starts, Takes, TakesRead, TakesRow};
 ghost use Rattle.receiver.specs.Statements.{ReceiverPromises};
 ghost use Rattle.receiver.specs.Condition3.{Condition3};
 ghost use Rattle.receiver.specs.Witnesses.{NotVacuous, NotWeak};
@@ -79,6 +79,24 @@ fn refused_start() -> Started
     }
 }
 
+// What the reader refused; 14 for data whose numbers run out, which no reader finds; or 0.
+fn not_read(packet: Downstream) -> Refusal
+    ensures { λ r. ⌜ r .number ≡ notRead (downstreamWords packet) ⌝ }
+{
+    match packet {
+        Downstream::Refused(r) => r,
+        Downstream::Data { first, count } => {
+            if first.has_room(count) {
+                refusal::NONE
+            } else {
+                refusal::NUMBERS_RUN_OUT
+            }
+        }
+        Downstream::Heartbeat { next: _ } => refusal::NONE,
+        Downstream::EndOfSession { next: _ } => refusal::NONE,
+    }
+}
+
 impl Receiver {
     // The settings that a start takes: the smallest and largest number, the smallest and largest asking limit.
     pub const LEAST_NUMBER: SequenceNumber = kinds::LEAST_NUMBER;
@@ -125,8 +143,16 @@ impl Receiver {
         ensures { λ r. ⌜ Takes r self (now (datagram .entry)) ⌝ }
         ensures promises { λ _. ⌜ ReceiverPromises ⌝ }
     {
-        let packet = downstream::read(datagram);
-        let refused = self.refusal_for(datagram, packet);
+        self.take_read(downstream::read(datagram), datagram)
+    }
+
+    // The same by what was read, so that a caller can look at that before it has a receiver. It may be made up, or of
+    // another datagram than the one whose session is compared.
+    pub fn take_read(self, packet: Downstream, datagram: &[u8]) -> Taken
+        ensures { λ r. ⌜ TakesRead r self (now (datagram .entry)) (downstreamWords packet) ⌝ }
+        ensures as_whole { λ _. ⌜ ReadAsWhole ⌝ }
+    {
+        let refused = self.refusal_for(packet, datagram);
         if refused.number != 0 {
             return Taken {
                 answer: Answer::Refused(refused),
@@ -144,19 +170,26 @@ impl Receiver {
         }
     }
 
-    // The lowest of 11 to 16, 17, 18 and 20 that applies to a datagram that was read, or 0.
-    fn refusal_for(self, datagram: &[u8], packet: Downstream) -> Refusal
-        requires { ⌜ downstreamWords packet ≡ downstreamOf (now datagram) ⌝ }
-        ensures { λ r. ⌜ r .number ≡ refusalFor self (now (datagram .entry)) ⌝ }
+    // What the reader refused, or 14, 17, 18, 20, or 0. The session is compared once, for every kind of packet.
+    fn refusal_for(self, packet: Downstream, datagram: &[u8]) -> Refusal
+        ensures { λ r. ⌜ r .number ≡ refusalRead self (now (datagram .entry)) (downstreamWords packet) ⌝ }
+    {
+        let refused = not_read(packet);
+        if refused.number != 0 {
+            return refused;
+        }
+        self.own_refusal(datagram, self.ends_below(packet))
+    }
+
+    // Whether it is an end of session below the expected number.
+    fn ends_below(self, packet: Downstream) -> bool
+        ensures { λ r. ⌜ r ≡ belowRead self (downstreamWords packet) ⌝ }
     {
         match packet {
-            Downstream::Refused(r) => r,
-            Downstream::Data { first: _, count: _ } => self.own_refusal(datagram, false),
-            Downstream::Heartbeat { next: _ } => self.own_refusal(datagram, false),
-            Downstream::EndOfSession { next } => self.own_refusal(
-                datagram,
-                next.is_below(self.next),
-            ),
+            Downstream::EndOfSession { next } => next.is_below(self.next),
+            Downstream::Data { first: _, count: _ } => false,
+            Downstream::Heartbeat { next: _ } => false,
+            Downstream::Refused(_) => false,
         }
     }
 
