@@ -89,7 +89,7 @@ pub fn read(datagram: &[u8]) -> Downstream
 }
 
 // The refusal in what a datagram says, its number 0 where there is none.
-fn refusal_in(packet: Downstream) -> Refusal
+pub fn refusal_in(packet: Downstream) -> Refusal
     ensures { λ r. ⌜ r .number ≡ downstreamWords packet .refusal ⌝ }
 {
     match packet {

@@ -1,12 +1,11 @@
 -- Laws of the refusals: r is the receiver, l the datagram, p what the reader found in it.
-use mathlib.Core.Path.{_≡_, refl, sym, _∙_}
+use mathlib.Core.Path.{_≡_}
 use mathlib.Core.List.{List, [], _∷_}
 use mathlib.Core.Bool.{Bool, true, false, not}
-use Prim.Native.Nat.{ℕ, _+_, _≤_, _<_}
+use Prim.Native.Nat.{ℕ}
 use lib.ListN.{take}
-use lib.Dec.{ltb, leb}
-use borrow.Author.Tests.{leb-true, leb-false, lt-ltb, le-ltb, ne-eqb}
-use Rattle.wire.specs.Bounds.{largestNumber}
+use lib.Dec.{ltb}
+use borrow.Author.Tests.{ne-eqb}
 use Rattle.wire.specs.Bytes.{sameBytes}
 use Rattle.wire.specs.declared.refusal.Refusal.{Refusal}
 use Rattle.wire.specs.declared.kinds.SequenceNumber.{SequenceNumber}
@@ -17,7 +16,7 @@ use Rattle.moldudp64.specs.declared.downstream.Downstream.the-variants.{Data, H
 use Rattle.moldudp64.specs.Downstream.{DownstreamKind, data-packet, heartbeat, end-of-session, kindOf, refusalOf, downstreamOf, downstreamWords}
 use Rattle.moldudp64.proofs.DownstreamLaws.{kind-read, refusal-read, refused-number, number-read}
 use Rattle.receiver.specs.declared.receiver.Receiver.{Receiver}
-use Rattle.receiver.specs.Receiver.{otherSession, endBelow, ownRefusal, refusalFor, notReadAt, notRead, belowReadAt, belowRead, refusalRead}
+use Rattle.receiver.specs.Receiver.{otherSession, endBelow, ownRefusal, refusalFor, belowReadAt, belowRead, refusalRead}
 
 -- ---- the receiver's own rungs
 
@@ -40,28 +39,6 @@ module _ (r : Receiver) (l : List ℕ) (low b : Bool) where
 
 -- ---- the ladder, by what was read
 
-module _ (p : Downstream) where
-  pub read-refused : (x : Refusal) → p ≡ Refused x → x .number ≡ notRead (downstreamWords p)
-  unfolding downstreamWords notReadAt
-  read-refused x e = rw e
-
-  module _ (n : SequenceNumber) (c : MessageCount) (t : Bool) (e : p ≡ Data n c) (f : t ≡ leb (n .0 + c .0) largestNumber) where
-    pub read-14 : t ≡ false → 14 ≡ notRead (downstreamWords p)
-    unfolding downstreamWords notReadAt
-    read-14 g = let h : largestNumber < n .0 + c .0 = leb-false _ _ (sym f ∙ g) in rw (e, lt-ltb _ _ h)
-
-    pub read-data : t ≡ true → 0 ≡ notRead (downstreamWords p)
-    unfolding downstreamWords notReadAt
-    read-data g = let h : n .0 + c .0 ≤ largestNumber = leb-true _ _ (sym f ∙ g) in rw (e, le-ltb _ _ h)
-
-  pub read-heartbeat : (n : SequenceNumber) → p ≡ Heartbeat n → 0 ≡ notRead (downstreamWords p)
-  unfolding downstreamWords notReadAt
-  read-heartbeat n e = rw e
-
-  pub read-end : (n : SequenceNumber) → p ≡ EndOfSession n → 0 ≡ notRead (downstreamWords p)
-  unfolding downstreamWords notReadAt
-  read-end n e = rw e
-
 module _ (r : Receiver) (p : Downstream) where
   pub below-end : (n : SequenceNumber) (t : Bool) → p ≡ EndOfSession n → t ≡ ltb (n .0) (r .next .0) → t ≡ belowRead r (downstreamWords p)
   unfolding downstreamWords belowReadAt endBelow
@@ -79,14 +56,14 @@ module _ (r : Receiver) (p : Downstream) where
   unfolding downstreamWords belowReadAt
   below-refused x e = rw e
 
-module _ (r : Receiver) (l : List ℕ) (p : Downstream) (k : ℕ) (e : k ≡ notRead (downstreamWords p)) where
-  pub for-not-read : (k ≡ 0 → ⊥) → k ≡ refusalRead r l (downstreamWords p)
+module _ (r : Receiver) (l : List ℕ) (p : Downstream) (k : ℕ) (e : k ≡ downstreamWords p .refusal) where
+  pub for-read : (k ≡ 0 → ⊥) → k ≡ refusalRead r l (downstreamWords p)
   unfolding refusalRead
-  for-not-read z = rw (← e, ne-eqb _ _ z)
+  for-read z = rw (← e, ne-eqb _ _ z)
 
   pub for-own : (low : Bool) (m : ℕ) → k ≡ 0 → low ≡ belowRead r (downstreamWords p) → m ≡ ownRefusal r l low → m ≡ refusalRead r l (downstreamWords p)
   unfolding refusalRead
-  for-own low m z f g = rw (← e, z, ← f) g
+  for-own low m z f g = rw (← f, ← e, z) g
 
 -- ---- what the reader finds in l
 

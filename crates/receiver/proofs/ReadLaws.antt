@@ -2,11 +2,10 @@
 use mathlib.Core.Path.{_≡_, refl, sym, _∙_}
 use mathlib.Core.List.{List}
 use mathlib.Core.Bool.{Bool, true, false}
-use Prim.Native.Nat.{ℕ, _+_, _≤_}
+use Prim.Native.Nat.{ℕ}
 use native.Mathlib.Omega.{arith}
 use lib.Dec.{eqb}
-use borrow.Author.Tests.{le-ltb, eqb-true, eqb-false, ne-eqb}
-use Rattle.wire.specs.Bounds.{largestNumber}
+use borrow.Author.Tests.{eqb-true, eqb-false, ne-eqb}
 use Rattle.wire.specs.Words.{Words, says, refuses}
 use Rattle.moldudp64.specs.Header.{numberOf, countOf}
 use Rattle.moldudp64.specs.declared.downstream.Downstream.{Downstream}
@@ -14,8 +13,8 @@ use Rattle.moldudp64.specs.Downstream.{DownstreamKind, data-packet, heartbeat, 
 use Rattle.moldudp64.proofs.DownstreamLaws.{sound}
 use Rattle.receiver.specs.declared.receiver.Receiver.{Receiver}
 use Rattle.receiver.specs.declared.receiver.Taken.{Taken}
-use Rattle.receiver.specs.Table.{table, answerWords}
-use Rattle.receiver.specs.Receiver.{refusalFor, answerOf, receiverAfter, numberRead, notReadAt, notRead, belowReadAt, refusalRead, rowReadAt, rowRead, answerRead, afterRead, ReadAsWhole}
+use Rattle.receiver.specs.Table.{table, numbered, answerWords}
+use Rattle.receiver.specs.Receiver.{refusalFor, answerOf, receiverAfter, numberRead, belowReadAt, refusalRead, rowReadAt, rowRead, answerRead, afterRead, ReadAsWhole}
 use Rattle.receiver.proofs.LadderLaws.{past-16}
 
 module _ (r : Receiver) (l : List ℕ) where
@@ -30,7 +29,7 @@ module _ (r : Receiver) (l : List ℕ) where
     refuses-it = rw (ne-eqb _ _ bad)
 
     refused-read : refusalRead r l (downstreamOf l) ≡ refusalFor r l
-    unfolding refusalRead notReadAt
+    unfolding refusalRead
     refused-read = rw (reads-refused, refuses-it, ne-eqb _ _ bad)
 
     refused-as : answerRead r l (downstreamOf l) ≡ answerOf r l
@@ -47,14 +46,10 @@ module _ (r : Receiver) (l : List ℕ) where
     unfolding downstreamOf
     reads = rw well
 
-    read-good : (k : DownstreamKind) → kindOf l ≡ k → notRead (says k (valuesOf k l)) ≡ 0
-    unfolding notReadAt blockCount
-    read-good data-packet e =
-        let s = rw e at (sound l well .numbers-fit) in
-        let h : numberOf l + countOf l ≤ largestNumber = omega arith in
-        rw (le-ltb _ _ h)
-    read-good heartbeat e = refl
-    read-good end-of-session e = refl
+    -- all of its messages can be numbered
+    count-of : kindOf l ≡ data-packet → numbered (numberOf l) (countOf l) ≡ countOf l
+    unfolding blockCount
+    count-of e = let s = rw e at (sound l well .numbers-fit) in omega arith
 
     number-of : (k : DownstreamKind) → numberRead (says k (valuesOf k l)) ≡ numberOf l
     number-of data-packet = refl
@@ -63,21 +58,21 @@ module _ (r : Receiver) (l : List ℕ) where
 
     refusal-as : (k : DownstreamKind) → kindOf l ≡ k → refusalRead r l (says k (valuesOf k l)) ≡ refusalFor r l
     unfolding refusalRead belowReadAt
-    refusal-as k e = rw (read-good k e, number-of k) (rw e at (past-16 r l well))
+    refusal-as k e = rw (number-of k) (rw e at (past-16 r l well))
 
-    row-as : (k : DownstreamKind) → rowRead r (says k (valuesOf k l)) ≡ table (r .limit .0) (r .next .0) k (numberOf l) (countOf l)
+    row-as : (k : DownstreamKind) → kindOf l ≡ k → rowRead r (says k (valuesOf k l)) ≡ table (r .limit .0) (r .next .0) k (numberOf l) (countOf l)
     unfolding rowReadAt table
-    row-as data-packet = refl
-    row-as heartbeat = refl
-    row-as end-of-session = refl
+    row-as data-packet e = rw (count-of e)
+    row-as heartbeat e = refl
+    row-as end-of-session e = refl
 
     well-as : answerRead r l (downstreamOf l) ≡ answerOf r l
     unfolding answerRead answerOf
-    well-as = rw (reads, refusal-as (kindOf l) refl, row-as (kindOf l))
+    well-as = rw (reads, refusal-as (kindOf l) refl, row-as (kindOf l) refl)
 
     well-left : afterRead r l (downstreamOf l) ≡ receiverAfter r l
     unfolding afterRead receiverAfter
-    well-left = rw (reads, refusal-as (kindOf l) refl, row-as (kindOf l))
+    well-left = rw (reads, refusal-as (kindOf l) refl, row-as (kindOf l) refl)
 
   by-reader : {P : Type 0} → ((refusalOf l ≡ 0 → ⊥) → P) → (refusalOf l ≡ 0 → P) → P
   by-reader {P} f g = go (eqb (refusalOf l) 0) refl

@@ -5,10 +5,9 @@ use mathlib.Core.Bool.{Bool, true, false}
 use Prim.Native.Nat.{ℕ, _+_, _-_, _≤_, _<_, min}
 use native.Mathlib.Omega.{arith}
 use mir.Val.{Fits}
-use mir.Syntax.{w16}
-use lib.Dec.{ltb, eqb}
-use borrow.Author.Tests.{lt-ltb, le-ltb, ltb-false, eqb-true, ne-eqb}
-use Rattle.wire.specs.Bounds.{largestNumber}
+use mir.Syntax.{w16, w64}
+use lib.Dec.{eqb}
+use borrow.Author.Tests.{lt-ltb, le-ltb, eqb-true, ne-eqb}
 use Rattle.wire.specs.Choice.{if_then_else_}
 use Rattle.wire.specs.declared.refusal.Refusal.{Refusal}
 use Rattle.wire.specs.declared.kinds.SequenceNumber.{SequenceNumber}
@@ -22,8 +21,8 @@ use Rattle.receiver.specs.declared.receiver.Receiver.{Receiver}
 use Rattle.receiver.specs.declared.receiver.Taken.{Taken}
 use Rattle.receiver.specs.declared.receiver.Answer.{Answer}
 use Rattle.receiver.specs.declared.receiver.Answer.the-variants.{Deliver, Old, Quiet, Ask, Ended, Refused}
-use Rattle.receiver.specs.Table.{answerWords, askOutcome, table}
-use Rattle.receiver.specs.Receiver.{receiver, refusalFor, tableRow, ownRefusal, afterRow, answerOf, receiverAfter, notReadAt, notRead, belowRead, refusalRead, rowReadAt, answerRead, afterRead, TakesRow}
+use Rattle.receiver.specs.Table.{answerWords, askOutcome, table, numbered}
+use Rattle.receiver.specs.Receiver.{receiver, refusalFor, tableRow, afterRow, answerOf, receiverAfter, refusalRead, rowReadAt, answerRead, afterRead, TakesRow}
 
 abbrev stays : Receiver → Answer → Taken
 stays r a = record { answer = a; receiver = r }
@@ -48,24 +47,35 @@ above-ask r end-of-session f c x h t = rw (lt-ltb _ _ h) t
 
 -- ---- data
 
--- e is the number behind the data, k how many lie from n up to it, and p the place of n
-pub data-deliver : (r m : Receiver) (f c : ℕ) (e : SequenceNumber) (k : MessageCount) (p : MessagePlace) → f + c ≤ 18446744073709551615 → Fits w16 c
+-- the number behind as much of it as can be numbered
+behind : (f c : ℕ) → Fits w64 f → f + numbered f c ≡ min 18446744073709551615 (f + c)
+behind f c s = omega arith
+
+-- so few messages that a count holds them, wherever n lies
+counted : (n f c e k : ℕ) → Fits w16 c → f ≤ n → e ≡ min 18446744073709551615 (f + c) → k ≡ min 65535 (e - n) → e - n ≡ k
+counted n f c e k w h d a = let g : e ≤ f + c = omega (arith, d) in omega (arith, w, h, g, a)
+
+placed : (n f c e p : ℕ) → Fits w16 c → e ≡ min 18446744073709551615 (f + c) → n < e → p ≡ min 65535 (n - f) → n - f ≡ p
+placed n f c e p w d i b = let g : e ≤ f + c = omega (arith, d) in omega (arith, w, i, g, b)
+
+-- e is the number behind as much of the data as can be numbered, k how many lie from n up to it, and p the place of n
+pub data-deliver : (r m : Receiver) (f c : ℕ) (e : SequenceNumber) (k : MessageCount) (p : MessagePlace) → Fits w64 f → Fits w16 c
     → f ≤ r .next .0 → e .0 ≡ min 18446744073709551615 (f + c) → r .next .0 < e .0 → k .0 ≡ min 65535 (e .0 - r .next .0)
     → p .0 ≡ min 65535 (r .next .0 - f) → m ≡ receiver (r .session) (e .0) (r .limit .0) (r .ended)
-    → TakesRow (record { answer = Deliver (r .next) k p; receiver = m }) r (table (r .limit .0) (r .next .0) data-packet f c)
+    → TakesRow (record { answer = Deliver (r .next) k p; receiver = m }) r (table (r .limit .0) (r .next .0) data-packet f (numbered f c))
 unfolding table answerWords
 data-deliver r m f c e k p s w h d i a b g =
-    let u : e .0 ≡ f + c = omega arith in
-    let j : r .next .0 < f + c = omega arith in
-    let v : f + c - r .next .0 ≡ k .0 = omega arith in
-    let q : r .next .0 - f ≡ p .0 = omega arith in
+    let u : e .0 ≡ f + numbered f c = d ∙ sym (behind f c s) in
+    let j : r .next .0 < f + numbered f c = rw (← u) i in
+    let v : f + numbered f c - r .next .0 ≡ k .0 = rw (← u) (counted (r .next .0) f c (e .0) (k .0) w h d a) in
+    let q : r .next .0 - f ≡ p .0 = placed (r .next .0) f c (e .0) (p .0) w d i b in
     rw (le-ltb _ _ h, lt-ltb _ _ j, v, q) (record { answers = refl; leaves = g ∙ rw u })
 
-pub data-old : (r : Receiver) (f c e : ℕ) → f + c ≤ 18446744073709551615 → f ≤ r .next .0 → e ≡ min 18446744073709551615 (f + c) → e ≤ r .next .0
-    → TakesRow (stays r Old) r (table (r .limit .0) (r .next .0) data-packet f c)
+pub data-old : (r : Receiver) (f c e : ℕ) → Fits w64 f → f ≤ r .next .0 → e ≡ min 18446744073709551615 (f + c) → e ≤ r .next .0
+    → TakesRow (stays r Old) r (table (r .limit .0) (r .next .0) data-packet f (numbered f c))
 unfolding table answerWords
 data-old r f c e s h d i =
-    let j : f + c ≤ r .next .0 = omega arith in
+    let j : f + numbered f c ≤ r .next .0 = rw (behind f c s, ← d) i in
     rw (le-ltb _ _ h, le-ltb _ _ j) (record { answers = refl; leaves = refl })
 
 -- ---- heartbeat
@@ -101,16 +111,7 @@ module _ (r : Receiver) (l : List ℕ) (p : Downstream) where
     none : refusalRead r l (downstreamWords p) ≡ 0
     none = sym g ∙ z
 
-    read-good : notRead (downstreamWords p) ≡ 0
-    unfolding refusalRead
-    read-good = go (eqb (notRead (downstreamWords p)) 0) refl none
-      where
-        go : (t : Bool) → eqb (notRead (downstreamWords p)) 0 ≡ t → (if t then ownRefusal r l (belowRead r (downstreamWords p)) else notRead (downstreamWords p)) ≡ 0
-            → notRead (downstreamWords p) ≡ 0
-        go true e o = eqb-true _ _ e
-        go false e o = o
-
-    module _ (x : Taken) (n : SequenceNumber) (c : MessageCount) (f : p ≡ Data n c) (t : TakesRow x r (table (r .limit .0) (r .next .0) data-packet (n .0) (c .0))) where
+    module _ (x : Taken) (n : SequenceNumber) (c : MessageCount) (f : p ≡ Data n c) (t : TakesRow x r (table (r .limit .0) (r .next .0) data-packet (n .0) (numbered (n .0) (c .0)))) where
       pub data-answer : answerWords (x .answer) ≡ answerRead r l (downstreamWords p)
       unfolding answerRead rowReadAt downstreamWords
       data-answer = rw none (rw f (t .answers))
@@ -121,11 +122,11 @@ module _ (r : Receiver) (l : List ℕ) (p : Downstream) where
 
     module _ (x : Taken) (n : SequenceNumber) (f : p ≡ Heartbeat n) (t : TakesRow x r (table (r .limit .0) (r .next .0) heartbeat (n .0) 0)) where
       pub heartbeat-answer : answerWords (x .answer) ≡ answerRead r l (downstreamWords p)
-      unfolding answerRead rowReadAt downstreamWords
+      unfolding answerRead rowReadAt downstreamWords table
       heartbeat-answer = rw none (rw f (t .answers))
 
       pub heartbeat-after : x .receiver ≡ afterRead r l (downstreamWords p)
-      unfolding afterRead rowReadAt downstreamWords
+      unfolding afterRead rowReadAt downstreamWords table
       heartbeat-after = rw none (rw f (t .leaves))
 
     module _ (x : Taken) (n : SequenceNumber) (f : p ≡ EndOfSession n) (t : TakesRow x r (table (r .limit .0) (r .next .0) end-of-session (n .0) 65535)) where
@@ -137,19 +138,18 @@ module _ (r : Receiver) (l : List ℕ) (p : Downstream) where
       unfolding afterRead rowReadAt downstreamWords table
       end-after = rw none (rw f (t .leaves))
 
-    pub data-fits : (n : SequenceNumber) (c : MessageCount) → p ≡ Data n c → n .0 + c .0 ≤ 18446744073709551615
-    unfolding downstreamWords notReadAt
-    data-fits n c f = ltb-false _ _ (go (ltb largestNumber (n .0 + c .0)) (rw f at read-good))
-      where
-        go : (t : Bool) → _≡_ {A = ℕ} (if t then 14 else 0) 0 → t ≡ false
-        go true e = absurd (omega arith)
-        go false e = refl
-
     -- a refusal of number 0 that was made up
     module _ (y : Refusal) (f : p ≡ found.Refused y) where
       pub found-answer : answerWords (Refused y) ≡ answerRead r l (downstreamWords p)
-      unfolding answerWords answerRead rowReadAt downstreamWords notReadAt
-      found-answer = let o : y .number ≡ 0 = rw f at read-good in rw none (rw (f, o))
+      unfolding answerWords answerRead refusalRead rowReadAt downstreamWords
+      found-answer = let o : y .number ≡ 0 = zero (y .number) _ (rw f at none) in rw none (rw (f, o))
+        where
+          zero : (n m : ℕ) → (if eqb n 0 then m else n) ≡ 0 → n ≡ 0
+          zero n m e = go (eqb n 0) refl e
+            where
+              go : (t : Bool) → eqb n 0 ≡ t → (if t then m else n) ≡ 0 → n ≡ 0
+              go true d e = eqb-true _ _ d
+              go false d e = e
 
       pub found-kept : r ≡ afterRead r l (downstreamWords p)
       unfolding afterRead rowReadAt downstreamWords

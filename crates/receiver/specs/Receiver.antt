@@ -6,17 +6,17 @@ use mathlib.Core.Path.{_≡_}
 use lib.ListN.{getD, take}
 use lib.Dec.{ltb, eqb}
 use Rattle.wire.specs.Choice.{if_then_else_}
-use Rattle.wire.specs.Refusals.{badSetting, numbersRunOut, sessionDiffers, sessionEnded, endBelowExpected}
+use Rattle.wire.specs.Refusals.{badSetting, sessionDiffers, sessionEnded, endBelowExpected}
 use Rattle.wire.specs.Bounds.{leastNumber, largestNumber, leastLimit, largestLimit, sessionSize, blank}
 use Rattle.wire.specs.Words.{Words, Case, answer, refused, refuses}
 use Rattle.wire.specs.Bytes.{sameBytes}
 use Rattle.moldudp64.specs.Header.{numberOf, countOf}
 use Rattle.moldudp64.specs.Downstream.{DownstreamKind, data-packet, heartbeat, end-of-session, kindOf, wellFormed}
-use Rattle.moldudp64.specs.Downstream.{runOut, refusalOf, downstreamOf}
+use Rattle.moldudp64.specs.Downstream.{refusalOf, downstreamOf}
 use Rattle.receiver.specs.declared.receiver.Receiver.{Receiver}
 use Rattle.receiver.specs.declared.receiver.Started.{Started}
 use Rattle.receiver.specs.declared.receiver.Taken.{Taken}
-use Rattle.receiver.specs.Table.{AnswerKind, Outcome, table, answerWords}
+use Rattle.receiver.specs.Table.{AnswerKind, Outcome, table, numbered, answerWords}
 
 -- a receiver of this name, number, limit, ended or not
 abbrev pub receiver : List ℕ → ℕ → ℕ → Bool → Receiver
@@ -89,25 +89,15 @@ answerOf r l = if accepted r l then tableRow r l .reply else refuses (refusalFor
 unfoldable pub receiverAfter : Receiver → List ℕ → Receiver
 receiverAfter r l = if accepted r l then afterRow r (tableRow r l) else r
 
--- ---- the same by what a reader found, in its words w, of a datagram that begins with l. Anyone can make them up: 14 is
--- then for numbers that no datagram has
+-- ---- the same by what a reader found, in its words w, of a datagram that begins with l. Anyone can make them up: data
+-- then has as many messages as can be numbered
 
 -- the number and the count in them
 abbrev pub numberRead : Words DownstreamKind → ℕ
 numberRead w = getD (w .values) 0 0
 
 abbrev pub countRead : Words DownstreamKind → ℕ
-countRead w = getD (w .values) 1 0
-
--- what the reader refused, or 14 for data
-unfoldable pub notReadAt : Words DownstreamKind → Case DownstreamKind → ℕ
-notReadAt w (answer data-packet) = if runOut (numberRead w) (countRead w) then numbersRunOut else 0
-notReadAt w (answer heartbeat) = 0
-notReadAt w (answer end-of-session) = 0
-notReadAt w refused = w .refusal
-
-abbrev pub notRead : Words DownstreamKind → ℕ
-notRead w = notReadAt w (w .which)
+countRead w = numbered (numberRead w) (getD (w .values) 1 0)
 
 -- the ground of 20
 unfoldable pub belowReadAt : Receiver → Words DownstreamKind → Case DownstreamKind → Bool
@@ -117,9 +107,9 @@ belowReadAt r w refused = false
 abbrev pub belowRead : Receiver → Words DownstreamKind → Bool
 belowRead r w = belowReadAt r w (w .which)
 
--- that, then 17, 18, 20, or 0
+-- what the reader refused, then 17, 18, 20, or 0
 unfoldable pub refusalRead : Receiver → List ℕ → Words DownstreamKind → ℕ
-refusalRead r l w = if eqb (notRead w) 0 then ownRefusal r l (belowRead r w) else notRead w
+refusalRead r l w = if eqb (w .refusal) 0 then ownRefusal r l (belowRead r w) else w .refusal
 
 -- the row of the table; a refusal of number 0, which no reader gives, is handed up
 unfoldable pub rowReadAt : Receiver → Words DownstreamKind → Case DownstreamKind → Outcome

@@ -4,6 +4,7 @@ use mathlib.Core.List.{[], _∷_}
 use mathlib.Core.Bool.{Bool, true, false}
 use mathlib.Core.Path.{_≡_}
 use lib.Dec.{ltb}
+use Rattle.wire.specs.Bounds.{largestNumber}
 use Rattle.wire.specs.Choice.{if_then_else_}
 use Rattle.wire.specs.Words.{Words, says, refusedWords}
 use Rattle.moldudp64.specs.Downstream.{DownstreamKind, data-packet, heartbeat, end-of-session}
@@ -61,6 +62,10 @@ table limit n data-packet f c =
     else oldOutcome n
 table limit n heartbeat f c = if ltb n f then askOutcome limit n f else if ltb f n then oldOutcome n else quietOutcome n
 table limit n end-of-session f c = if ltb n f then askOutcome limit n f else endedOutcome n
+
+-- how many of c messages from number f on can be numbered: all of them in every datagram that is read
+abbrev pub numbered : ℕ → ℕ → ℕ
+numbered f c = min c (largestNumber - f)
 
 -- ---- the same, a row each, as document 01 prints it
 

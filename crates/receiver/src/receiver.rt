@@ -10,13 +10,11 @@ use wire::kinds::SequenceNumber;
 use wire::refusal;
 use wire::refusal::Refusal;
 ghost use mathlib.Core.Path.{_≡_};
-ghost use Prim.Native.Nat.{_+_, _≤_};
-ghost use Rattle.wire.specs.Bounds.{largestNumber};
 ghost use Rattle.wire.specs.Refusals.{badSetting};
 ghost use Rattle.moldudp64.specs.Header.{endCount};
 ghost use Rattle.moldudp64.specs.Downstream.{data-packet, heartbeat, end-of-session, downstreamWords};
-ghost use Rattle.receiver.specs.Table.{askOutcome, table};
-ghost use Rattle.receiver.specs.Receiver.{receiver, refusedReceiver, ownRefusal, notRead, belowRead, refusalRead};
+ghost use Rattle.receiver.specs.Table.{askOutcome, table, numbered};
+ghost use Rattle.receiver.specs.Receiver.{receiver, refusedReceiver, ownRefusal, belowRead, refusalRead};
 ghost use Rattle.receiver.specs.Receiver.{ReadAsWhole, Starts, Takes, TakesRead, TakesRow};
 ghost use Rattle.receiver.specs.Statements.{ReceiverPromises};
 ghost use Rattle.receiver.specs.Condition3.{Condition3};
@@ -76,24 +74,6 @@ fn refused_start() -> Started
             limit: MessageCount(1),
             ended: true,
         },
-    }
-}
-
-// What the reader refused; 14 for data whose numbers run out, which no reader finds; or 0.
-fn not_read(packet: Downstream) -> Refusal
-    ensures { λ r. ⌜ r .number ≡ notRead (downstreamWords packet) ⌝ }
-{
-    match packet {
-        Downstream::Refused(r) => r,
-        Downstream::Data { first, count } => {
-            if first.has_room(count) {
-                refusal::NONE
-            } else {
-                refusal::NUMBERS_RUN_OUT
-            }
-        }
-        Downstream::Heartbeat { next: _ } => refusal::NONE,
-        Downstream::EndOfSession { next: _ } => refusal::NONE,
     }
 }
 
@@ -170,11 +150,11 @@ impl Receiver {
         }
     }
 
-    // What the reader refused, or 14, 17, 18, 20, or 0. The session is compared once, for every kind of packet.
+    // What the reader refused, or 17, 18, 20, or 0. The session is compared once, for every kind of packet.
     fn refusal_for(self, packet: Downstream, datagram: &[u8]) -> Refusal
         ensures { λ r. ⌜ r .number ≡ refusalRead self (now (datagram .entry)) (downstreamWords packet) ⌝ }
     {
-        let refused = not_read(packet);
+        let refused = downstream::refusal_in(packet);
         if refused.number != 0 {
             return refused;
         }
@@ -239,10 +219,10 @@ impl Receiver {
         }
     }
 
-    // The rows for data.
+    // The rows for data: as many messages of it as can be numbered.
     fn take_data(self, first: SequenceNumber, count: MessageCount) -> Taken
-        requires { ⌜ first .0 + count .0 ≤ largestNumber ⌝ }
-        ensures { λ r. ⌜ TakesRow r self (table (self .limit .0) (self .next .0) data-packet (first .0) (count .0)) ⌝ }
+        ensures { λ r. ⌜ TakesRow r self (table (self .limit .0) (self .next .0) data-packet (first .0)
+            (numbered (first .0) (count .0))) ⌝ }
     {
         let next = self.next;
         if next.is_below(first) {

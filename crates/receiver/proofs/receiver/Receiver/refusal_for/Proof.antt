@@ -7,7 +7,7 @@ pub refusal-for-spec : {M : Type 1} → statement M
 refusal-for-spec =
     tie.close
     (tie.spec
-    (λ c κs. search ladder)  -- not-read-requires
+    (λ c κs. search ladder)  -- refusal-in-requires
     (λ c. search ladder)  -- returns
     (λ c κs. search ladder)  -- ends-below-requires
     (λ c κs. search ladder)  -- own-refusal-requires
