@@ -1,4 +1,4 @@
--- The refusal numbers of document 01, by name; 0 is none.
+-- The refusal numbers of documents 01 and 02, by name; 0 is none.
 use Prim.Native.Nat.{ℕ}
 
 -- a Mold datagram under 20 bytes
@@ -100,3 +100,19 @@ requestSize = 47
 -- a request whose count is 0 or 65,535
 abbrev pub requestCount : ℕ
 requestCount = 48
+
+-- the wanted number isn't in the store
+abbrev pub notInStore : ℕ
+notInStore = 51
+
+-- a message alone doesn't fit the packet's size
+abbrev pub messageLong : ℕ
+messageLong = 52
+
+-- a request's session isn't the store's
+abbrev pub storeDiffers : ℕ
+storeDiffers = 53
+
+-- a run has no packet at that place
+abbrev pub noSuchPacket : ℕ
+noSuchPacket = 54

@@ -1,4 +1,4 @@
-// Every refusal of document 01, by name, with its ground.
+// Every refusal of documents 01 and 02, by name, with its ground.
 
 // A refusal is handed up untouched by every caller. It holds its number.
 pub struct Refusal {
@@ -82,3 +82,15 @@ pub const REQUEST_SIZE: Refusal = Refusal { number: 47 };
 
 // A request whose count is 0 or 65,535.
 pub const REQUEST_COUNT: Refusal = Refusal { number: 48 };
+
+// The wanted number isn't in the store.
+pub const NOT_IN_STORE: Refusal = Refusal { number: 51 };
+
+// A message alone doesn't fit the packet's size.
+pub const MESSAGE_LONG: Refusal = Refusal { number: 52 };
+
+// A request's session isn't the store's.
+pub const STORE_DIFFERS: Refusal = Refusal { number: 53 };
+
+// A run has no packet at that place.
+pub const NO_SUCH_PACKET: Refusal = Refusal { number: 54 };
