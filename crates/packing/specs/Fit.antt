@@ -54,7 +54,7 @@ mostThatFit room (k ∷ ks) = if fitsAlone room k then suc (mostThatFit (room - 
 
 -- as a function answers it: how many, and the bytes of their data
 abbrev pub fitting : ℕ → List ℕ → Fit
-fitting room ks = record { count = mostThatFit room ks; data = total (take (mostThatFit room ks) ks) }
+fitting room ks = record { count = mostThatFit room ks; bytes = total (take (mostThatFit room ks) ks) }
 
 -- the first c of them fit
 pub record FirstFit (room : ℕ) (ks : List ℕ) (c : ℕ) : Type 0 where

@@ -6,7 +6,7 @@ ghost use Rattle.packing.specs.Fit.{fitting, PackingPromises};
 // How many messages, and the bytes of their data.
 pub struct Fit {
     pub count: usize,
-    pub data: usize,
+    pub bytes: usize,
 }
 
 // The most whole messages, from the first on, whose blocks fit into so many bytes.
@@ -16,15 +16,15 @@ pub fn most_that_fit(lengths: &[u16], room: usize) -> Fit
 {
     let mut left = room;
     let mut count: usize = 0;
-    let mut data: usize = 0;
+    let mut bytes: usize = 0;
     while count < lengths.len() {
         let length = lengths[count] as usize;
         if left < length + LENGTH_SIZE {
-            return Fit { count, data };
+            return Fit { count, bytes };
         }
         left -= length + LENGTH_SIZE;
-        data += length;
+        bytes += length;
         count += 1;
     }
-    Fit { count, data }
+    Fit { count, bytes }
 }

@@ -1,5 +1,5 @@
 -- What is promised of the transmitter's packets.
-use Prim.Native.Nat.{ℕ, _+_, _≤_, _<_, _^_}
+use Prim.Native.Nat.{ℕ, _≤_, _<_, _^_}
 use mathlib.Core.List.{List, [], _∷_}
 use mathlib.Core.Path.{_≡_}
 use lib.ListN.{length, getD, take}
@@ -10,7 +10,7 @@ use Rattle.moldudp64.specs.Downstream.{data-packet}
 use Rattle.moldudp64_writer.specs.Writer.{cut}
 use Rattle.moldudp64_writer.specs.RoundTrips.{DatagramReadsAs}
 use Rattle.packing.specs.Fit.{roomOf}
-use Rattle.transmitter.specs.Cutting.{Message, Group, CuttingUnder, TakesTheMost, NoneEmpty, startOf, groupAt}
+use Rattle.transmitter.specs.Cutting.{Message, Group, CuttingUnder, TakesTheMost, NoneEmpty, groupAt}
 use Rattle.transmitter.specs.Transmitter.{groupsOf, runGround, transmitGround, numberAt, packetAt}
 
 -- what holds of every run that isn't refused

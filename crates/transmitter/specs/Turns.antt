@@ -18,7 +18,7 @@ use Rattle.transmitter.specs.Transmitter.{runGround, transmitGround, pac
 
 -- so many messages, and so many bytes of their data
 abbrev pub progress : ℕ → ℕ → Progress
-progress messages data = record { messages = messages; data = data }
+progress messages bytes = record { messages = messages; bytes = bytes }
 
 -- a run that isn't refused begins at its first message; of a refused one nothing is left
 unfoldable pub startOfRun : ℕ → ℕ → List ℕ → List ℕ → Progress
@@ -32,7 +32,7 @@ nextLengths size ks p = take (mostThatFit (roomOf size) (drop (p .messages) ks))
 
 -- its data: as much as these lengths make of what is left
 unfoldable pub nextData : ℕ → List ℕ → List ℕ → Progress → List ℕ
-nextData size ks d p = take (total (nextLengths size ks p)) (drop (p .data) d)
+nextData size ks d p = take (total (nextLengths size ks p)) (drop (p .bytes) d)
 
 -- the number of its first message
 abbrev pub nextNumber : ℕ → Progress → ℕ
@@ -63,7 +63,7 @@ isWritten session size n ks d p o =
 unfoldable pub progressAfter : List ℕ → ℕ → ℕ → List ℕ → List ℕ → Progress → List ℕ → Progress
 progressAfter session size n ks d p o =
     if isWritten session size n ks d p o
-    then progress (p .messages + length (nextLengths size ks p)) (p .data + total (nextLengths size ks p))
+    then progress (p .messages + length (nextLengths size ks p)) (p .bytes + total (nextLengths size ks p))
     else p
 
 -- ---- turns, one for each lent output

@@ -12,7 +12,7 @@ ghost use Rattle.transmitter.specs.Turns.{startOfRun, nextGround, nextBy
 // How many messages earlier packets took, and the bytes of their data.
 pub struct Progress {
     pub messages: usize,
-    pub data: usize,
+    pub bytes: usize,
 }
 
 // A start that isn't refused begins at the first message.
