@@ -30,7 +30,7 @@ pub record IsAnswer (st : Store) (size : ℕ) (q : List ℕ) (bytes : ℕ) (p : 
 
 abbrev pub EveryAnswerReadsBack : Type 0
 EveryAnswerReadsBack = (st : Store) (size : ℕ) (q o : List ℕ) (bytes : ℕ) → length (st .session) ≡ sessionSize
-    → ((i : ℕ) → getD (st .lengths) i 0 < 2 ^ 16) → replied st size q o ≡ says wrote (bytes ∷ []) → IsAnswer st size q bytes (sent st size q o)
+    → replied st size q o ≡ says wrote (bytes ∷ []) → IsAnswer st size q bytes (sent st size q o)
 
 -- ---- progress
 

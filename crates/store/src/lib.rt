@@ -1,16 +1,22 @@
 // A branch store that answers re-requests. It is lent: a session, the first message's number, the messages' lengths and
 // their joined data.
-use moldudp64_writer::downstream;
+mod ask;
+mod pick;
+mod send;
+mod setting;
+
+use packing::size::room;
 use wire::kinds::SESSION_SIZE;
 use wire::kinds::SequenceNumber;
 use wire::output::Written;
+use wire::refusal;
 ghost use Rattle.wire.specs.Output.{Writes};
 ghost use Rattle.store.specs.Store.{store, answerGround, answerBytes};
 ghost use Rattle.store.specs.Statements.{StorePromises};
 ghost use Rattle.store.specs.Witness.{NotVacuous};
 
 // Answers a request of any bytes with one packet of at most a size: from the wanted number on, the most whole messages
-// that fit, up to the count wanted.
+// that fit, up to the count wanted. All lengths are gone through once.
 pub fn answer(
     out: &mut [u8],
     session: [u8; SESSION_SIZE],
@@ -28,3 +34,22 @@ pub fn answer(
         (now (request .entry))) ⌝ }
     ensures promises { λ _. ⌜ StorePromises ⌝ }
     ensures not_vacuous { λ _. ⌜ NotVacuous ⌝ }
+{
+    let bad = setting::ground(first, lengths.len(), size);
+    if bad.number != 0 {
+        return Written::Refused(bad);
+    }
+    let asked = ask::read(session, first, lengths.len(), request);
+    let picked = pick::pick(lengths, joined.len(), asked.place, asked.count, room(size));
+    if !picked.whole {
+        return Written::Refused(refusal::LENGTHS_DIFFER);
+    }
+    let refused = asked.refusal;
+    if refused.number != 0 {
+        return Written::Refused(refused);
+    }
+    if picked.count == 0 {
+        return Written::Refused(refusal::MESSAGE_LONG);
+    }
+    send::send(out, session, lengths, joined, asked, picked)
+}

@@ -1,0 +1,155 @@
+-- The ladder of an answer, as the code climbs it: g is what the setting gave, a what is asked, p what is picked.
+use Prim.Native.Nat.{ℕ, _+_, _-_, _≤_, _<_, min}
+use mathlib.Core.List.{List}
+use mathlib.Core.Bool.{Bool, true, false, not}
+use mathlib.Core.Path.{_≡_, refl, sym, ap, _∙_}
+use native.Mathlib.Omega.{arith}
+use lib.ListN.{length, getD, take, drop, length-take, length-drop}
+use lib.Seq.{take-all, take-take}
+use lib.Dec.{ltb, leb, eqb}
+use borrow.Author.Tests.{eq-eqb, ne-eqb, eqb-true, eqb-false, not-true, not-false}
+use Rattle.wire.specs.declared.refusal.Refusal.{Refusal}
+use Rattle.wire.specs.declared.output.Written.{Written}
+use Rattle.wire.specs.declared.output.Written.the-variants.{Refused}
+use Rattle.wire.specs.Choice.{if_then_else_}
+use Rattle.wire.specs.Bytes.{sameBytes}
+use Rattle.wire.specs.Output.{Writes}
+use Rattle.wire.proofs.Cases.{below-or-not}
+use Rattle.moldudp64.specs.Header.{numberOf, countOf}
+use Rattle.moldudp64.specs.Request.{requestRefusal, requestSession}
+use Rattle.moldudp64.specs.Written.{encoded}
+use Rattle.moldudp64.proofs.RequestLaws.{request-sound}
+use Rattle.moldudp64_writer.specs.Writer.{cut, total, addUp, encodedCut, packetGround}
+use Rattle.moldudp64_writer.proofs.WriterLaws.{write-ground, Writable, not-writable}
+use Rattle.packing.specs.Fit.{sizeGround, fitsAlone, mostThatFit}
+use Rattle.packing.proofs.FitLaws.{most-not}
+use Rattle.packing.proofs.GroupLaws.{handed-on}
+use Rattle.packing.proofs.PartLaws.{cut-part, total-take, total-drop, part-whole}
+use Rattle.store.specs.Store.{Store, store, numbersGround, storeGround, placeOf, inStore, lengthAt, answerGround, howMany, chosen, answerBytes}
+use Rattle.store.specs.declared.ask.Asked.{Asked}
+use Rattle.store.specs.declared.pick.Picked.{Picked}
+use Rattle.store.specs.Steps.{settingGround, askNothing, isHeld, askHeld, askFrom, askOf, wantedLengths, pickNothing, pickMost, pickOf, takenLengths, takenData, Within}
+use Rattle.store.proofs.AnswerLaws.{Good, good, Placed, placed, wanted-from, some-chosen, is-the-most, wants-some}
+
+-- ---- the setting
+
+module _ (st : Store) (size : ℕ) where
+  setting-is : settingGround (st .first) (length (st .lengths)) size ≡ (if not (eqb (sizeGround size) 0) then sizeGround size else numbersGround st)
+  unfolding settingGround numbersGround
+  setting-is = refl
+
+  setting-refuses : (g : ℕ) → g ≡ settingGround (st .first) (length (st .lengths)) size → (g ≡ 0 → ⊥) → storeGround st size ≡ g
+  unfolding storeGround
+  setting-refuses g e z = go (eqb (sizeGround size) 0) refl (e ∙ setting-is)
+    where
+      go : (t : Bool) → eqb (sizeGround size) 0 ≡ t → g ≡ (if not t then sizeGround size else numbersGround st)
+          → (if not t then sizeGround size else if not (eqb (numbersGround st) 0) then numbersGround st else if not (addUp (st .lengths) (st .joined)) then 44 else 0) ≡ g
+      go false b f = sym f
+      go true b f = let n : eqb (numbersGround st) 0 ≡ false = ne-eqb _ _ (λ (y : numbersGround st ≡ 0). z (f ∙ y)) in rw n (sym f)
+
+  setting-passes : settingGround (st .first) (length (st .lengths)) size ≡ 0 → storeGround st size ≡ (if not (addUp (st .lengths) (st .joined)) then 44 else 0)
+  unfolding storeGround
+  setting-passes e =
+      let h = handed-on (sizeGround size) (numbersGround st) (sym setting-is ∙ e) in
+      rw (h .0, h .1)
+
+-- ---- the lengths and the data
+
+is-whole : Picked → Bool
+is-whole p = p .whole
+
+whole-is : (ks : List ℕ) (d place count room : ℕ) → is-whole (pickOf ks d place count room) ≡ eqb (total ks) d
+unfolding pickOf is-whole
+whole-is ks d place count room = go (eqb (total ks) d)
+  where
+    go : (t : Bool) → is-whole (if t then pickMost ks place count room else pickNothing) ≡ t
+    go true = refl
+    go false = refl
+
+-- where they add up
+most-picked : (ks : List ℕ) (d place count room : ℕ) (p : Picked) → p ≡ pickOf ks d place count room → total ks ≡ d → p ≡ pickMost ks place count room
+unfolding pickOf
+most-picked ks d place count room p e w = rw (eq-eqb _ _ w) at e
+
+-- ---- the request
+
+-- what is asked where it isn't refused
+record Asks (st : Store) (q : List ℕ) (a : Asked) : Type 0 where
+  good : requestRefusal q ≡ 0
+  same : sameBytes (requestSession q) (st .session) ≡ true
+  there : inStore st (numberOf q) ≡ true
+  number : a .number .0 ≡ numberOf q
+  place : a .place ≡ placeOf st (numberOf q)
+  count : a .count ≡ min (countOf q) (length (st .lengths) - placeOf st (numberOf q))
+
+module _ (st : Store) (q : List ℕ) (a : Asked) (e : a ≡ askOf (st .session) (st .first) (length (st .lengths)) q) where
+  asks : a .refusal .number ≡ 0 → Asks st q a
+  unfolding askOf askFrom isHeld inStore
+  asks z = go (eqb (requestRefusal q) 0) refl (sameBytes (requestSession q) (st .session)) refl (inStore st (numberOf q)) refl e
+    where
+      go : (t : Bool) → eqb (requestRefusal q) 0 ≡ t → (u : Bool) → sameBytes (requestSession q) (st .session) ≡ u → (v : Bool) → inStore st (numberOf q) ≡ v
+          → a ≡ (if not t then askNothing (requestRefusal q) else if not u then askNothing 53 else if v then askHeld (st .first) (length (st .lengths)) (numberOf q) (countOf q) else askNothing 51) → Asks st q a
+      go false b u c v d f = absurd (eqb-false _ _ b (sym (ap (λ (x : Asked). x .refusal .number) f) ∙ z))
+      go true b false c v d f = let y : _≡_ {A = ℕ} 53 0 = sym (ap (λ (x : Asked). x .refusal .number) f) ∙ z in absurd (omega arith)
+      go true b true c false d f = let y : _≡_ {A = ℕ} 51 0 = sym (ap (λ (x : Asked). x .refusal .number) f) ∙ z in absurd (omega arith)
+      go true b true c true d f =
+          record {
+            good = eqb-true _ _ b;
+            same = c;
+            there = d;
+            number = ap (λ (x : Asked). x .number .0) f;
+            place = ap (λ (x : Asked). x .place) f;
+            count = ap (λ (x : Asked). x .count) f;
+          }
+
+  asks-not : (x : ℕ) → (a .refusal .number ≡ 0 → ⊥)
+      → (if not (eqb (requestRefusal q) 0) then requestRefusal q else if not (sameBytes (requestSession q) (st .session)) then 53 else if not (inStore st (numberOf q)) then 51 else x) ≡ a .refusal .number
+  unfolding askOf askFrom isHeld inStore
+  asks-not x z = go (eqb (requestRefusal q) 0) (sameBytes (requestSession q) (st .session)) (inStore st (numberOf q)) e
+    where
+      go : (t u v : Bool)
+          → a ≡ (if not t then askNothing (requestRefusal q) else if not u then askNothing 53 else if v then askHeld (st .first) (length (st .lengths)) (numberOf q) (countOf q) else askNothing 51) → (if not t then requestRefusal q else if not u then 53 else if not v then 51 else x) ≡ a .refusal .number
+      go false u v f = sym (ap (λ (y : Asked). y .refusal .number) f)
+      go true false v f = sym (ap (λ (y : Asked). y .refusal .number) f)
+      go true true false f = sym (ap (λ (y : Asked). y .refusal .number) f)
+      go true true true f = absurd (z (ap (λ (y : Asked). y .refusal .number) f))
+
+-- the count wanted, and the store's end
+take-wanted : (ks : List ℕ) (place c : ℕ) → take (min c (length ks - place)) (drop place ks) ≡ take c (drop place ks)
+take-wanted ks place c =
+    below-or-not (take (min c (length ks - place)) (drop place ks) ≡ take c (drop place ks)) c (length ks - place)
+    (λ h. let e : min c (length ks - place) ≡ c = omega arith in rw e)
+    (λ h.
+    let e : min c (length ks - place) ≡ length ks - place = omega arith in
+    rw e
+    (take-all (length ks - place) (drop place ks) (omega (arith, length-drop place ks)) ∙ sym (take-all c (drop place ks) (omega (arith, length-drop place ks)))))
+
+-- ---- what an answer is
+
+module _ (st : Store) (size : ℕ) (q : List ℕ) (g : ℕ) (eg : g ≡ settingGround (st .first) (length (st .lengths)) size) where
+  answer-setting : (g ≡ 0 → ⊥) → g ≡ answerGround st size q
+  unfolding answerGround
+  answer-setting z = let s = setting-refuses st size g eg z in rw (s, ne-eqb _ _ z)
+
+  module _ (zg : g ≡ 0) (a : Asked) (ea : a ≡ askOf (st .session) (st .first) (length (st .lengths)) q) (room : ℕ) (er : room ≡ size - 20)
+      (p : Picked) (ep : p ≡ pickOf (st .lengths) (length (st .joined)) (a .place) (a .count) room) where
+    whole-so : p .whole ≡ addUp (st .lengths) (st .joined)
+    unfolding is-whole
+    whole-so = ap is-whole ep ∙ whole-is (st .lengths) (length (st .joined)) (a .place) (a .count) room
+
+    answer-44 : not (p .whole) ≡ true → 44 ≡ answerGround st size q
+    unfolding answerGround
+    answer-44 h =
+        let s : storeGround st size ≡ 44 = setting-passes st size (sym eg ∙ zg) ∙ rw (sym whole-so, h) in
+        rw s
+
+    module _ (hw : not (p .whole) ≡ false) where
+      no-store-ground : storeGround st size ≡ 0
+      no-store-ground = setting-passes st size (sym eg ∙ zg) ∙ rw (sym whole-so, hw)
+
+      add-up : total (st .lengths) ≡ length (st .joined)
+      add-up = eqb-true _ _ (sym whole-so ∙ not-false _ hw)
+
+      answer-ask : (a .refusal .number ≡ 0 → ⊥) → a .refusal .number ≡ answerGround st size q
+      unfolding answerGround
+      answer-ask z = rw no-store-ground (sym (asks-not st q a ea _ z))
