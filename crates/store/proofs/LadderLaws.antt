@@ -1,11 +1,11 @@
 -- The ladder of an answer, as the code climbs it: g is what the setting gave, a what is asked, p what is picked.
-use Prim.Native.Nat.{ℕ, _+_, _-_, _≤_, _<_, min}
+use Prim.Native.Nat.{ℕ, suc, _+_, _-_, _≤_, _<_, min}
 use mathlib.Core.List.{List}
 use mathlib.Core.Bool.{Bool, true, false, not}
 use mathlib.Core.Path.{_≡_, refl, sym, ap, _∙_}
 use native.Mathlib.Omega.{arith}
 use lib.ListN.{length, getD, take, drop, length-take, length-drop}
-use lib.Seq.{take-all, take-take}
+use lib.Seq.{take-all, take-take, length-take-le}
 use lib.Dec.{ltb, leb, eqb}
 use borrow.Author.Tests.{eq-eqb, ne-eqb, eqb-true, eqb-false, not-true, not-false}
 use Rattle.wire.specs.declared.refusal.Refusal.{Refusal}
@@ -21,7 +21,7 @@ use Rattle.moldudp64.specs.Written.{encoded}
 use Rattle.moldudp64.proofs.RequestLaws.{request-sound}
 use Rattle.moldudp64_writer.specs.Writer.{cut, total, addUp, encodedCut, packetGround}
 use Rattle.moldudp64_writer.proofs.WriterLaws.{write-ground, Writable, not-writable}
-use Rattle.packing.specs.Fit.{sizeGround, fitsAlone, mostThatFit}
+use Rattle.packing.specs.Fit.{sizeGround, fitsAlone, mostThatFit, Most}
 use Rattle.packing.proofs.FitLaws.{most-not}
 use Rattle.packing.proofs.GroupLaws.{handed-on}
 use Rattle.packing.proofs.PartLaws.{cut-part, total-take, total-drop, part-whole}
@@ -29,7 +29,7 @@ use Rattle.store.specs.Store.{Store, store, numbersGround, storeGround, 
 use Rattle.store.specs.declared.ask.Asked.{Asked}
 use Rattle.store.specs.declared.pick.Picked.{Picked}
 use Rattle.store.specs.Steps.{settingGround, askNothing, isHeld, askHeld, askFrom, askOf, wantedLengths, pickNothing, pickMost, pickOf, takenLengths, takenData, Within}
-use Rattle.store.proofs.AnswerLaws.{Good, good, Placed, placed, wanted-from, some-chosen, is-the-most, wants-some}
+use Rattle.store.proofs.AnswerLaws.{Good, good, Placed, placed, wanted-from, some-chosen, is-the-most, within-wanted, within-store, wants-some}
 
 -- ---- the setting
 
@@ -127,7 +127,7 @@ take-wanted ks place c =
 -- ---- what an answer is
 
 module _ (st : Store) (size : ℕ) (q : List ℕ) (g : ℕ) (eg : g ≡ settingGround (st .first) (length (st .lengths)) size) where
-  answer-setting : (g ≡ 0 → ⊥) → g ≡ answerGround st size q
+  pub answer-setting : (g ≡ 0 → ⊥) → g ≡ answerGround st size q
   unfolding answerGround
   answer-setting z = let s = setting-refuses st size g eg z in rw (s, ne-eqb _ _ z)
 
@@ -137,7 +137,7 @@ module _ (st : Store) (size : ℕ) (q : List ℕ) (g : ℕ) (eg : g ≡ settingG
     unfolding is-whole
     whole-so = ap is-whole ep ∙ whole-is (st .lengths) (length (st .joined)) (a .place) (a .count) room
 
-    answer-44 : not (p .whole) ≡ true → 44 ≡ answerGround st size q
+    pub answer-44 : not (p .whole) ≡ true → 44 ≡ answerGround st size q
     unfolding answerGround
     answer-44 h =
         let s : storeGround st size ≡ 44 = setting-passes st size (sym eg ∙ zg) ∙ rw (sym whole-so, h) in
@@ -150,6 +150,127 @@ module _ (st : Store) (size : ℕ) (q : List ℕ) (g : ℕ) (eg : g ≡ settingG
       add-up : total (st .lengths) ≡ length (st .joined)
       add-up = eqb-true _ _ (sym whole-so ∙ not-false _ hw)
 
-      answer-ask : (a .refusal .number ≡ 0 → ⊥) → a .refusal .number ≡ answerGround st size q
+      pub answer-ask : (a .refusal .number ≡ 0 → ⊥) → a .refusal .number ≡ answerGround st size q
       unfolding answerGround
       answer-ask z = rw no-store-ground (sym (asks-not st q a ea _ z))
+
+      module _ (za : a .refusal .number ≡ 0) where
+        abbrev n : ℕ
+        n = numberOf q
+
+        asked : Asks st q a
+        asked = asks st q a ea za
+
+        is-good : Good st size
+        is-good = good st size no-store-ground
+
+        is-placed : Placed st n
+        is-placed = placed st n (asked .there)
+
+        some : 1 ≤ countOf q
+        some = wants-some _ _ (request-sound q (asked .good) .1)
+
+        -- what is picked is what is to be answered with
+        the-wanted : wantedLengths (st .lengths) (a .place) (a .count) ≡ take (countOf q) (drop (placeOf st n) (st .lengths))
+        the-wanted = rw (asked .place, asked .count) (take-wanted (st .lengths) (placeOf st n) (countOf q))
+
+        picked-most : p ≡ pickMost (st .lengths) (a .place) (a .count) room
+        picked-most = most-picked (st .lengths) (length (st .joined)) (a .place) (a .count) room p ep add-up
+
+        as-many : p .count ≡ howMany st size n (countOf q)
+        unfolding howMany
+        as-many = ap (λ (x : Picked). x .count) picked-most ∙ rw (the-wanted, er)
+
+        fits-or-long : (t : Bool) → fitsAlone (size - 20) (lengthAt st n) ≡ t → (if not t then 52 else 0) ≡ answerGround st size q
+        unfolding answerGround
+        fits-or-long t e = rw (no-store-ground, asked .good, asked .same, asked .there, e)
+
+        none-fits : fitsAlone (size - 20) (lengthAt st n) ≡ false → howMany st size n (countOf q) ≡ 0
+        unfolding howMany
+        none-fits e =
+            rw (wanted-from st n is-placed (countOf q) some)
+            (most-not (size - 20) (lengthAt st n) (take (countOf q - 1) (drop (suc (placeOf st n)) (st .lengths))) e)
+
+        pub answer-52 : p .count ≡ 0 → 52 ≡ answerGround st size q
+        answer-52 z = go (fitsAlone (size - 20) (lengthAt st n)) refl
+          where
+            go : (t : Bool) → fitsAlone (size - 20) (lengthAt st n) ≡ t → 52 ≡ answerGround st size q
+            go true e = let c = some-chosen st size is-good n (countOf q) is-placed e some in absurd (omega (arith, as-many))
+            go false e = fits-or-long false e
+
+        module _ (zc : p .count ≡ 0 → ⊥) where
+          first-fits : fitsAlone (size - 20) (lengthAt st n) ≡ true
+          first-fits = go (fitsAlone (size - 20) (lengthAt st n)) refl
+            where
+              go : (t : Bool) → fitsAlone (size - 20) (lengthAt st n) ≡ t → t ≡ true
+              go true e = refl
+              go false e = absurd (zc (as-many ∙ none-fits e))
+
+          pub no-ground : answerGround st size q ≡ 0
+          no-ground = sym (fits-or-long true first-fits)
+
+          -- the lengths and the data that are handed to the writer
+          abbrev pl : ℕ
+          pl = placeOf st n
+
+          abbrev hm : ℕ
+          hm = howMany st size n (countOf q)
+
+          the-most : Most (size - 20) (take (countOf q) (drop pl (st .lengths))) hm
+          the-most = is-the-most st size is-good n (countOf q) is-placed first-fits some
+
+          within : hm ≤ length (st .lengths) - pl
+          within = within-store st size is-good n (countOf q) is-placed first-fits some
+
+          first-of : take hm (take (countOf q) (drop pl (st .lengths))) ≡ take hm (drop pl (st .lengths))
+          first-of = take-take hm (countOf q) (drop pl (st .lengths)) (within-wanted st size is-good n (countOf q) is-placed first-fits some)
+
+          their-bytes : p .bytes ≡ total (take hm (drop pl (st .lengths)))
+          unfolding howMany
+          their-bytes = ap (λ (x : Picked). x .bytes) picked-most ∙ rw (the-wanted, er) (ap total first-of)
+
+          they-begin : p .from ≡ total (take pl (st .lengths))
+          they-begin = ap (λ (x : Picked). x .from) picked-most ∙ ap (λ (x : ℕ). total (take x (st .lengths))) (asked .place)
+
+          lengths-are : takenLengths a p (st .lengths) ≡ take hm (drop pl (st .lengths))
+          lengths-are = rw (as-many, asked .place)
+
+          data-is : takenData p (st .joined) ≡ take (total (take hm (drop pl (st .lengths)))) (drop (total (take pl (st .lengths))) (st .joined))
+          data-is = rw (their-bytes, they-begin)
+
+          pub within-so : Within a p (st .lengths) (st .joined)
+          within-so =
+              let w = is-placed .to in
+              let t = total-take hm (drop pl (st .lengths)) in
+              let v = total-take pl (st .lengths) in
+              let u = total-drop pl (st .lengths) in
+              record {
+                messages = omega (arith, as-many, asked .place, within);
+                bytes = omega (arith, their-bytes, they-begin, add-up);
+              }
+
+          pub are-bytes : encodedCut (st .session) (a .number .0) (takenLengths a p (st .lengths)) (takenData p (st .joined)) ≡ answerBytes st size q
+          unfolding answerBytes chosen
+          are-bytes = rw (lengths-are, data-is, asked .number, cut-part pl hm (st .lengths) (st .joined))
+
+          is-writable : Writable n (take hm (drop pl (st .lengths))) (take (total (take hm (drop pl (st .lengths)))) (drop (total (take pl (st .lengths))) (st .joined)))
+          is-writable =
+              let k = length-take-le hm (drop pl (st .lengths)) (omega (arith, within, length-drop pl (st .lengths))) in
+              let w = part-whole pl hm (st .lengths) (st .joined) add-up in
+              let f = rw first-of at (the-most .fits .fit) in
+              let s = is-good .small in
+              let b = is-good .large in
+              let m = is-good .numbers in
+              let o = is-placed .from in
+              let t = is-placed .to in
+              let i = within in
+              record {
+                few = omega arith;
+                whole = w;
+                number-good = λ (z : n ≡ 0). is-good .nonzero (omega arith);
+                numbers-fit = omega arith;
+                small = omega arith;
+              }
+
+          pub no-packet-ground : packetGround (a .number .0) (takenLengths a p (st .lengths)) (takenData p (st .joined)) ≡ 0
+          no-packet-ground = rw (lengths-are, data-is, asked .number) (not-writable _ _ _ is-writable)

@@ -1,4 +1,4 @@
--- X.
+-- A part by its end is a part by its size, and what is taken of it is within it.
 use Rattle.store.proofs.Rules.{picks}
 use Rattle.store.proofs.pick.fit_from.Statement.{statement}
 use Rattle.store.proofs.pick.fit_from.Tie as tie

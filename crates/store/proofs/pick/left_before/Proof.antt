@@ -1,4 +1,4 @@
--- X.
+-- The part to a place is what is left before it.
 use Rattle.store.proofs.Rules.{picks}
 use Rattle.store.proofs.pick.left_before.Statement.{statement}
 use Rattle.store.proofs.pick.left_before.Tie as tie

@@ -1,4 +1,4 @@
--- X.
+-- The part from a place to the end is what is left behind it.
 use Rattle.store.proofs.Rules.{picks}
 use Rattle.store.proofs.pick.left_behind.Statement.{statement}
 use Rattle.store.proofs.pick.left_behind.Tie as tie

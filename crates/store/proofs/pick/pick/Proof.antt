@@ -1,4 +1,4 @@
--- X.
+-- One law for each way that the lengths fail to add up, and one for where they do.
 use Rattle.store.proofs.Rules.{picks}
 use Rattle.store.proofs.pick.pick.Statement.{statement}
 use Rattle.store.proofs.pick.pick.Tie as tie
