@@ -1,31 +1,26 @@
 -- The ladder of an answer, as the code climbs it: g is what the setting gave, a what is asked, p what is picked.
-use Prim.Native.Nat.{ℕ, suc, _+_, _-_, _≤_, _<_, min}
+use Prim.Native.Nat.{ℕ, suc, _-_, _≤_, min}
 use mathlib.Core.List.{List}
 use mathlib.Core.Bool.{Bool, true, false, not}
 use mathlib.Core.Path.{_≡_, refl, sym, ap, _∙_}
 use native.Mathlib.Omega.{arith}
-use lib.ListN.{length, getD, take, drop, length-take, length-drop}
+use lib.ListN.{length, take, drop, length-drop}
 use lib.Seq.{take-all, take-take, length-take-le}
-use lib.Dec.{ltb, leb, eqb}
-use borrow.Author.Tests.{eq-eqb, ne-eqb, eqb-true, eqb-false, not-true, not-false}
-use Rattle.wire.specs.declared.refusal.Refusal.{Refusal}
-use Rattle.wire.specs.declared.output.Written.{Written}
-use Rattle.wire.specs.declared.output.Written.the-variants.{Refused}
+use lib.Dec.{eqb}
+use borrow.Author.Tests.{eq-eqb, ne-eqb, eqb-true, eqb-false, not-false}
 use Rattle.wire.specs.Choice.{if_then_else_}
 use Rattle.wire.specs.Bytes.{sameBytes}
-use Rattle.wire.specs.Output.{Writes}
 use Rattle.wire.proofs.Cases.{below-or-not}
 use Rattle.moldudp64.specs.Header.{numberOf, countOf}
 use Rattle.moldudp64.specs.Request.{requestRefusal, requestSession}
-use Rattle.moldudp64.specs.Written.{encoded}
 use Rattle.moldudp64.proofs.RequestLaws.{request-sound}
-use Rattle.moldudp64_writer.specs.Writer.{cut, total, addUp, encodedCut, packetGround}
-use Rattle.moldudp64_writer.proofs.WriterLaws.{write-ground, Writable, not-writable}
-use Rattle.packing.specs.Fit.{sizeGround, fitsAlone, mostThatFit, Most}
+use Rattle.moldudp64_writer.specs.Writer.{total, addUp, encodedCut, packetGround}
+use Rattle.moldudp64_writer.proofs.WriterLaws.{Writable, not-writable}
+use Rattle.packing.specs.Fit.{sizeGround, fitsAlone, Most}
 use Rattle.packing.proofs.FitLaws.{most-not}
 use Rattle.packing.proofs.GroupLaws.{handed-on}
 use Rattle.packing.proofs.PartLaws.{cut-part, total-take, total-drop, part-whole}
-use Rattle.store.specs.Store.{Store, store, numbersGround, storeGround, placeOf, inStore, lengthAt, answerGround, howMany, chosen, answerBytes}
+use Rattle.store.specs.Store.{Store, numbersGround, storeGround, placeOf, inStore, lengthAt, answerGround, howMany, chosen, answerBytes}
 use Rattle.store.specs.declared.ask.Asked.{Asked}
 use Rattle.store.specs.declared.pick.Picked.{Picked}
 use Rattle.store.specs.Steps.{settingGround, askNothing, isHeld, askHeld, askFrom, askOf, wantedLengths, pickNothing, pickMost, pickOf, takenLengths, takenData, Within}

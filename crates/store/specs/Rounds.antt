@@ -1,6 +1,6 @@
 -- Rounds of heartbeat, ask and answer: r is a receiver, h a heartbeat that is given to it again and again, and each
 -- round has an output lent, o.
-use Prim.Native.Nat.{ℕ, _-_}
+use Prim.Native.Nat.{ℕ}
 use mathlib.Core.List.{List, [], _∷_, _++_}
 use lib.ListN.{getD, take}
 use Rattle.wire.specs.Words.{Words, Case, answer, refused}

@@ -1,9 +1,9 @@
 -- What is promised of a store's answers.
-use Prim.Native.Nat.{ℕ, _+_, _-_, _≤_, _<_, _^_}
+use Prim.Native.Nat.{ℕ, _-_, _≤_, _<_}
 use mathlib.Core.List.{List, [], _∷_, List·Memᴰ}
 use mathlib.Core.Bool.{true, false}
 use mathlib.Core.Path.{_≡_}
-use lib.ListN.{length, getD, take, drop}
+use lib.ListN.{length, take, drop}
 use Rattle.wire.specs.Bounds.{sessionSize}
 use Rattle.wire.specs.Words.{says}
 use Rattle.wire.specs.Output.{wrote}

@@ -1,6 +1,6 @@
 -- A branch store, and how it answers a request: st is the store, size the most bytes of a packet, header included, and
 -- q the request's bytes.
-use Prim.Native.Nat.{ℕ, _+_, _-_, _≤_, _<_}
+use Prim.Native.Nat.{ℕ, _-_}
 use mathlib.Core.List.{List}
 use mathlib.Core.Bool.{Bool, false, not}
 use lib.ListN.{length, getD, take, drop}
