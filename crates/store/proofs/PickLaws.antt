@@ -19,7 +19,7 @@ use Rattle.packing.specs.declared.fit.Fit.{Fit}
 use Rattle.packing.specs.Fit.{mostThatFit, fitting}
 use Rattle.packing.proofs.FitLaws.{is-most}
 use Rattle.store.specs.declared.pick.Picked.{Picked}
-use Rattle.store.specs.Steps.{pickNothing, wantedLengths, Takes, pickOf}
+use Rattle.store.specs.Steps.{pickNothing, wantedLengths, TakesMost, pickOf}
 
 -- ---- parts of the lengths
 
@@ -34,13 +34,13 @@ within-count : (ks : List ℕ) (place count room : ℕ) → mostThatFit room (wa
 within-count ks place count room = omega (arith, is-most room (wantedLengths ks place count) .fits .there, length-take count (drop place ks))
 
 pub takes-so : (ks : List ℕ) (place count room : ℕ) (fit : Fit) → place + count ≤ length ks → fit ≡ fitting room (take (place + count - place) (drop place ks))
-    → Takes fit ks place count room
+    → TakesMost fit ks place count room
 takes-so ks place count room fit h e =
     let z : place + count - place ≡ count = omega arith in
     let m : fit ≡ fitting room (wantedLengths ks place count) = rw z at e in
     record { most = m; among = omega (arith, ap (λ (x : Fit). x .count) m, within-count ks place count room) }
 
-pub behind-fits : (ks : List ℕ) (place count room : ℕ) (fit : Fit) → Takes fit ks place count room → Fits w64 (length ks) → Fits w64 (place + fit .count)
+pub behind-fits : (ks : List ℕ) (place count room : ℕ) (fit : Fit) → TakesMost fit ks place count room → Fits w64 (length ks) → Fits w64 (place + fit .count)
 behind-fits ks place count room fit t f = record { fits = omega (arith, t .among, f .fits) }
 
 -- ---- all of them
@@ -64,7 +64,7 @@ module _ (ks : List ℕ) (d place count room : ℕ) (before : Left) (eb : before
   pub before-less : before .bytes ≤ d
   before-less = omega (arith, bytes-before)
 
-  module _ (fit : Fit) (tf : Takes fit ks place count room) where
+  module _ (fit : Fit) (tf : TakesMost fit ks place count room) where
     as-many : fit .count ≡ mostThatFit room (wantedLengths ks place count)
     as-many = ap (λ (x : Fit). x .count) (tf .most)
 

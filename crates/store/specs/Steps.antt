@@ -67,7 +67,7 @@ abbrev pub wantedLengths : List ℕ → ℕ → ℕ → List ℕ
 wantedLengths ks place count = take count (drop place ks)
 
 -- the most of them that fit a room, which are among them
-pub record Takes (fit : Fit) (ks : List ℕ) (place count room : ℕ) : Type 0 where
+pub record TakesMost (fit : Fit) (ks : List ℕ) (place count room : ℕ) : Type 0 where
   pub most : fit ≡ fitting room (wantedLengths ks place count)
   pub among : place + fit .count ≤ length ks
 

@@ -19,6 +19,7 @@ pub(crate) struct Asked {
     pub count: usize,
 }
 
+// A refused request wants nothing of the store: the lengths are gone through all the same, for 44 comes first.
 fn nothing(refusal: Refusal) -> Asked
     ensures { λ r. ⌜ r ≡ askNothing (refusal .number) ⌝ }
 {

@@ -7,7 +7,7 @@ ghost use mathlib.Core.Path.{_≡_};
 ghost use Prim.Native.Nat.{_+_, _≤_};
 ghost use lib.ListN.{length, take, drop};
 ghost use Rattle.moldudp64_writer.specs.Writer.{leftAfter};
-ghost use Rattle.store.specs.Steps.{pickNothing, Takes, pickOf};
+ghost use Rattle.store.specs.Steps.{pickNothing, TakesMost, pickOf};
 
 // Whether the lengths add up to the data, and if so where the data of the messages taken begins, how many they are and
 // how many bytes they have.
@@ -18,6 +18,7 @@ pub(crate) struct Picked {
     pub bytes: usize,
 }
 
+// The lengths don't add up.
 fn nothing() -> Picked
     ensures { λ r. ⌜ r ≡ pickNothing ⌝ }
 {
@@ -45,16 +46,17 @@ fn left_behind(lengths: &[u16], place: usize, bytes: usize) -> Left
     left_after(&lengths[place..], bytes)
 }
 
-// The most that fit of so many from a place on.
+// The most messages that fit, of so many from a place on.
 fn fit_from(lengths: &[u16], place: usize, count: usize, room: usize) -> Fit
     requires { ⌜ place + count ≤ length (now lengths) ⌝ }
-    ensures { λ r. ⌜ Takes r (now (lengths .entry)) place count room ⌝ }
+    ensures { λ r. ⌜ TakesMost r (now (lengths .entry)) place count room ⌝ }
 {
     let end = place + count;
     most_that_fit(&lengths[place..end], room)
 }
 
-// The most that fit of so many from a place on. The lengths before, of and behind them are each gone through once.
+// Takes the most that fit of so many messages from a place on. The lengths before them, theirs and those behind them
+// are each gone through once, so that a store of a million messages is held against its data in one pass.
 pub(crate) fn pick(
     lengths: &[u16],
     joined: usize,

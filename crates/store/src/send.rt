@@ -8,6 +8,7 @@ ghost use Rattle.wire.specs.Output.{Writes};
 ghost use Rattle.moldudp64_writer.specs.Writer.{encodedCut, packetGround};
 ghost use Rattle.store.specs.Steps.{Within, takenLengths, takenData};
 
+// Writes the packet of the messages taken: 41 is the writer's.
 pub(crate) fn send(
     out: &mut [u8],
     session: [u8; SESSION_SIZE],
