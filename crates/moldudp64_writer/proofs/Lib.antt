@@ -1,3 +1,4 @@
+pub mod LengthLaws
 pub mod HeaderLaws
 pub mod CutLaws
 pub mod WriterLaws

@@ -1,12 +1,10 @@
 -- Laws of the writers: l is the lent output at entry, m at exit, g a ground, bs the bytes, n a number, ks lengths, d data.
 use mathlib.Core.Path.{_≡_, refl, ap, sym, _∙_}
-use mathlib.Core.List.{List, []}
+use mathlib.Core.List.{List}
 use mathlib.Core.Bool.{Bool, true, false, not}
-use Prim.Native.Nat.{ℕ, zero, suc, _+_, _*_, _-_, _≤_, _<_}
+use Prim.Native.Nat.{ℕ, _+_, _*_, _-_, _≤_, _<_}
 use native.Mathlib.Omega.{arith}
-use native.Mathlib.Numerals.{add-one}
-use lib.ListN.{length, getD, drop, length-append, drop-of-length-le}
-use lib.Seq.{drop-cons}
+use lib.ListN.{length, length-append}
 use lib.Dec.{ltb, eqb}
 use borrow.Author.Tests.{lt-ltb, le-ltb, ltb-false, eq-eqb, ne-eqb, eqb-true, eqb-false, not-false}
 use mir.Val.{Fits}
@@ -62,35 +60,6 @@ pub end-done : (l m s : List ℕ) (n : ℕ) → (n ≡ 0 → ⊥) → length s �
     → Writes (Wrote 20) l m (endGround n) 0 (encodedEnd s n)
 unfolding encodedEnd
 end-done l m s n z ten h p = write-done l m (header s n 65535) (endGround n) 0 20 (end-good n z) refl h (header-size s n 65535 ten) p
-
--- ---- the lengths add up: v is what they do from the start, left what the lengths from i on have to make
-
-total-from : (ks : List ℕ) (i : ℕ) → i < length ks → total (drop i ks) ≡ getD ks i 0 + total (drop (i + 1) ks)
-unfolding total
-total-from ks i h = rw (add-one, drop-cons ks i 0 h)
-
-pub adds-again : (ks : List ℕ) (i left : ℕ) (v : Bool) → eqb (total (drop i ks)) left ≡ v → i < length ks → getD ks i 0 ≤ left
-    → eqb (total (drop (i + 1) ks)) (left - getD ks i 0) ≡ v
-adds-again ks i left v e h f = go (eqb (total (drop i ks)) left) refl
-  where
-    go : (b : Bool) → eqb (total (drop i ks)) left ≡ b → eqb (total (drop (i + 1) ks)) (left - getD ks i 0) ≡ v
-    go true g =
-        let t = eqb-true (total (drop i ks)) left g in
-        eq-eqb (total (drop (i + 1) ks)) (left - getD ks i 0) (omega (arith, total-from ks i h)) ∙ sym g ∙ e
-    go false g =
-        let t = eqb-false (total (drop i ks)) left g in
-        ne-eqb (total (drop (i + 1) ks)) (left - getD ks i 0) (λ (q : total (drop (i + 1) ks) ≡ left - getD ks i 0). t (omega (arith, total-from ks i h))) ∙ sym g ∙ e
-
-pub adds-short : (ks : List ℕ) (i left : ℕ) (v : Bool) → eqb (total (drop i ks)) left ≡ v → i < length ks → left < getD ks i 0 → false ≡ v
-adds-short ks i left v e h f = sym (ne-eqb (total (drop i ks)) left (λ q. omega (arith, total-from ks i h))) ∙ e
-
-zero-test : (n : ℕ) → eqb n 0 ≡ eqb 0 n
-zero-test zero = refl
-zero-test (suc n) = ne-eqb (suc n) 0 (omega arith) ∙ sym (ne-eqb 0 (suc n) (omega arith))
-
-pub adds-end : (ks : List ℕ) (i left : ℕ) (v : Bool) → eqb (total (drop i ks)) left ≡ v → length ks ≤ i → eqb left 0 ≡ v
-unfolding total
-adds-end ks i left v e h = let d : drop i ks ≡ [] = drop-of-length-le ks {i = i} h in zero-test left ∙ rw d at e
 
 -- ---- the grounds of a packet
 

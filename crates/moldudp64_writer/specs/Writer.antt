@@ -3,13 +3,14 @@ use Prim.Native.Nat.{ℕ, _+_, _*_, _-_}
 use mathlib.Core.List.{List, [], _∷_}
 use mathlib.Core.Bool.{Bool, not}
 use lib.ListN.{length, take, drop}
-use lib.Dec.{ltb, eqb}
+use lib.Dec.{ltb, leb, eqb}
 use Rattle.wire.specs.Bounds.{lengthSize}
 use Rattle.wire.specs.Choice.{if_then_else_}
 use Rattle.wire.specs.Refusals.{datagramLong, numberZero, numbersRunOut, tooManyMessages, lengthsDiffer}
 use Rattle.moldudp64.specs.Header.{headerSize, largestDatagram, endCount}
 use Rattle.moldudp64.specs.Downstream.{runOut}
 use Rattle.moldudp64.specs.Written.{encoded}
+use Rattle.moldudp64_writer.specs.declared.lengths.Left.{Left}
 
 -- ---- data and heartbeat: the writer is given lengths and joined data
 
@@ -26,6 +27,10 @@ encodedCut session n ks d = encoded session n (cut ks d)
 unfoldable pub total : List ℕ → ℕ
 total [] = 0
 total (k ∷ ks) = k + total ks
+
+-- what is left of so many bytes after messages of these lengths, and whether they were enough
+abbrev pub leftAfter : List ℕ → ℕ → Left
+leftAfter ks b = record { enough = leb (total ks) b; bytes = b - total ks }
 
 -- the lengths of messages
 unfoldable pub lengthsOf : List (List ℕ) → List ℕ

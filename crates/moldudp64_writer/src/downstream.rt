@@ -1,6 +1,7 @@
 // Downstream packets, written into a lent output. A success reports its size and changes those bytes alone; a refusal
 // changes none.
 use crate::header;
+use crate::lengths::add_up;
 use moldudp64::header::END_OF_SESSION;
 use moldudp64::header::LARGEST_DATAGRAM;
 use moldudp64::header::SIZE;
@@ -20,28 +21,11 @@ ghost use Rattle.wire.specs.Output.{put, Writes};
 ghost use Rattle.moldudp64.specs.Header.{headerSize};
 ghost use Rattle.moldudp64.specs.Blocks.{blocksOf};
 ghost use Rattle.moldudp64.specs.Written.{encodedEnd};
-ghost use Rattle.moldudp64_writer.specs.Writer.{total, cut, encodedCut, addUp, packetGround, endGround};
+ghost use Rattle.moldudp64_writer.specs.Writer.{total, cut, encodedCut, packetGround, endGround};
 ghost use Rattle.moldudp64_writer.specs.RoundTrips.{PacketRoundTrip, EndRoundTrip};
 
 // The most messages of one datagram.
 pub const MOST_MESSAGES: MessageCount = MessageCount(u16::MAX - 1);
-
-// Whether the lengths add up to the data. It subtracts as it goes, so that no sum can wrap.
-pub fn add_up(lengths: &[u16], joined: &[u8]) -> bool
-    ensures { λ r. ⌜ r ≡ addUp (now (lengths .entry)) (now (joined .entry)) ⌝ }
-{
-    let mut left = joined.len();
-    let mut i: usize = 0;
-    while i < lengths.len() {
-        let length = lengths[i] as usize;
-        if left < length {
-            return false;
-        }
-        left -= length;
-        i += 1;
-    }
-    left == 0
-}
 
 // The first of 42, 44, 13, 14, 12 that applies, or 0.
 fn ground(first: SequenceNumber, lengths: &[u16], joined: &[u8]) -> Refusal

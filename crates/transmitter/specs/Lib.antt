@@ -1,0 +1,4 @@
+pub mod Cutting
+pub mod Transmitter
+pub mod Turns
+pub mod Statements
