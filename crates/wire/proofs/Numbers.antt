@@ -6,7 +6,7 @@ use native.Mathlib.Omega.{arith}
 use native.Mathlib.Nat.{add-zero, zero-add, pow-suc}
 use native.Mathlib.Numerals.{add-one}
 use lib.ListN.{length, getD, take, drop, length-append, length-drop, List·getD-eq-default, List·getD-append}
-use lib.Seq.{getD-drop, take-all, getD-at, getD-append-add, take-suc}
+use lib.Seq.{getD-take, getD-drop, take-all, getD-at, getD-append-add, take-suc}
 use Rattle.wire.specs.Bytes.{number, bytes, AreBytes}
 
 -- past the end every number is 0
@@ -37,6 +37,15 @@ number-append a b at (suc n) h =
     rw (i, List·getD-append a b 0 (at + n) (omega arith))
 
 -- the part from a place to the end is what is left
+-- a number inside the first k bytes
+pub number-take : (k : ℕ) (l : List ℕ) (at n : ℕ) → at + n ≤ k → number (take k l) at n ≡ number l at n
+unfolding number
+number-take k l at zero h = refl
+number-take k l at (suc n) h =
+    let e : getD (take k l) (at + n) 0 ≡ getD l (at + n) 0 = getD-take k l (at + n) 0 (omega arith) in
+    let i = number-take k l at n (omega arith) in
+    rw (e, i)
+
 pub part-to-end : (k : ℕ) (l : List ℕ) → take (length l - k) (drop k l) ≡ drop k l
 part-to-end k l = take-all (length l - k) (drop k l) (simp length-drop (omega arith))
 

@@ -1,16 +1,18 @@
--- Names compared: whole ones, and the loop of `same_ten`, in which the bytes from i on decide. l is the slice, at the place, m the name.
-use mathlib.Core.Path.{_≡_, refl, ap, _∙_}
-use mathlib.Core.List.{List, [], _∷_}
+-- Names compared: whole ones, and ten bytes as a number of eight and one of two. l is the slice, at the place, m the name.
+use mathlib.Core.Path.{_≡_, refl, ap, sym, _∙_}
+use mathlib.Core.List.{List, [], _∷_, _++_}
 use mathlib.Core.Bool.{Bool, true, false}
 use Prim.Native.Nat.{ℕ, suc, _+_, _-_, _≤_, _<_}
 use native.Mathlib.Omega.{arith}
-use native.Mathlib.Numerals.{add-one}
-use lib.ListN.{length, getD, take, drop, length-take, length-drop, drop-of-length-le}
-use lib.Seq.{take-all, drop-cons, getD-take, getD-drop, length-take-le}
+use mir.Syntax.{w8}
+use mir.Val.{Fits}
+use lib.ListN.{length, getD, take, drop, length-take, length-drop}
+use lib.Seq.{take-all, take-add, getD-drop}
 use lib.Dec.{eqb}
-use borrow.Author.Tests.{eq-eqb, ne-eqb, eqb-true}
+use borrow.Author.Tests.{eq-eqb, eqb-true, eqb-false}
 use Rattle.wire.specs.Choice.{if_then_else_}
-use Rattle.wire.specs.Bytes.{sameBytes}
+use Rattle.wire.specs.Bytes.{number, bytes, sameBytes, AreBytes}
+use Rattle.wire.proofs.Numbers.{number-drop, number-take, part-to-end, bytes-number}
 
 -- ---- any two lists
 
@@ -55,27 +57,12 @@ module _ (l m : List ℕ) where
   pub name-whole : (t : Bool) → length l ≡ 10 → t ≡ sameBytes (take 10 (drop 0 l)) m → t ≡ sameBytes l m
   name-whole t h e = rw (take-all 10 l (omega arith)) at e
 
--- ---- the loop
+-- ---- ten bytes at a place
 
 abbrev ten : List ℕ → ℕ → List ℕ
 ten l at = take 10 (drop at l)
 
-pub record SameFrom (l : List ℕ) (at : ℕ) (m : List ℕ) (i : ℕ) : Type 0 where
-  pub within : i ≤ 10
-  pub there : at + 10 ≤ length l
-  pub name : length m ≡ 10
-  pub rest : sameBytes (drop i (ten l at)) (drop i m) ≡ sameBytes (ten l at) m
-
-pub same-start : (l : List ℕ) (at : ℕ) (m : List ℕ) → length m ≡ 10 → at ≤ length l → 10 ≤ length l - at → SameFrom l at m 0
-same-start l at m n f h = record { within = omega arith; there = omega arith; name = n; rest = refl }
-
 module _ (l : List ℕ) (at : ℕ) (m : List ℕ) where
-  ten-length : at + 10 ≤ length l → length (ten l at) ≡ 10
-  ten-length h = length-take-le 10 (drop at l) (omega (arith, length-drop at l))
-
-  ten-at : (i : ℕ) → i < 10 → getD (ten l at) i 0 ≡ getD l (at + i) 0
-  ten-at i h = getD-take 10 (drop at l) i 0 h ∙ getD-drop at l i 0
-
   pub same-short : length m ≡ 10 → length l < at + 10 → false ≡ sameBytes (ten l at) m
   same-short n h = false-or-true (sameBytes (ten l at) m) (λ e. let k = same-length (ten l at) m e in omega (arith, length-take 10 (drop at l), length-drop at l))
 
@@ -85,33 +72,68 @@ module _ (l : List ℕ) (at : ℕ) (m : List ℕ) where
   pub same-cut : length m ≡ 10 → at ≤ length l → length l - at < 10 → false ≡ sameBytes (ten l at) m
   same-cut n f h = same-short n (omega arith)
 
-  one : (i : ℕ) → SameFrom l at m i → i < 10
-      → if eqb (getD l (at + i) 0) (getD m i 0) then sameBytes (drop (suc i) (ten l at)) (drop (suc i) m) else false ≡ sameBytes (ten l at) m
-  unfolding sameBytes
-  one i s h =
-      let k = ten-length (s .there) in
-      let n = s .name in
-      let d = drop-cons (ten l at) i 0 (omega arith) in
-      let e = drop-cons m i 0 (omega arith) in
-      rw (← ten-at i h) (rw (d, e) at (s .rest))
+  -- those in front of what is left from the place on
+  pub same-there : (t : Bool) → t ≡ sameBytes (take 10 (take (length l - at) (drop at l))) m → t ≡ sameBytes (ten l at) m
+  same-there t e = rw (part-to-end at l) at e
 
-  pub same-again : (i : ℕ) → SameFrom l at m i → i < 10 → getD l (at + i) 0 ≡ getD m i 0 → SameFrom l at m (i + 1)
-  same-again i s h e =
-      record {
-        within = omega arith;
-        there = s .there;
-        name = s .name;
-        rest = rw add-one (simp (eq-eqb _ _ e) at (one i s h));
-      }
+  pub rest-room : at ≤ length l → 10 ≤ length l - at → 10 ≤ length (take (length l - at) (drop at l))
+  rest-room f h = rw (part-to-end at l, length-drop at l) h
 
-  pub same-differs : (i : ℕ) → SameFrom l at m i → i < 10 → (getD l (at + i) 0 ≡ getD m i 0 → ⊥) → false ≡ sameBytes (ten l at) m
-  same-differs i s h e = simp (ne-eqb _ _ e) at (one i s h)
+-- ---- ten bytes as a number of eight and one of two
 
-  pub same-all : (i : ℕ) → SameFrom l at m i → 10 ≤ i → true ≡ sameBytes (ten l at) m
-  unfolding sameBytes
-  same-all i s h =
-      let k = ten-length (s .there) in
-      let n = s .name in
-      let d : drop i (ten l at) ≡ [] = drop-of-length-le (ten l at) {i = i} (omega arith) in
-      let e : drop i m ≡ [] = drop-of-length-le m {i = i} (omega arith) in
-      rw (d, e) at (s .rest)
+bytes-drop : (k : ℕ) (l : List ℕ) → AreBytes l → AreBytes (drop k l)
+bytes-drop k l h i = rw (getD-drop k l i 0) (h (k + i))
+
+two-behind : (l : List ℕ) → AreBytes l → 10 ≤ length l → take 2 (drop 8 l) ≡ bytes 2 (number (drop 8 l) 0 2)
+two-behind l a h = sym (bytes-number 2 (drop 8 l) (bytes-drop 8 l a) (omega (arith, length-drop 8 l)))
+
+-- what the elements of a slice are known to be
+module _ (l m : List ℕ) (y : (i : ℕ) → Fits w8 (getD l i 0)) (z : (i : ℕ) → Fits w8 (getD m i 0)) (h : 10 ≤ length l) (n : length m ≡ 10) (p q : ℕ)
+    (e : p ≡ number l 0 8) (f : q ≡ number m 0 8) where
+  a : AreBytes l
+  a i = y i .fits
+
+  b : AreBytes m
+  b i = z i .fits
+
+  -- the first ten bytes, in two parts
+  parted : (k : List ℕ) → take 10 k ≡ take 8 k ++ take 2 (drop 8 k)
+  parted k = take-add 8 2 k
+
+  whole : m ≡ take 8 m ++ take 2 (drop 8 m)
+  whole = sym (take-all 10 m (omega arith)) ∙ parted m
+
+  first-so : p ≡ q → take 8 l ≡ take 8 m
+  first-so g = sym (bytes-number 8 l a (omega arith)) ∙ rw (← e, g, f) (bytes-number 8 m b (omega arith))
+
+  pub begins-unlike : (p ≡ q → ⊥) → false ≡ sameBytes (take 10 l) m
+  begins-unlike d =
+      false-or-true (sameBytes (take 10 l) m)
+      (λ s.
+      let w : take 10 l ≡ m = same-equal (take 10 l) m s in
+      let g : number (take 10 l) 0 8 ≡ number l 0 8 = number-take 10 l 0 8 (omega arith) in
+      d (e ∙ sym g ∙ ap (λ (x : List ℕ). number x 0 8) w ∙ sym f))
+
+  module _ (u v : ℕ) (g : p ≡ q) (i : u ≡ number (take (length l - 8) (drop 8 l)) 0 2) (j : v ≡ number (take (length m - 8) (drop 8 m)) 0 2) where
+    u-is : u ≡ number (drop 8 l) 0 2
+    u-is = rw (part-to-end 8 l) at i
+
+    v-is : v ≡ number (drop 8 m) 0 2
+    v-is = rw (part-to-end 8 m) at j
+
+    pub begins-like : eqb u v ≡ sameBytes (take 10 l) m
+    begins-like = go (eqb u v) refl
+      where
+        go : (t : Bool) → eqb u v ≡ t → t ≡ sameBytes (take 10 l) m
+        go true x =
+            let c : u ≡ v = eqb-true _ _ x in
+            let k : take 2 (drop 8 l) ≡ take 2 (drop 8 m) = two-behind l a h ∙ rw (← u-is, c, v-is) (sym (two-behind m b (omega arith))) in
+            let w : take 10 l ≡ m = parted l ∙ rw (first-so g, k) (sym whole) in
+            rw w (sym (same-refl m))
+        go false x =
+            let c : u ≡ v → ⊥ = eqb-false _ _ x in
+            false-or-true (sameBytes (take 10 l) m)
+            (λ s.
+            let w : take 10 l ≡ m = same-equal (take 10 l) m s in
+            let k : number (take 10 l) 8 2 ≡ number l 8 2 = number-take 10 l 8 2 (omega arith) in
+            c (u-is ∙ number-drop 8 l 0 2 ∙ sym k ∙ ap (λ (x : List ℕ). number x 8 2) w ∙ sym (number-drop 8 m 0 2) ∙ sym v-is))

@@ -1,8 +1,11 @@
 // Session names compared byte for byte.
 use crate::kinds::ByteOffset;
+use crate::kinds::NUMBER_SIZE;
 use crate::kinds::SESSION_SIZE;
+use crate::number;
 ghost use mathlib.Core.Path.{_≡_};
-ghost use lib.ListN.{take, drop};
+ghost use Prim.Native.Nat.{_≤_};
+ghost use lib.ListN.{length, take, drop};
 ghost use Rattle.wire.specs.Bounds.{sessionSize};
 ghost use Rattle.wire.specs.Bytes.{sameBytes};
 
@@ -17,14 +20,18 @@ pub fn same_ten(s: &[u8], at: ByteOffset, name: [u8; SESSION_SIZE]) -> bool
     if s.len() - from < SESSION_SIZE {
         return false;
     }
-    let mut i: usize = 0;
-    while i < SESSION_SIZE {
-        if s[from + i] != name[i] {
-            return false;
-        }
-        i += 1;
+    begins_with(&s[from..], &name)
+}
+
+// Whether bytes begin with a name: eight of them are compared as one number, and then two.
+fn begins_with(s: &[u8], name: &[u8]) -> bool
+    requires { ⌜ (sessionSize ≤ length (now s)) × (length (now name) ≡ sessionSize) ⌝ }
+    ensures { λ r. ⌜ r ≡ sameBytes (take sessionSize (now (s .entry))) (now (name .entry)) ⌝ }
+{
+    if number::in_front(s) != number::in_front(name) {
+        return false;
     }
-    true
+    number::two_in_front(&s[NUMBER_SIZE..]) == number::two_in_front(&name[NUMBER_SIZE..])
 }
 
 // Whether bytes are the name, no more and no fewer.

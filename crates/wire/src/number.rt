@@ -49,14 +49,22 @@ pub fn be64(s: &[u8], at: ByteOffset) -> u64
 }
 
 // The number in front of a slice that has all eight bytes.
-fn in_front(s: &[u8]) -> u64
+pub(crate) fn in_front(s: &[u8]) -> u64
     requires { ⌜ 8 ≤ length (now s) ⌝ }
     ensures { λ r. ⌜ r ≡ number (now (s .entry)) 0 8 ⌝ }
 {
     join64(s[0], s[1], s[2], s[3], s[4], s[5], s[6], s[7])
 }
 
-// The same where the slice may end before the number does, byte by byte.
+// The 16-bit number in front of a slice that has both bytes.
+pub(crate) fn two_in_front(s: &[u8]) -> u16
+    requires { ⌜ 2 ≤ length (now s) ⌝ }
+    ensures { λ r. ⌜ r ≡ number (now (s .entry)) 0 2 ⌝ }
+{
+    join16(s[0], s[1])
+}
+
+// The 64-bit number where the slice may end before the number does, byte by byte.
 fn at_the_end(s: &[u8], i: usize) -> u64
     ensures { λ r. ⌜ r ≡ number (now (s .entry)) i 8 ⌝ }
 {
