@@ -4,14 +4,14 @@ use mathlib.Core.List.{List, [], _∷_, _++_, append-assoc}
 use mathlib.Core.Bool.{Bool, true}
 use mathlib.Core.Path.{_≡_, refl, ap, _∙_}
 use native.Mathlib.Omega.{arith}
-use lib.ListN.{length, length-append}
+use lib.ListN.{length, drop, length-append}
 use Rattle.wire.specs.Bounds.{sessionSize}
 use Rattle.wire.specs.Output.{put}
 use Rattle.wire.proofs.Outputs.{length-put}
 use Rattle.host_states.specs.Little.{littleBytes}
-use Rattle.host_states.specs.States.{Keeps, Lays, onCode, frontBytes}
+use Rattle.host_states.specs.States.{Keeps, Lays, onCode, frontBytes, nameIn}
 use Rattle.host_states.proofs.LittleLaws.{length-little}
-use Rattle.host_states.proofs.StateLaws.{put-next, length-front, keeps-not, keeps-laid, laid-front, past-field, little-past-field, byte-past-field, little-in-front, name-in-front}
+use Rattle.host_states.proofs.StateLaws.{put-next, length-front, keeps-not, keeps-laid, laid-front, past-field, little-past-field, byte-past-field, little-in-front, name-in-front, name-ten}
 use Rattle.host_session.specs.Session.{phaseAt, sessionStateSize, SessionFields, sessionFields, sessionStateBytes, sessionStateIn}
 
 module _ (first : ℕ) (name : List ℕ) (n b : ℕ) (ten : length name ≡ sessionSize) where
@@ -53,6 +53,20 @@ module _ (first : ℕ) (name : List ℕ) (n b : ℕ) (ten : length name ≡ sess
     pub session-laid : (m : List ℕ) → code ≡ 0 → Lays l m sessionStateIn (sessionStateBytes (sessionFields first name n b)) (sessionFields first name n b)
         → Keeps (onCode code) l m sessionStateSize sessionStateIn (sessionStateBytes (sessionFields first name n b)) (sessionFields first name n b)
     session-laid m z p = keeps-laid l sessionStateSize sessionStateIn _ _ length-session code m z p
+
+-- but for the name, which stands there
+module _ (first n b : ℕ) (l : List ℕ) where
+  pub there-lays : (l₁ l₂ : List ℕ) → sessionStateSize ≤ length l → l₁ ≡ put l 0 (frontBytes first (nameIn l) n) → l₂ ≡ put l₁ phaseAt (b ∷ []) → n < 2 ^ 64
+      → Lays l l₂ sessionStateIn (sessionStateBytes (sessionFields first (nameIn l) n b)) (sessionFields first (nameIn l) n b)
+  there-lays l₁ l₂ h p r u = session-lays first (nameIn l) n b (name-ten (drop 1 l)) l l₁ l₂ h p r u
+
+  module _ (code : ℕ) where
+    pub there-not : (code ≡ 0 → ⊥) → Keeps (onCode code) l l sessionStateSize sessionStateIn (sessionStateBytes (sessionFields first (nameIn l) n b)) (sessionFields first (nameIn l) n b)
+    there-not z = session-not first (nameIn l) n b (name-ten (drop 1 l)) code l z
+
+    pub there-laid : (m : List ℕ) → code ≡ 0 → Lays l m sessionStateIn (sessionStateBytes (sessionFields first (nameIn l) n b)) (sessionFields first (nameIn l) n b)
+        → Keeps (onCode code) l m sessionStateSize sessionStateIn (sessionStateBytes (sessionFields first (nameIn l) n b)) (sessionFields first (nameIn l) n b)
+    there-laid m z p = session-laid first (nameIn l) n b (name-ten (drop 1 l)) code l m z p
 
 -- a session of either end, which its four fields make where there are enough bytes
 pub end-kept : {S : Type 0} (lays : Bool) (l m : List ℕ) (reads : List ℕ → S) (made : SessionFields → S) (f : SessionFields) (x : S)

@@ -11,7 +11,7 @@ ghost use Prim.Native.Nat.{_≤_};
 ghost use lib.ListN.{length};
 ghost use lib.Dec.{ltb};
 ghost use Rattle.host_answers.specs.Answers.{orElse, short};
-ghost use Rattle.host_states.specs.States.{Lays, Keeps, onCode};
+ghost use Rattle.host_states.specs.States.{Lays, Keeps, onCode, nameIn};
 ghost use Rattle.host_session.specs.Session.{sessionStateSize, sessionFields, sessionStateBytes, sessionStateIn};
 
 // Its phase stands behind its name and its number.
@@ -27,6 +27,17 @@ fn put_fields(state: &mut [u8], first: u8, name: [u8; SESSION_SIZE], number: u64
         (sessionStateBytes (sessionFields first name number phase)) (sessionFields first name number phase) ⌝ }
 {
     host_states::put_front(state, first, name, number);
+    output::put_bytes(state, PHASE_AT, &[phase]);
+}
+
+// The same but for the name, which stays as it stands there.
+fn keep_fields(state: &mut [u8], first: u8, number: u64, phase: u8)
+    requires { ⌜ sessionStateSize ≤ length (now state) ⌝ }
+    ensures { λ _. ⌜ Lays (now (state .entry)) (now (state .exit)) sessionStateIn
+        (sessionStateBytes (sessionFields first (nameIn (now (state .entry))) number phase))
+        (sessionFields first (nameIn (now (state .entry))) number phase) ⌝ }
+{
+    host_states::keep_front(state, first, number);
     output::put_bytes(state, PHASE_AT, &[phase]);
 }
 
@@ -48,5 +59,20 @@ pub fn lay(
         return kept;
     }
     put_fields(state, first, name, number, phase);
+    kept
+}
+
+// The same of a session whose name stands in the bytes already.
+pub fn keep(state: &mut [u8], code: u32, first: u8, number: u64, phase: u8) -> u32
+    ensures { λ r. ⌜ r ≡ orElse code (short (ltb (length (now (state .entry))) sessionStateSize)) ⌝ }
+    ensures keeps { λ r. ⌜ Keeps (onCode r) (now (state .entry)) (now (state .exit)) sessionStateSize sessionStateIn
+        (sessionStateBytes (sessionFields first (nameIn (now (state .entry))) number phase))
+        (sessionFields first (nameIn (now (state .entry))) number phase) ⌝ }
+{
+    let kept = host_states::with_room(code, state.len(), SIZE);
+    if kept != 0 {
+        return kept;
+    }
+    keep_fields(state, first, number, phase);
     kept
 }

@@ -4,8 +4,8 @@ use mathlib.Core.List.{List, [], _∷_, _++_}
 use mathlib.Core.Bool.{Bool, true, false}
 use mathlib.Core.Path.{_≡_, refl, ap, sym, _∙_}
 use native.Mathlib.Omega.{arith}
-use lib.ListN.{length, getD, drop, length-append}
-use lib.Seq.{take-at, drop-at, getD-drop, length-take-le}
+use lib.ListN.{length, getD, take, drop, length-append, length-drop, take-append-drop}
+use lib.Seq.{take-at, take-add, drop-at, getD-drop, length-take-le}
 use lib.Dec.{ltb, eqb}
 use borrow.Author.Tests.{eq-eqb, ne-eqb, le-ltb, lt-ltb}
 use Rattle.wire.specs.Choice.{if_then_else_}
@@ -14,11 +14,12 @@ use Rattle.wire.specs.Refusals.{outputShort}
 use Rattle.wire.specs.Output.{put}
 use Rattle.wire.specs.Parts.{firstBytes}
 use Rattle.wire.proofs.Cases.{below-or-not}
-use Rattle.wire.proofs.Outputs.{put-put, put-room, put-none}
+use Rattle.wire.proofs.Outputs.{put-put, put-room, put-none, length-put}
+use Rattle.wire.proofs.PartLaws.{first-there}
 use Rattle.host_answers.specs.Answers.{orElse, short}
 use Rattle.host_answers.proofs.AnswerLaws.{or-first, rung-short, rung-none, has-room}
 use Rattle.host_states.specs.Little.{little, littleBytes}
-use Rattle.host_states.specs.States.{isOpen, openByte, Keeps, Lays, onCode, onStep, StatePromises, frontBytes, frontSize, nameAt, numberAt}
+use Rattle.host_states.specs.States.{isOpen, openByte, Keeps, Lays, onCode, onStep, StatePromises, frontBytes, frontSize, nameAt, numberAt, nameIn}
 use Rattle.host_states.proofs.LittleLaws.{little-back, little-drop, length-little}
 
 -- ---- the first byte
@@ -160,3 +161,23 @@ unfolding firstBytes
 name-ten l =
     below-or-not _ (length l) sessionSize (λ h. rw (lt-ltb (length l) sessionSize h) refl)
     (λ h. rw (le-ltb (length l) sessionSize h) (length-take-le sessionSize l h))
+
+-- bytes that stand there already
+put-same : (l : List ℕ) (at n : ℕ) → at + n ≤ length l → put l at (take n (drop at l)) ≡ l
+put-same l at n h =
+    let d = length-drop at l in
+    let k : length (take n (drop at l)) ≡ n = length-take-le n (drop at l) (omega arith) in
+    put-room l at (take n (drop at l)) (omega arith)
+    ∙ rw (k, ← take-add at n l) (take-append-drop (at + n) l)
+
+pub front-kept : (l l₀ l₁ : List ℕ) (b n : ℕ) → frontSize ≤ length l → l₀ ≡ put l 0 (b ∷ []) → l₁ ≡ put l₀ numberAt (littleBytes 8 n)
+    → l₁ ≡ put l 0 (frontBytes b (nameIn l) n)
+front-kept l l₀ l₁ b n h o q =
+    let d = length-drop 1 l in
+    let behind : drop 1 l₀ ≡ drop 1 l = rw (o, laid-front l (b ∷ []) (omega arith)) in
+    let k : length l₀ ≡ length l = ap length o ∙ length-put l 0 (b ∷ []) in
+    let stays : l₀ ≡ put l₀ nameAt (nameIn l) = sym (rw (first-there 10 (drop 1 l) (omega arith), ← behind) (put-same l₀ 1 10 (omega arith))) in
+    front-put l l₀ l₀ l₁ (nameIn l) b n h (name-ten (drop 1 l)) o stays q
+
+pub front-kept-none : (l : List ℕ) (b n : ℕ) → length l < frontSize → l ≡ put l 0 (frontBytes b (nameIn l) n)
+front-kept-none l b n h = front-none l (nameIn l) b n h (name-ten (drop 1 l))

@@ -8,6 +8,7 @@ use lib.Dec.{eqb}
 use Rattle.wire.specs.Choice.{if_then_else_}
 use Rattle.wire.specs.Bounds.{sessionSize, numberSize}
 use Rattle.wire.specs.Output.{put}
+use Rattle.wire.specs.Parts.{firstBytes}
 use Rattle.host_states.specs.Little.{littleBytes}
 
 -- ---- the first byte
@@ -91,6 +92,10 @@ frontSize = numberAt + numberSize
 
 unfoldable pub frontBytes : ℕ → List ℕ → ℕ → List ℕ
 frontBytes first name n = first ∷ name ++ littleBytes numberSize n
+
+-- the name that stands in some bytes
+abbrev pub nameIn : List ℕ → List ℕ
+nameIn l = firstBytes sessionSize (drop nameAt l)
 
 -- ---- for private helpers alone; no public promise uses it
 

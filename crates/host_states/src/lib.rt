@@ -11,7 +11,7 @@ ghost use mathlib.Core.Path.{_≡_};
 ghost use lib.Dec.{ltb};
 ghost use Rattle.wire.specs.Output.{put};
 ghost use Rattle.host_answers.specs.Answers.{orElse, short};
-ghost use Rattle.host_states.specs.States.{isOpen, openByte, frontBytes};
+ghost use Rattle.host_states.specs.States.{isOpen, openByte, frontBytes, nameIn};
 
 // The codes of the kinds.
 pub const CURSOR: u8 = 0xE1;
@@ -65,6 +65,17 @@ pub fn put_front(state: &mut [u8], first: u8, name: [u8; SESSION_SIZE], number: 
     }
     output::put_bytes(state, CODE_AT, &[first]);
     output::put_bytes(state, NAME_AT, &name);
+    little::put64(state, NUMBER_AT, number);
+}
+
+// Lays the same fields but for the name, which stays as it stands there: a step never changes it.
+pub fn keep_front(state: &mut [u8], first: u8, number: u64)
+    ensures { λ _. ⌜ now (state .exit) ≡ put (now (state .entry)) 0 (frontBytes first (nameIn (now (state .entry))) number) ⌝ }
+{
+    if state.len() < FRONT_SIZE {
+        return;
+    }
+    output::put_bytes(state, CODE_AT, &[first]);
     little::put64(state, NUMBER_AT, number);
 }
 
