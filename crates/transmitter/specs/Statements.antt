@@ -34,7 +34,7 @@ pub record IsPacket (session : List ℕ) (size n : ℕ) (ks d : List ℕ) (place
 
 abbrev pub EveryPacketReadsBack : Type 0
 EveryPacketReadsBack = (out session : List ℕ) (size n : ℕ) (ks d : List ℕ) (place bytes : ℕ)
-    → length session ≡ sessionSize → n < 2 ^ 64 → ((i : ℕ) → getD ks i 0 < 2 ^ 16)
+    → length session ≡ sessionSize → n < 2 ^ 64
     → writeAnswer (transmitGround size n ks d place) out 0 (packetAt session size n ks d place) ≡ says wrote (bytes ∷ [])
     → IsPacket session size n ks d place bytes
     (take bytes (writeOutput (transmitGround size n ks d place) out 0 (packetAt session size n ks d place)))

@@ -20,9 +20,13 @@ use Rattle.transmitter.specs.Transmitter.{runGround, transmitGround, pac
 abbrev pub progress : ℕ → ℕ → Progress
 progress messages bytes = record { messages = messages; bytes = bytes }
 
+-- before the first packet
+abbrev pub beginning : Progress
+beginning = progress 0 0
+
 -- a run that isn't refused begins at its first message; of a refused one nothing is left
 unfoldable pub startOfRun : ℕ → ℕ → List ℕ → List ℕ → Progress
-startOfRun size n ks d = if eqb (runGround size n ks d) 0 then progress 0 0 else progress (length ks) (length d)
+startOfRun size n ks d = if eqb (runGround size n ks d) 0 then beginning else progress (length ks) (length d)
 
 -- ---- the next packet, whoever made the progress up
 
