@@ -1,11 +1,10 @@
 -- A turn's grounds: of the definitions, and as the code tests them. g is the group, x its data.
 use Prim.Native.Nat.{ℕ, _+_, _-_, _≤_, _<_}
 use mathlib.Core.List.{List}
-use mathlib.Core.Path.{_≡_, refl, sym, ap, _∙_}
+use mathlib.Core.Path.{_≡_, refl, sym, _∙_}
 use native.Mathlib.Omega.{arith}
-use lib.ListN.{length, take, drop, length-drop, drop-of-length-le}
+use lib.ListN.{length, take, drop, drop-of-length-le}
 use lib.Seq.{length-take-le}
-use lib.Dec.{eqb}
 use mir.Val.{Fits}
 use mir.Syntax.{w64}
 use borrow.Author.Tests.{lt-ltb, le-ltb, le-leb, lt-leb, eq-eqb, ne-eqb}
@@ -26,6 +25,9 @@ group-none room ks from h = rw (drop-of-length-le ks {i = from} h)
 
 pub group-some : (room : ℕ) (ks : List ℕ) (from : ℕ) (r : Fit) → r ≡ fitting room (take (length ks - from) (drop from ks)) → r ≡ fitting room (drop from ks)
 group-some room ks from r e = rw (part-to-end from ks) at e
+
+pub group-room : (size r : ℕ) (ks : List ℕ) (g : Fit) → r ≡ size - 20 → g ≡ fitting r ks → g ≡ fitting (size - 20) ks
+group-room size r ks g f q = rw f at q
 
 -- ---- the ladder behind the size
 
@@ -69,11 +71,11 @@ module _ (size n : ℕ) (ks d : List ℕ) (p : Progress) where
   abbrev c : ℕ
   c = mostThatFit (size - 20) (drop (p .messages) ks)
 
-  its-count : length (nextLengths size ks p) ≡ c
+  pub its-count : length (nextLengths size ks p) ≡ c
   unfolding nextLengths
   its-count = length-take-le c (drop (p .messages) ks) (is-most (size - 20) (drop (p .messages) ks) .fits .there)
 
-  its-data : total (nextLengths size ks p) ≡ fitting (size - 20) (drop (p .messages) ks) .bytes
+  pub its-data : total (nextLengths size ks p) ≡ fitting (size - 20) (drop (p .messages) ks) .bytes
   unfolding nextLengths
   its-data = refl
 

@@ -1,17 +1,16 @@
 -- How far the first i groups of a run reach, and that a turn from there is for the packet at place i.
 use Prim.Native.Nat.{ℕ, zero, suc, _+_, _-_, _≤_, _<_}
 use mathlib.Core.List.{List, [], _∷_}
-use mathlib.Core.Bool.{Bool, true, false}
+use mathlib.Core.Bool.{true}
 use mathlib.Core.Path.{_≡_, refl, sym, ap, _∙_}
 use native.Mathlib.Omega.{arith}
 use native.Mathlib.Numerals.{add-one}
-use lib.ListN.{length, getD, take, drop, length-append, length-drop, drop-of-length-le}
+use lib.ListN.{length, getD, take, drop, length-append, length-drop}
 use lib.Seq.{drop-cons, drop-drop, drop-nil, take-nil, getD-drop, length-take-le}
-use lib.Dec.{eqb}
 use borrow.Author.Tests.{le-leb, lt-leb}
 use Rattle.wire.proofs.Cases.{below-or-not}
 use Rattle.moldudp64_writer.specs.Writer.{cut, total, lengthsOf}
-use Rattle.moldudp64_writer.proofs.CutLaws.{cut-count, lengths-count}
+use Rattle.moldudp64_writer.proofs.CutLaws.{cut-count}
 use Rattle.packing.specs.Fit.{eachFits, mostThatFit, fitting}
 use Rattle.packing.proofs.FitLaws.{is-most, packing-promises}
 use Rattle.packing.proofs.GroupLaws.{lengths-drop, lengths-cut}
@@ -22,7 +21,7 @@ use Rattle.transmitter.specs.Transmitter.{groupsOf, runGround, transmitG
 use Rattle.transmitter.specs.Turns.{beginning, nextLengths, nextData, nextGround, nextBytes, IsAtPlace}
 use Rattle.transmitter.specs.Walk.{past, pastGroups}
 use Rattle.transmitter.proofs.CuttingLaws.{each-later}
-use Rattle.transmitter.proofs.RunLaws.{Good, good}
+use Rattle.transmitter.proofs.RunLaws.{Good}
 use Rattle.transmitter.proofs.GroundLaws.{next-good, next-none}
 
 -- ---- one group of the cutting
@@ -154,14 +153,14 @@ module _ (size n : ℕ) (ks d : List ℕ) (g : Good size n ks d) (i : ℕ) (p : 
       next-good size n ks d p (g .size-fine) h (rw (← r .sum) at w) (λ z. g .nonzero (omega arith)) (omega (arith, few, g .numbers)) (one-taken h)
 
   module _ (e : runGround size n ks d ≡ 0) where
-    same-ground : nextGround size n ks d p ≡ transmitGround size n ks d i
+    pub same-ground : nextGround size n ks d p ≡ transmitGround size n ks d i
     unfolding transmitGround
     same-ground =
         below-or-not _ m (length ks)
         (λ h. there-good h ∙ rw (e, lt-leb (length (groupsOf size ks d)) i (group-there h)))
         (λ h. next-none size n ks d p (g .size-fine) h ∙ rw (e, le-leb (length (groupsOf size ks d)) i (group-not h)))
 
-    same-bytes : (s : List ℕ) → nextBytes s size n ks d p ≡ packetAt s size n ks d i
+    pub same-bytes : (s : List ℕ) → nextBytes s size n ks d p ≡ packetAt s size n ks d i
     unfolding nextBytes packetAt nextLengths nextData
     same-bytes s = rw (r .sum, cut-part m c ks d, its-group, ← r .count)
 

@@ -2,7 +2,7 @@
 use Prim.Native.Nat.{ℕ, _+_, _-_, _≤_, _<_}
 use mathlib.Core.List.{List, []}
 use mathlib.Core.Bool.{Bool, true, false, not}
-use mathlib.Core.Path.{_≡_, sym, _∙_}
+use mathlib.Core.Path.{_≡_}
 use native.Mathlib.Omega.{arith}
 use native.Mathlib.Numerals.{add-one}
 use lib.ListN.{length, getD, drop, drop-of-length-le}
@@ -10,14 +10,13 @@ use lib.Seq.{drop-cons}
 use lib.Dec.{eqb}
 use mir.Val.{Fits}
 use mir.Syntax.{w64}
-use borrow.Author.Tests.{ltb-false, lt-ltb, le-ltb, le-leb, lt-leb, eq-eqb, ne-eqb, eqb-true, eqb-false, not-false}
+use borrow.Author.Tests.{ltb-false, lt-ltb, le-ltb, le-leb, lt-leb, ne-eqb, eqb-true, eqb-false, not-false}
 use Rattle.wire.specs.Choice.{if_then_else_}
 use Rattle.moldudp64.specs.Downstream.{runOut}
 use Rattle.moldudp64.proofs.DownstreamLaws.{past-ground}
 use Rattle.moldudp64_writer.specs.Writer.{total, addUp}
 use Rattle.packing.specs.Fit.{sizeGround, fitsAlone, eachFits}
 use Rattle.packing.proofs.GroupLaws.{handed-on, size-good}
-use Rattle.transmitter.specs.declared.turns.Progress.{Progress}
 use Rattle.transmitter.specs.Transmitter.{runGround}
 use Rattle.transmitter.specs.Turns.{progress, beginning, startOfRun}
 

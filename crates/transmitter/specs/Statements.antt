@@ -2,7 +2,7 @@
 use Prim.Native.Nat.{ℕ, _≤_, _<_, _^_}
 use mathlib.Core.List.{List, [], _∷_}
 use mathlib.Core.Path.{_≡_}
-use lib.ListN.{length, getD, take}
+use lib.ListN.{length, take}
 use Rattle.wire.specs.Bounds.{sessionSize}
 use Rattle.wire.specs.Words.{says}
 use Rattle.wire.specs.Output.{wrote, writeAnswer, writeOutput}

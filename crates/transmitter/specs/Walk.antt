@@ -2,15 +2,18 @@
 use Prim.Native.Nat.{ℕ, zero, suc, _+_}
 use mathlib.Core.List.{List}
 use mathlib.Core.Bool.{not}
+use mathlib.Core.Path.{_≡_}
 use lib.ListN.{drop}
 use lib.Dec.{leb, eqb}
 use Rattle.wire.specs.Choice.{if_then_else_}
 use Rattle.wire.specs.Refusals.{numberZero, numbersRunOut, lengthsDiffer, messageLong, noSuchPacket}
+use Rattle.wire.specs.Output.{Writes}
 use Rattle.moldudp64.specs.Downstream.{runOut}
 use Rattle.packing.specs.declared.fit.Fit.{Fit}
 use Rattle.packing.specs.Fit.{fitting}
 use Rattle.transmitter.specs.declared.turns.Progress.{Progress}
-use Rattle.transmitter.specs.Turns.{progress, nextNumber}
+use Rattle.transmitter.specs.declared.turns.Turn.{Turn}
+use Rattle.transmitter.specs.Turns.{progress, nextNumber, nextGround, nextBytes, progressAfter}
 
 -- the progress past a group
 abbrev pub past : Progress → Fit → Progress
@@ -30,3 +33,8 @@ groupGround n all p g have =
     else if runOut (nextNumber n p) (g .count) then numbersRunOut
     else if eqb (g .count) 0 then messageLong
     else 0
+
+-- a turn that answers r and turns the output l into m
+pub record Turns (r : Turn) (session : List ℕ) (size n : ℕ) (ks d : List ℕ) (p : Progress) (l m : List ℕ) : Type 0 where
+  pub writes : Writes (r .written) l m (nextGround size n ks d p) 0 (nextBytes session size n ks d p)
+  pub leads : r .progress ≡ progressAfter session size n ks d p l

@@ -17,10 +17,10 @@ ghost use mathlib.Core.Path.{_≡_};
 ghost use Prim.Native.Nat.{_+_, _-_, _≤_, _<_, _^_};
 ghost use lib.ListN.{drop};
 ghost use Rattle.wire.specs.Output.{Writes};
-ghost use Rattle.packing.specs.Fit.{fitting};
+ghost use Rattle.packing.specs.Fit.{sizeGround, roomOf, fitting};
 ghost use Rattle.transmitter.specs.Transmitter.{runGround};
 ghost use Rattle.transmitter.specs.Turns.{startOfRun, nextGround, nextBytes, progressAfter, TurnsGoByPlace};
-ghost use Rattle.transmitter.specs.Walk.{past, groupGround};
+ghost use Rattle.transmitter.specs.Walk.{past, groupGround, Turns};
 
 // How many messages earlier packets took, and the bytes of their data.
 pub struct Progress {
@@ -91,9 +91,9 @@ impl Progress {
         }
     }
 
-    // The grounds of a turn behind its size: all is how many messages the run has, and have how much of the group's
-    // data is there.
-    fn ground(self, first: SequenceNumber, all: usize, group: Fit, have: usize) -> Refusal
+    // A turn's grounds behind its size: all is how many messages the run has, and have how much of the group's data is
+    // there.
+    fn group_ground(self, first: SequenceNumber, all: usize, group: Fit, have: usize) -> Refusal
         requires { ⌜ group .count ≤ all - self .messages ⌝ }
         ensures { λ r. ⌜ r .number ≡ groupGround (first .0) all self group have ⌝ }
     {
@@ -115,6 +115,55 @@ impl Progress {
             return refusal::MESSAGE_LONG;
         }
         refusal::NONE
+    }
+
+    // The ground of a turn whose size is good.
+    fn ground(
+        self,
+        first: SequenceNumber,
+        lengths: &[u16],
+        joined: &[u8],
+        size: usize,
+        group: Fit,
+    ) -> Refusal
+        requires { ⌜ (sizeGround size ≡ 0) × (group ≡ fitting (roomOf size) (drop (self .messages) (now lengths))) ⌝ }
+        ensures { λ r. ⌜ r .number ≡ nextGround size (first .0) (now (lengths .entry)) (now (joined .entry)) self ⌝ }
+    {
+        let data = parts::part(joined, ByteOffset(self.bytes), group.bytes);
+        self.group_ground(first, lengths.len(), group, data.len())
+    }
+
+    // Writes the group of a turn that has no ground.
+    fn write(
+        self,
+        out: &mut [u8],
+        session: [u8; SESSION_SIZE],
+        first: SequenceNumber,
+        lengths: &[u16],
+        joined: &[u8],
+        size: usize,
+        group: Fit,
+    ) -> Turn
+        requires { ⌜ (nextGround size (first .0) (now lengths) (now joined) self ≡ 0)
+            × (group ≡ fitting (roomOf size) (drop (self .messages) (now lengths))) ⌝ }
+        ensures { λ r. ⌜ Turns r session size (first .0) (now (lengths .entry)) (now (joined .entry)) self
+            (now (out .entry)) (now (out .exit)) ⌝ }
+    {
+        let from = self.messages;
+        let to = from + group.count;
+        let number = SequenceNumber(first.0 + from as u64);
+        let data = parts::part(joined, ByteOffset(self.bytes), group.bytes);
+        let written = downstream::write_messages(out, session, number, &lengths[from..to], data);
+        match written {
+            Written::Wrote { size } => Turn {
+                written: Written::Wrote { size },
+                progress: self.past(group),
+            },
+            Written::Refused(short) => Turn {
+                written: Written::Refused(short),
+                progress: self,
+            },
+        }
     }
 
     // Writes the next packet. A refusal leaves the progress as it was.
@@ -142,27 +191,13 @@ impl Progress {
             };
         }
         let group = self.group(lengths, size::room(size));
-        let data = parts::part(joined, ByteOffset(self.bytes), group.bytes);
-        let refused = self.ground(first, lengths.len(), group, data.len());
+        let refused = self.ground(first, lengths, joined, size, group);
         if refused.number != 0 {
             return Turn {
                 written: Written::Refused(refused),
                 progress: self,
             };
         }
-        let from = self.messages;
-        let to = from + group.count;
-        let number = SequenceNumber(first.0 + from as u64);
-        let written = downstream::write_messages(out, session, number, &lengths[from..to], data);
-        match written {
-            Written::Wrote { size } => Turn {
-                written: Written::Wrote { size },
-                progress: self.past(group),
-            },
-            Written::Refused(short) => Turn {
-                written: Written::Refused(short),
-                progress: self,
-            },
-        }
+        self.write(out, session, first, lengths, joined, size, group)
     }
 }
