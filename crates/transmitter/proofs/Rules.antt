@@ -6,9 +6,10 @@ use Rattle.transmitter.proofs.RunLaws.{each-next, each-stop, each-end, 
 use Rattle.transmitter.proofs.GroundLaws.{group-none, group-some, group-room, ground-54, ground-44, ground-14, ground-13, ground-52, ground-good, next-19, next-behind}
 use Rattle.transmitter.proofs.TurnLaws.{stays, stays-19, group-few, turn-there, turn-number, turn-end, turn-to, turn-counts, turn-sums, turn-wrote, turn-short, turns-go-by-place}
 use Rattle.transmitter.proofs.WalkLaws.{walking-start, walking-end, walking-stop, walking-counts, walking-sums, walking-next, place-refused, run-fits, place-written}
+use Rattle.transmitter.proofs.WitnessLaws.{not-vacuous}
 use Rattle.transmitter.proofs.StatementLaws.{transmitter-promises}
 
-pub ruleset runs = (each-next, each-stop, each-end, run-19, run-44, run-13, run-14, run-52, run-good, start-refused, start-good, turns-go-by-place, refl, needs)
+pub ruleset runs = (each-next, each-stop, each-end, run-19, run-44, run-13, run-14, run-52, run-good, start-refused, start-good, turns-go-by-place, not-vacuous, refl, needs)
 
 pub ruleset groups = (group-none, group-some, ground-54, ground-44, ground-14, ground-13, ground-52, ground-good, next-behind, group-few, needs)
 

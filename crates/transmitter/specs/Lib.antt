@@ -3,3 +3,4 @@ pub mod Transmitter
 pub mod Turns
 pub mod Walk
 pub mod Statements
+pub mod Witness

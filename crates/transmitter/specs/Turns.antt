@@ -90,8 +90,8 @@ module _ (session : List ℕ) (size n : ℕ) (ks d : List ℕ) where
     pub same-bytes : transmitGround size n ks d place ≡ 0
         → nextBytes session size n ks d p ≡ packetAt session size n ks d place
 
--- whatever outputs were lent to the turns before, refused or not: the next packet of a run that isn't refused is the one
--- whose place is how many were written
+-- whatever outputs were lent to the turns before, refused or not: the next packet of a run that isn't refused is the
+-- one whose place is how many were written
 abbrev pub TurnsGoByPlace : Type 0
 TurnsGoByPlace = (session : List ℕ) (size n : ℕ) (ks d : List ℕ) (os : List (List ℕ)) → runGround size n ks d ≡ 0
     → IsAtPlace session size n ks d (afterTurns session size n ks d (startOfRun size n ks d) os)

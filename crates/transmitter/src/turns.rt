@@ -20,6 +20,7 @@ ghost use Rattle.wire.specs.Output.{Writes};
 ghost use Rattle.packing.specs.Fit.{sizeGround, roomOf, fitting};
 ghost use Rattle.transmitter.specs.Transmitter.{runGround};
 ghost use Rattle.transmitter.specs.Turns.{startOfRun, nextGround, nextBytes, progressAfter, TurnsGoByPlace};
+ghost use Rattle.transmitter.specs.Witness.{NotVacuous};
 ghost use Rattle.transmitter.specs.Walk.{past, groupGround, Turns};
 
 // How many messages earlier packets took, and the bytes of their data.
@@ -51,6 +52,7 @@ pub fn start(first: SequenceNumber, lengths: &[u16], joined: &[u8], size: usize)
     ensures { λ r. ⌜ (r .refusal .number ≡ runGround size (first .0) (now (lengths .entry)) (now (joined .entry)))
         × (r .progress ≡ startOfRun size (first .0) (now (lengths .entry)) (now (joined .entry))) ⌝ }
     ensures by_place { λ _. ⌜ TurnsGoByPlace ⌝ }
+    ensures not_vacuous { λ _. ⌜ NotVacuous ⌝ }
 {
     let refusal = run::ground(first, lengths, joined, size);
     if refusal.number != 0 {
