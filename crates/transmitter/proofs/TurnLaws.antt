@@ -28,7 +28,7 @@ use Rattle.packing.proofs.GroupLaws.{handed-on, size-good}
 use Rattle.transmitter.specs.declared.turns.Progress.{Progress}
 use Rattle.transmitter.specs.Transmitter.{runGround}
 use Rattle.transmitter.specs.Turns.{progress, beginning, startOfRun, nextLengths, nextData, nextGround, nextBytes, isWritten, progressAfter, afterTurns, packetsWritten, IsAtPlace, TurnsGoByPlace}
-use Rattle.transmitter.specs.Walk.{past, Turns}
+use Rattle.transmitter.specs.Walk.{past, moved, Turns}
 use Rattle.transmitter.proofs.RunLaws.{good}
 use Rattle.transmitter.proofs.GroundLaws.{its-count, its-data, next-19}
 use Rattle.transmitter.proofs.PlaceLaws.{Reached, reached-start, reached-next, is-at-place}
@@ -91,6 +91,15 @@ no-ground size n ks d p e =
       numbers = ltb-false _ _ (f .0);
     }
 
+-- where its answer leads
+leads-there : (s : List ℕ) (size n : ℕ) (ks d : List ℕ) (p : Progress) (l : List ℕ) (g : Fit) → g ≡ fitting (size - 20) (drop (p .messages) ks)
+    → (w : Written) → writtenWords w ≡ writeAnswer (nextGround size n ks d p) l 0 (nextBytes s size n ks d p) → moved p g w ≡ progressAfter s size n ks d p l
+unfolding moved writtenWords
+leads-there s size n ks d p l g q (Wrote k) a =
+    let o = wrote-so _ _ _ _ k (sym a) in
+    ap (past p) q ∙ sym (after-written s size n ks d p l (eq-eqb _ _ (no-write-refusal _ _ _ _ (o .no-ground) (o .room))))
+leads-there s size n ks d p l g q (Refused r) a = sym (after-refused s size n ks d p l (not-wrote _ _ _ _ (r .number) (sym a)))
+
 module _ (size n : ℕ) (ks d : List ℕ) (p : Progress) (e : nextGround size n ks d p ≡ 0) where
   free : NoGround size n ks d p
   free = no-ground size n ks d p e
@@ -146,26 +155,22 @@ module _ (size n : ℕ) (ks d : List ℕ) (p : Progress) (e : nextGround size n 
       unfolding nextData
       its-part = a ∙ ap (λ (k : ℕ). take k (drop (p .bytes) d)) is-sum
 
-      pub turn-writes : Writes w l m (nextGround size n ks d p) 0 (nextBytes s size n ks d p)
+      turn-writes : Writes w l m (nextGround size n ks d p) 0 (nextBytes s size n ks d p)
       unfolding nextBytes
       turn-writes = rw e (rw (its-lengths, its-part, writable) at h)
 
-      pub turn-wrote : (k : ℕ) (r : Progress) → w ≡ Wrote k → r ≡ past p g → Turns (record { written = Wrote k; progress = r }) s size n ks d p l m
-      unfolding writtenWords
-      turn-wrote k r y z =
-          let o = wrote-so _ _ _ _ k (sym (rw y at (turn-writes .answers))) in
-          record {
-            writes = rw y at turn-writes;
-            leads = z ∙ ap (past p) q ∙ sym (after-written s size n ks d p l (eq-eqb _ _ (no-write-refusal _ _ _ _ (o .no-ground) (o .room))));
-          }
+      pub turn-done : (r : Progress) → r ≡ moved p g w → Turns (record { written = w; progress = r }) s size n ks d p l m
+      turn-done r z = record { writes = turn-writes; leads = z ∙ leads-there s size n ks d p l g q w (turn-writes .answers) }
 
-      pub turn-short : (r : Refusal) → w ≡ Refused r → Turns (record { written = Refused r; progress = p }) s size n ks d p l m
-      unfolding writtenWords
-      turn-short r y =
-          record {
-            writes = rw y at turn-writes;
-            leads = sym (after-refused s size n ks d p l (not-wrote _ _ _ _ (r .number) (sym (rw y at (turn-writes .answers)))));
-          }
+-- ---- as the code has it
+
+pub moved-wrote : (p q : Progress) (g : Fit) (w : Written) (k : ℕ) → w ≡ Wrote k → q ≡ past p g → q ≡ moved p g w
+unfolding moved
+moved-wrote p q g w k e f = rw e f
+
+pub moved-refused : (p : Progress) (g : Fit) (w : Written) (r : Refusal) → w ≡ Refused r → p ≡ moved p g w
+unfolding moved
+moved-refused p g w r e = rw e
 
 -- ---- any list of turns
 

@@ -8,6 +8,8 @@ use lib.Dec.{leb, eqb}
 use Rattle.wire.specs.Choice.{if_then_else_}
 use Rattle.wire.specs.Refusals.{numberZero, numbersRunOut, lengthsDiffer, messageLong, noSuchPacket}
 use Rattle.wire.specs.Output.{Writes}
+use Rattle.wire.specs.declared.output.Written.{Written}
+use Rattle.wire.specs.declared.output.Written.the-variants.{Wrote, Refused}
 use Rattle.moldudp64.specs.Downstream.{runOut}
 use Rattle.packing.specs.declared.fit.Fit.{Fit}
 use Rattle.packing.specs.Fit.{fitting}
@@ -19,7 +21,12 @@ use Rattle.transmitter.specs.Turns.{progress, nextNumber, nextGround, ne
 abbrev pub past : Progress → Fit → Progress
 past p g = progress (p .messages + g .count) (p .bytes + g .bytes)
 
--- and past so many groups
+-- after a group was written, or refused
+unfoldable pub moved : Progress → Fit → Written → Progress
+moved p g (Wrote size) = past p g
+moved p g (Refused r) = p
+
+-- past so many groups
 unfoldable pub pastGroups : ℕ → List ℕ → Progress → ℕ → Progress
 pastGroups room ks p zero = p
 pastGroups room ks p (suc i) = pastGroups room ks (past p (fitting room (drop (p .messages) ks))) i

@@ -21,7 +21,7 @@ ghost use Rattle.packing.specs.Fit.{sizeGround, roomOf, fitting};
 ghost use Rattle.transmitter.specs.Transmitter.{runGround};
 ghost use Rattle.transmitter.specs.Turns.{startOfRun, nextGround, nextBytes, progressAfter, TurnsGoByPlace};
 ghost use Rattle.transmitter.specs.Witness.{NotVacuous};
-ghost use Rattle.transmitter.specs.Walk.{past, groupGround, Turns};
+ghost use Rattle.transmitter.specs.Walk.{past, moved, groupGround, Turns};
 
 // How many messages earlier packets took, and the bytes of their data.
 pub struct Progress {
@@ -93,6 +93,17 @@ impl Progress {
         }
     }
 
+    // The progress after a group was written, or refused.
+    fn after(self, group: Fit, written: Written) -> Progress
+        requires { ⌜ (self .messages + group .count < 2 ^ 64) × (self .bytes + group .bytes < 2 ^ 64) ⌝ }
+        ensures { λ r. ⌜ r ≡ moved self group written ⌝ }
+    {
+        match written {
+            Written::Wrote { size } => self.past(group),
+            Written::Refused(short) => self,
+        }
+    }
+
     // A turn's grounds behind its size: all is how many messages the run has, and have how much of the group's data is
     // there.
     fn group_ground(self, first: SequenceNumber, all: usize, group: Fit, have: usize) -> Refusal
@@ -156,16 +167,8 @@ impl Progress {
         let number = SequenceNumber(first.0 + from as u64);
         let data = parts::part(joined, ByteOffset(self.bytes), group.bytes);
         let written = downstream::write_messages(out, session, number, &lengths[from..to], data);
-        match written {
-            Written::Wrote { size } => Turn {
-                written: Written::Wrote { size },
-                progress: self.past(group),
-            },
-            Written::Refused(short) => Turn {
-                written: Written::Refused(short),
-                progress: self,
-            },
-        }
+        let progress = self.after(group, written);
+        Turn { written, progress }
     }
 
     // Writes the next packet. A refusal leaves the progress as it was.
