@@ -36,7 +36,7 @@ use Rattle.transmitter.proofs.PlaceLaws.{Reached, reached-start, reache
 -- ---- where it leads
 
 module _ (s : List ℕ) (size n : ℕ) (ks d : List ℕ) (p : Progress) (o : List ℕ) where
-  after-written : isWritten s size n ks d p o ≡ true → progressAfter s size n ks d p o ≡ past p (fitting (size - 20) (drop (p .messages) ks))
+  pub after-written : isWritten s size n ks d p o ≡ true → progressAfter s size n ks d p o ≡ past p (fitting (size - 20) (drop (p .messages) ks))
   unfolding progressAfter
   after-written e = rw (e, its-count size n ks d p, its-data size n ks d p)
 

@@ -1,0 +1,4 @@
+pub mod RefusalLaws
+pub mod CallLaws
+pub mod RunLaws
+pub mod Rules
