@@ -1,5 +1,5 @@
--- What the exported functions of the transmitter promise: the state's bytes l become m, the lent output o becomes o′, and
--- the lent words ws become ws′.
+-- What the exported functions of the transmitter promise: the state's bytes l become m, the lent output o becomes o′,
+-- and the lent words ws become ws′.
 use Prim.Native.Nat.{ℕ}
 use mathlib.Core.List.{List}
 use mathlib.Core.Path.{_≡_}

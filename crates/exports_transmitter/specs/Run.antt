@@ -1,5 +1,5 @@
--- A host that starts a run and asks for its packets one by one, keeping the state's bytes between two calls. Each record
--- of a call is the very promise of the function.
+-- A host that starts a run and asks for its packets one by one, keeping the state's bytes between two calls. Each
+-- record of a call is the very promise of the function.
 use Prim.Native.Nat.{ℕ, _<_}
 use mathlib.Core.List.{List, [], _∷_, _++_}
 use mathlib.Core.Path.{_≡_}

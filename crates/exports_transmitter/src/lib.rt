@@ -15,6 +15,7 @@ ghost use Rattle.host_answers.specs.Answers.{RefusesOnly, AnswersWriting};
 ghost use Rattle.exports_moldudp64.specs.Writers.{named};
 ghost use Rattle.exports_transmitter.specs.Calls.{StartsTransmitter, NextPacket};
 ghost use Rattle.exports_transmitter.specs.Run.{HandsOn};
+ghost use Rattle.exports_transmitter.specs.Example.{HandedExample};
 
 // Writes the packet at a place.
 #[no_mangle]
@@ -64,6 +65,7 @@ pub extern "C" fn eiderwagon_transmitter_start(
         (now (state .exit)) ⌝ }
     ensures refuses { λ r. ⌜ RefusesOnly r (19 ∷ 44 ∷ 13 ∷ 14 ∷ 52 ∷ 41 ∷ []) ⌝ }
     ensures hands_on { λ _. ⌜ HandsOn ⌝ }
+    ensures not_vacuous { λ _. ⌜ HandedExample ⌝ }
 {
     let started = turns::start(SequenceNumber(first), lengths, joined, size as usize);
     let progress = started.progress;

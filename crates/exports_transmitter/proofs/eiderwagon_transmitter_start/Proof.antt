@@ -1,5 +1,7 @@
 -- The run's ground, and the progress kept.
 use Rattle.exports_transmitter.proofs.Rules.{starts}
+use Rattle.exports_transmitter.proofs.RunLaws.{hands-on}
+use Rattle.exports_transmitter.proofs.ExampleLaws.{handed-example}
 use Rattle.exports_transmitter.proofs.eiderwagon_transmitter_start.Statement.{statement}
 use Rattle.exports_transmitter.proofs.eiderwagon_transmitter_start.Tie as tie
 
@@ -11,5 +13,5 @@ eiderwagon-transmitter-start-spec =
     (λ c. search starts)  -- cast-write
     (λ c κs. search starts)  -- write-requires
     (λ c. search starts)  -- same-length
-    (λ c. search starts)  -- returns
+    (λ c. (search starts, (search starts, (hands-on, handed-example))))  -- returns
     )
