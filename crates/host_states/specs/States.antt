@@ -29,6 +29,9 @@ clientCode = 228
 abbrev pub readingCode : ℕ
 readingCode = 229
 
+abbrev pub transmitterCode : ℕ
+transmitterCode = 230
+
 -- its bytes, and those of a phase or a stage
 abbrev pub codeSize : ℕ
 codeSize = 1

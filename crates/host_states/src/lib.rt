@@ -24,6 +24,8 @@ pub const CLIENT: u8 = 0xE4;
 
 pub const READING: u8 = 0xE5;
 
+pub const TRANSMITTER: u8 = 0xE6;
+
 // Where the code stands, its bytes, and what stands there in a state that isn't open.
 pub const CODE_AT: ByteOffset = ByteOffset(0);
 

@@ -2,7 +2,7 @@
 use Prim.Native.Nat.{ℕ, _≤_, _<_, _^_}
 use mathlib.Core.List.{List, [], _∷_}
 use mathlib.Core.Path.{_≡_}
-use lib.ListN.{length, getD, take}
+use lib.ListN.{length, take}
 use Rattle.wire.specs.Bounds.{sessionSize}
 use Rattle.wire.specs.Words.{says}
 use Rattle.wire.specs.Output.{wrote, writeAnswer, writeOutput}
@@ -24,18 +24,21 @@ pub record CutsTheRun (size : ℕ) (ms : List Message) (gs : List Group) : Type 
   pub fewest : (other : List Group) → CuttingUnder (roomOf size) ms other → length gs ≤ length other
 
 abbrev pub CutsEveryRun : Type 0
-CutsEveryRun = (size n : ℕ) (ks d : List ℕ) → runGround size n ks d ≡ 0 → CutsTheRun size (cut ks d) (groupsOf size ks d)
+CutsEveryRun = (size n : ℕ) (ks d : List ℕ) → runGround size n ks d ≡ 0
+    → CutsTheRun size (cut ks d) (groupsOf size ks d)
 
 -- the bytes that the writer reports are a datagram of just that group, and are no more than the size
 pub record IsPacket (session : List ℕ) (size n : ℕ) (ks d : List ℕ) (place bytes : ℕ) (p : List ℕ) : Type 0 where
   pub small : bytes ≤ size
   pub reads : DatagramReadsAs p session data-packet
-      (numberAt size n ks d place ∷ length (groupAt (groupsOf size ks d) place) ∷ []) (groupAt (groupsOf size ks d) place)
+      (numberAt size n ks d place ∷ length (groupAt (groupsOf size ks d) place) ∷ [])
+      (groupAt (groupsOf size ks d) place)
 
 abbrev pub EveryPacketReadsBack : Type 0
 EveryPacketReadsBack = (out session : List ℕ) (size n : ℕ) (ks d : List ℕ) (place bytes : ℕ)
-    → length session ≡ sessionSize → n < 2 ^ 64 → ((i : ℕ) → getD ks i 0 < 2 ^ 16)
-    → writeAnswer (transmitGround size n ks d place) out 0 (packetAt session size n ks d place) ≡ says wrote (bytes ∷ [])
+    → length session ≡ sessionSize → n < 2 ^ 64
+    → writeAnswer (transmitGround size n ks d place) out 0 (packetAt session size n ks d place)
+    ≡ says wrote (bytes ∷ [])
     → IsPacket session size n ks d place bytes
     (take bytes (writeOutput (transmitGround size n ks d place) out 0 (packetAt session size n ks d place)))
 

@@ -1,5 +1,5 @@
--- What the transmitter is given, what it refuses, and the packet at a place: ks are the lengths of the messages, d their
--- joined data, n the number of the first, and size the most bytes of a packet, its header included.
+-- What the transmitter is given, what it refuses, and the packet at a place: ks are the lengths of the messages, d
+-- their joined data, n the number of the first, and size the most bytes of a packet, its header included.
 use Prim.Native.Nat.{ℕ, _+_}
 use mathlib.Core.List.{List}
 use mathlib.Core.Bool.{not}

@@ -20,9 +20,13 @@ use Rattle.transmitter.specs.Transmitter.{runGround, transmitGround, pac
 abbrev pub progress : ℕ → ℕ → Progress
 progress messages bytes = record { messages = messages; bytes = bytes }
 
+-- before the first packet
+abbrev pub beginning : Progress
+beginning = progress 0 0
+
 -- a run that isn't refused begins at its first message; of a refused one nothing is left
 unfoldable pub startOfRun : ℕ → ℕ → List ℕ → List ℕ → Progress
-startOfRun size n ks d = if eqb (runGround size n ks d) 0 then progress 0 0 else progress (length ks) (length d)
+startOfRun size n ks d = if eqb (runGround size n ks d) 0 then beginning else progress (length ks) (length d)
 
 -- ---- the next packet, whoever made the progress up
 
@@ -86,8 +90,8 @@ module _ (session : List ℕ) (size n : ℕ) (ks d : List ℕ) where
     pub same-bytes : transmitGround size n ks d place ≡ 0
         → nextBytes session size n ks d p ≡ packetAt session size n ks d place
 
--- whatever outputs were lent to the turns before, refused or not: the next packet of a run that isn't refused is the one
--- whose place is how many were written
+-- whatever outputs were lent to the turns before, refused or not: the next packet of a run that isn't refused is the
+-- one whose place is how many were written
 abbrev pub TurnsGoByPlace : Type 0
 TurnsGoByPlace = (session : List ℕ) (size n : ℕ) (ks d : List ℕ) (os : List (List ℕ)) → runGround size n ks d ≡ 0
     → IsAtPlace session size n ks d (afterTurns session size n ks d (startOfRun size n ks d) os)

@@ -1,0 +1,5 @@
+pub mod RefusalLaws
+pub mod CallLaws
+pub mod RunLaws
+pub mod ExampleLaws
+pub mod Rules
