@@ -11,12 +11,15 @@ use Rattle.wire.specs.Bounds.{sessionSize, leastNumber, largestNumber, leastLim
 use Rattle.wire.specs.Refusals.{badSetting}
 use Rattle.wire.specs.Words.{Words}
 use Rattle.wire.proofs.Cases.{zero-or-not}
-use Rattle.moldudp64.specs.Downstream.{DownstreamKind, kindOf, refusalOf, wellFormed}
+use Rattle.moldudp64.specs.declared.downstream.Downstream.{Downstream}
+use Rattle.moldudp64.specs.Downstream.{DownstreamKind, kindOf, refusalOf, wellFormed, downstreamOf, downstreamWords}
+use Rattle.moldudp64.proofs.DownstreamLaws.{refusal-found}
 use Rattle.moldudp64.specs.Header.{numberOf}
 use Rattle.receiver.specs.declared.receiver.Receiver.{Receiver}
 use Rattle.receiver.specs.declared.receiver.Answer.{Answer}
 use Rattle.receiver.specs.Table.{AnswerKind, answerWords, Outcome, Row, data-reaches, data-below, heartbeat-below, heartbeat-at, any-above, end-at}
-use Rattle.receiver.specs.Receiver.{receiverStartRefusal, otherSession, endBelow, ownRefusal, refusalFor, answerOf}
+use Rattle.receiver.specs.Receiver.{receiverStartRefusal, otherSession, endBelow, ownRefusal, refusalFor, answerOf, answerRead}
+use Rattle.receiver.proofs.ReadLaws.{read-as-whole}
 use Rattle.receiver.proofs.Promises.{row-of, refused-answers}
 use Rattle.receiver.proofs.TableLaws.{row-answer}
 use Rattle.host_answers.specs.Answers.{orElse, short, unlessSized, stateLadder, behindStateless, isOneOf, RefusesOnly, AnswersWith}
@@ -49,42 +52,13 @@ ill-formed : (r : Receiver) (d : List ℕ) → (refusalOf d ≡ 0 → ⊥) → r
 unfolding refusalFor
 ill-formed r d e = rw (ne-eqb (refusalOf d) 0 e)
 
--- and each other one has the receiver's
-well-formed : (r : Receiver) (d : List ℕ) → refusalOf d ≡ 0 → refusalFor r d ≡ ownRefusal r d (endBelow (kindOf d) (numberOf d) (r .next .0))
-unfolding refusalFor
-well-formed r d e = rw (eq-eqb (refusalOf d) 0 e)
-
--- those of its own are above 16
-own-above : (r : Receiver) (d : List ℕ) (b : Bool) → (ownRefusal r d b ≡ 0 → ⊥) → 16 < ownRefusal r d b
-unfolding ownRefusal
-own-above r d b = go (otherSession r d) (r .ended) b
-  where
-    rung : Bool → Bool → Bool → ℕ
-    rung x y z = if x then 17 else if y then 18 else if z then 20 else 0
-
-    go : (x y z : Bool) → (rung x y z ≡ 0 → ⊥) → 16 < rung x y z
-    go true y z e = omega arith
-    go false true z e = omega arith
-    go false false true e = omega arith
-    go false false false e = absurd (e refl)
-
 -- ---- the ladder
-
--- a datagram's own is at most 16
-at-most : (d : List ℕ) → refusalOf d ≤ 16
-unfolding atMost
-at-most d = only-at-most (refusalOf d) 16 datagramGrounds (datagram-only d) refl
 
 -- with a state that is long enough it is the receiver's
 pub whole-ladder : (r : Receiver) (d : List ℕ) → refusalFor r d ≡ stateLadder (refusalOf d) false (refusalFor r d)
 unfolding short
 whole-ladder r d =
     zero-or-not _ (refusalOf d) (λ z. or-next 0 (refusalFor r d) refl ∙ or-next (refusalOf d) _ z) (λ z. ill-formed r d z ∙ or-first (refusalOf d) _ z)
-
-pub take-ladder : (lacks : Bool) (r : Receiver) (d : List ℕ) → behindStateless lacks 16 (answerOf r d .refusal) ≡ stateLadder (refusalOf d) lacks (answerOf r d .refusal)
-take-ladder lacks r d =
-    rw (said-refusal r d)
-    (behind-ladder lacks 16 (refusalOf d) (refusalFor r d) (ill-formed r d) (at-most d) (λ z n. rw (well-formed r d z) (own-above r d _ (λ e. n (well-formed r d z ∙ e)))))
 
 -- ---- which refusals there are
 
@@ -101,17 +75,24 @@ for-only r d =
     only-if (wellFormed d) _ (refusalOf d) takeList (own-only r d (endBelow (kindOf d) (numberOf d) (r .next .0)))
     (only-within (refusalOf d) datagramGrounds takeList (datagram-only d) refl)
 
-behind-only : (b : Bool) (h : ℕ) → RefusesOnly h takeList → RefusesOnly (behindStateless b 16 h) takeList
-unfolding behindStateless isOneOf
-behind-only b h p = only-if b _ h takeList (only-if (eqb h 0) 41 _ takeList refl (only-if (ltb 16 h) 41 h takeList refl p)) p
+-- of a datagram d, which the reader read as p
+module _ (d : List ℕ) (p : Downstream) (e : downstreamWords p ≡ downstreamOf d) where
+  pub unread-only : (k : ℕ) → k ≡ downstreamWords p .refusal → RefusesOnly k (11 ∷ 12 ∷ 13 ∷ 14 ∷ 15 ∷ 16 ∷ 17 ∷ 18 ∷ 20 ∷ 41 ∷ [])
+  unfolding within isOneOf
+  unread-only k f = rw (refusal-found d p k f e) (only-within (refusalOf d) datagramGrounds takeList (datagram-only d) refl)
 
-pub take-only : (r code g h : ℕ) (b c : Bool) (x : Receiver) (d ws ws′ vs : List ℕ) (k : Answer) → answerWords k ≡ answerOf x d → h ≡ answerWords k .refusal
-    → g ≡ behindStateless b 16 h
-    → AnswersWith code ws ws′ g vs → r ≡ orElse code (short c) → RefusesOnly r (11 ∷ 12 ∷ 13 ∷ 14 ∷ 15 ∷ 16 ∷ 17 ∷ 18 ∷ 20 ∷ 41 ∷ [])
+  pub take-only : (r code h : ℕ) (c : Bool) (x : Receiver) (ws ws′ vs : List ℕ) (k : Answer) → answerWords k ≡ answerRead x d (downstreamWords p)
+      → h ≡ answerWords k .refusal → AnswersWith code ws ws′ h vs → r ≡ orElse code (short c)
+      → RefusesOnly r (11 ∷ 12 ∷ 13 ∷ 14 ∷ 15 ∷ 16 ∷ 17 ∷ 18 ∷ 20 ∷ 41 ∷ [])
+  unfolding isOneOf
+  take-only r code h c x ws ws′ vs k g f t q =
+      let said : answerWords k ≡ answerOf x d = g ∙ rw e (read-as-whole .answers x d) in
+      let same : h ≡ refusalFor x d = f ∙ refusal-so said ∙ said-refusal x d in
+      only-ending r code c takeList q (answers-only code h ws ws′ vs takeList t (rw same (for-only x d)) refl) refl
+
+pub short-only : RefusesOnly 41 (11 ∷ 12 ∷ 13 ∷ 14 ∷ 15 ∷ 16 ∷ 17 ∷ 18 ∷ 20 ∷ 41 ∷ [])
 unfolding isOneOf
-take-only r code g h b c x d ws ws′ vs k e f p t q =
-    let same : h ≡ refusalFor x d = f ∙ refusal-so e ∙ said-refusal x d in
-    only-ending r code c takeList q (answers-only code g ws ws′ vs takeList t (rw p (behind-only b h (rw same (for-only x d)))) refl) refl
+short-only = refl
 
 pub start-only : (r g h n limit lent : ℕ) (b : Bool) → h ≡ receiverStartRefusal n limit → g ≡ unlessSized lent sessionSize badSetting h → r ≡ orElse g (short b) → RefusesOnly r (19 ∷ 41 ∷ [])
 unfolding isOneOf receiverStartRefusal

@@ -1,45 +1,97 @@
 -- A receiver started, and one that took a datagram.
-use Prim.Native.Nat.{ℕ}
+use Prim.Native.Nat.{ℕ, _≤_, _<_}
 use mathlib.Core.List.{List}
-use mathlib.Core.Path.{_≡_, ap, _∙_}
+use mathlib.Core.Path.{_≡_, refl, ap, sym, _∙_}
+use native.Mathlib.Omega.{arith}
 use lib.ListN.{length}
 use lib.Dec.{ltb}
+use borrow.Author.Tests.{ne-eqb, lt-ltb, le-ltb}
 use Rattle.wire.specs.Bounds.{sessionSize}
 use Rattle.wire.specs.Refusals.{badSetting}
 use Rattle.wire.specs.Words.{Words}
 use Rattle.wire.specs.Parts.{firstBytes}
-use Rattle.moldudp64.specs.Downstream.{refusalOf}
+use Rattle.moldudp64.specs.declared.downstream.Downstream.{Downstream}
+use Rattle.moldudp64.specs.Downstream.{refusalOf, downstreamOf, downstreamWords}
+use Rattle.moldudp64.proofs.DownstreamLaws.{refusal-found}
 use Rattle.receiver.specs.declared.receiver.Receiver.{Receiver}
 use Rattle.receiver.specs.declared.receiver.Taken.{Taken}
 use Rattle.receiver.specs.Table.{AnswerKind, answerWords}
-use Rattle.receiver.specs.Receiver.{receiverStartRefusal, startReceiver, answerOf, receiverAfter}
-use Rattle.host_answers.specs.Answers.{orElse, short, unlessSized, stateLadder, behindStateless, wordsOf, AnswersWith}
-use Rattle.host_answers.proofs.LadderLaws.{short-once}
-use Rattle.host_states.specs.States.{onCode}
+use Rattle.receiver.specs.Receiver.{receiver, receiverStartRefusal, startReceiver, answerOf, receiverAfter, answerRead, afterRead}
+use Rattle.receiver.proofs.ReadLaws.{read-as-whole}
+use Rattle.receiver.proofs.Promises.{receiver-promises}
+use Rattle.host_answers.specs.Answers.{orElse, short, onSuccess, unlessSized, stateLadder, wordsOf, AnswersWith}
+use Rattle.host_answers.proofs.AnswerLaws.{or-first, or-next, or-short-no}
+use Rattle.host_states.specs.States.{onCode, nameIn}
+use Rattle.host_receiver.proofs.ReceiverLaws.{receiver-not, receiver-ten, name-there}
 use Rattle.host_receiver.specs.Receiver.{receiverSize, receiverIn, KeepsReceiver}
 use Rattle.exports_receiver.specs.Replies.{answerNumber}
 use Rattle.exports_receiver.specs.Calls.{StartsReceiver, TakesDatagram}
-use Rattle.exports_receiver.proofs.LadderLaws.{take-ladder}
 
 pub starts-receiver : (s name : List ℕ) (n limit g h : ℕ) (x : Receiver) (r : ℕ) (l m : List ℕ) → name ≡ firstBytes sessionSize s → h ≡ receiverStartRefusal n limit
     → x ≡ startReceiver name n limit → g ≡ unlessSized (length s) sessionSize badSetting h → r ≡ orElse g (short (ltb (length l) receiverSize))
     → KeepsReceiver (onCode r) l m x → StartsReceiver r s n limit l m
 starts-receiver s name n limit g h x r l m a b c e f k = record { returns = f ∙ rw (e, b); keeps = rw (← a, ← c) k }
 
-module _ (d l : List ℕ) (x : Receiver) (r : ℕ) (a : x ≡ receiverIn l) where
-  pub takes-datagram : (k : Taken) (m ws ws′ vs : List ℕ) (code g h : ℕ) → answerWords (k .answer) ≡ answerOf x d → k .receiver ≡ receiverAfter x d
-      → h ≡ answerWords (k .answer) .refusal
-      → g ≡ behindStateless (ltb (length l) receiverSize) 16 h
-      → vs ≡ wordsOf answerNumber 4 (answerWords (k .answer))
-      → AnswersWith code ws ws′ g vs
-      → r ≡ orElse code (short (ltb (length l) receiverSize))
-      → KeepsReceiver (onCode r) l m (k .receiver)
-      → TakesDatagram r l m d ws ws′
-  takes-datagram k m ws ws′ vs code g h e f p b v t q kept =
-      let same : h ≡ answerOf (receiverIn l) d .refusal = p ∙ ap (λ (w : Words AnswerKind). w .refusal) (e ∙ ap (λ (y : Receiver). answerOf y d) a) in
-      let ladder : g ≡ stateLadder (refusalOf d) (ltb (length l) receiverSize) (answerOf (receiverIn l) d .refusal) = b ∙ rw same (take-ladder _ (receiverIn l) d) in
-      let one : r ≡ code = short-once _ _ code r (ltb (length l) receiverSize) _ (rw ladder at (t .returns)) q in
+-- ---- a datagram d, which the reader read as p, with the refusal k
+
+-- the receiver after it has the name that it had
+ten-after : (d l : List ℕ) → length (receiverAfter (receiverIn l) d .session) ≡ sessionSize
+ten-after d l = ap length (receiver-promises .keeps-settings (receiverIn l) d .0) ∙ receiver-ten l
+
+module _ (d l ws : List ℕ) (p : Downstream) (k : ℕ) (e : downstreamWords p ≡ downstreamOf d) (f : k ≡ downstreamWords p .refusal) where
+  unread : k ≡ refusalOf d
+  unread = refusal-found d p k f e
+
+  pub takes-unread : (k ≡ 0 → ⊥) → TakesDatagram k l l d ws ws
+  unfolding onSuccess
+  takes-unread z =
+      let n : refusalOf d ≡ 0 → ⊥ = λ y. z (unread ∙ y) in
+      let first : refusalOf d ≡ stateLadder (refusalOf d) (ltb (length l) receiverSize) (answerOf (receiverIn l) d .refusal) = or-first (refusalOf d) _ n in
       record {
-        answers = rw (one, ← ladder, ← a, ← e, ← v) t;
-        keeps = rw (← a, ← f) kept;
+        answers = record { returns = unread ∙ or-first (refusalOf d) (short (ltb (length ws) (length (wordsOf answerNumber 4 (answerOf (receiverIn l) d))))) n ∙ ap (λ (g : ℕ). orElse g (short (ltb (length ws) (length (wordsOf answerNumber 4 (answerOf (receiverIn l) d)))))) first; words = rw (ne-eqb _ _ z) };
+        keeps = receiver-not (receiverAfter (receiverIn l) d) l k (ten-after d l) z;
       }
+
+  pub takes-short : k ≡ 0 → length l < receiverSize → TakesDatagram 41 l l d ws ws
+  unfolding onSuccess orElse short
+  takes-short z h =
+      record {
+        answers = record { returns = rw (← unread, z, lt-ltb (length l) receiverSize h); words = refl };
+        keeps = receiver-not (receiverAfter (receiverIn l) d) l 41 (ten-after d l) (λ n. omega arith);
+      }
+
+module _ (d l ws : List ℕ) (p : Downstream) (e : downstreamWords p ≡ downstreamOf d) (none : downstreamWords p .refusal ≡ 0) where
+  well : refusalOf d ≡ 0
+  well = sym (refusal-found d p _ refl e) ∙ none
+
+  module _ (x : Receiver) (is : x ≡ receiverIn l) (t : Taken) (room : receiverSize ≤ length l)
+      (g : answerWords (t .answer) ≡ answerRead x d (downstreamWords p)) (h : t .receiver ≡ afterRead x d (downstreamWords p)) where
+    answered : answerWords (t .answer) ≡ answerOf (receiverIn l) d
+    answered = rw (← is) (g ∙ rw e (read-as-whole .answers x d))
+
+    left : t .receiver ≡ receiverAfter (receiverIn l) d
+    left = rw (← is) (h ∙ rw e (read-as-whole .leaves x d))
+
+    -- the name that stands there is its own
+    named-there : receiver (nameIn l) (t .receiver .next .0) (t .receiver .limit .0) (t .receiver .ended) ≡ receiverAfter (receiverIn l) d
+    named-there =
+        let n : receiverAfter (receiverIn l) d .session ≡ nameIn l = receiver-promises .keeps-settings (receiverIn l) d .0 ∙ name-there l room in
+        rw (left, ← n)
+
+    pub takes-datagram : (r : ℕ) (m ws′ vs : List ℕ) (code q : ℕ) → q ≡ answerWords (t .answer) .refusal
+        → vs ≡ wordsOf answerNumber 4 (answerWords (t .answer))
+        → AnswersWith code ws ws′ q vs
+        → r ≡ orElse code (short (ltb (length l) receiverSize))
+        → KeepsReceiver (onCode r) l m (receiver (nameIn l) (t .receiver .next .0) (t .receiver .limit .0) (t .receiver .ended))
+        → TakesDatagram r l m d ws ws′
+    unfolding short
+    takes-datagram r m ws′ vs code q a v y b kept =
+        let one : r ≡ code = b ∙ rw (le-ltb (length l) receiverSize room) (sym (or-short-no code)) in
+        let ladder : q ≡ stateLadder (refusalOf d) (ltb (length l) receiverSize) (answerOf (receiverIn l) d .refusal) =
+        a ∙ ap (λ (w : Words AnswerKind). w .refusal) answered
+        ∙ rw (le-ltb (length l) receiverSize room) (or-next 0 _ refl ∙ or-next (refusalOf d) _ well)
+        in
+        record {
+          answers = rw (one, ← ladder, ← answered, ← v) y;
+          keeps = rw named-there at kept;
+        }

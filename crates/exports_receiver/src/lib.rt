@@ -1,6 +1,7 @@
 // The receiver for hosts in other languages: started, given datagrams, and what it delivers of them.
 // `include/eiderwagon.h` says what each function takes and answers.
-use host_answers::LAST_OF_DATAGRAM;
+use moldudp64::downstream;
+use moldudp64::downstream::Downstream;
 use moldudp64_messages::cursor::Cursor;
 use receiver::delivery;
 use receiver::receiver::Answer;
@@ -14,10 +15,14 @@ use wire::refusal;
 use wire::refusal::Refusal;
 ghost use mathlib.Core.Path.{_≡_};
 ghost use mathlib.Core.List.{[], _∷_};
+ghost use Prim.Native.Nat.{_≤_};
+ghost use lib.ListN.{length};
+ghost use Rattle.moldudp64.specs.Downstream.{downstreamOf, downstreamWords};
 ghost use Rattle.receiver.specs.Table.{answerWords};
 ghost use Rattle.receiver.specs.Delivery.{deliveryCursor};
 ghost use Rattle.host_answers.specs.Answers.{wordsOf, RefusesOnly};
 ghost use Rattle.host_cursor.specs.Calls.{SetsCursor};
+ghost use Rattle.host_receiver.specs.Receiver.{receiverSize};
 ghost use Rattle.exports_receiver.specs.Replies.{answerNumber, AnswerNumbersApart};
 ghost use Rattle.exports_receiver.specs.Calls.{StartsReceiver, TakesDatagram};
 ghost use Rattle.exports_receiver.specs.Run.{HandsOn, HostGetsTrue};
@@ -108,7 +113,24 @@ pub extern "C" fn eiderwagon_receiver_start(
     host_receiver::write(state, refused.number as u32, receiver)
 }
 
-// Takes a datagram.
+// Takes a datagram that was read, with a state that is long enough.
+fn take_read(state: &mut [u8], packet: Downstream, datagram: &[u8], words: &mut [u64]) -> u32
+    requires { ⌜ (downstreamWords packet ≡ downstreamOf (now datagram)) × (downstreamWords packet .refusal ≡ 0)
+        × (receiverSize ≤ length (now state)) ⌝ }
+    ensures { λ r. ⌜ TakesDatagram r (now (state .entry)) (now (state .exit)) (now (datagram .entry))
+        (now (words .entry)) (now (words .exit)) ⌝ }
+    ensures refuses { λ r. ⌜ RefusesOnly r (11 ∷ 12 ∷ 13 ∷ 14 ∷ 15 ∷ 16 ∷ 17 ∷ 18 ∷ 20 ∷ 41 ∷ []) ⌝ }
+{
+    let taken = host_receiver::read(state).take_read(packet, datagram);
+    let answer = taken.answer;
+    let after = taken.receiver;
+    let said = answer_words(answer);
+    let values = said.words;
+    let code = host_answers::answer(words, said.refusal, &values);
+    host_receiver::keep(state, code, after)
+}
+
+// Takes a datagram. It is read before the state is: 11 to 16 need none, and a state that is long enough is read once.
 #[no_mangle]
 pub extern "C" fn eiderwagon_receiver_take(
     state: &mut [u8],
@@ -120,18 +142,15 @@ pub extern "C" fn eiderwagon_receiver_take(
     ensures refuses { λ r. ⌜ RefusesOnly r (11 ∷ 12 ∷ 13 ∷ 14 ∷ 15 ∷ 16 ∷ 17 ∷ 18 ∷ 20 ∷ 41 ∷ []) ⌝ }
     ensures tells_apart { λ _. ⌜ AnswerNumbersApart ⌝ }
 {
-    let taken = host_receiver::read(state).take(datagram);
-    let answer = taken.answer;
-    let after = taken.receiver;
-    let said = answer_words(answer);
-    let refused = host_answers::behind_stateless(
-        state.len() < host_receiver::SIZE,
-        LAST_OF_DATAGRAM,
-        said.refusal,
-    );
-    let values = said.words;
-    let code = host_answers::answer(words, refused, &values);
-    host_receiver::write(state, code, after)
+    let packet = downstream::read(datagram);
+    let unread = downstream::refusal_in(packet);
+    if unread.number != 0 {
+        return unread.number as u32;
+    }
+    if state.len() < host_receiver::SIZE {
+        return host_answers::SHORT;
+    }
+    take_read(state, packet, datagram, words)
 }
 
 // Sets a cursor to the first message that a deliver answer delivers.

@@ -9,6 +9,7 @@ use borrow.Author.Tests.{lt-ltb, le-ltb}
 use Rattle.wire.specs.Bounds.{sessionSize}
 use Rattle.wire.specs.Output.{put}
 use Rattle.wire.specs.Parts.{firstBytes}
+use Rattle.wire.proofs.Cases.{below-or-not}
 use Rattle.wire.proofs.Numbers.{part-to-end}
 use Rattle.wire.proofs.Outputs.{length-put}
 use Rattle.receiver.specs.declared.receiver.Receiver.{Receiver}
@@ -34,6 +35,17 @@ receiver-read l name n limit b h p q r s = rw (le-ltb (length l) receiverSize h,
 -- the name stands behind the code
 pub name-within : (l : List ℕ) → receiverSize ≤ length l → 1 ≤ length l
 name-within l h = omega arith
+
+-- one that was read has the name that stands there, and ten bytes of it
+pub name-there : (l : List ℕ) → receiverSize ≤ length l → receiverIn l .session ≡ nameIn l
+unfolding receiverIn
+name-there l h = rw (le-ltb (length l) receiverSize h)
+
+pub receiver-ten : (l : List ℕ) → length (receiverIn l .session) ≡ sessionSize
+unfolding receiverIn
+receiver-ten l =
+    below-or-not _ (length l) receiverSize (λ h. rw (lt-ltb (length l) receiverSize h) refl)
+    (λ h. rw (le-ltb (length l) receiverSize h) (name-ten (drop 1 l)))
 
 -- ---- laid
 
