@@ -18,10 +18,11 @@ use Rattle.soupbintcp_server.specs.declared.server.Server.{Server}
 use Rattle.soupbintcp_server.specs.declared.server.Stepped.{Stepped}
 use Rattle.soupbintcp_server.specs.Server.{server, largestLast, serverStartRefusal, startServer, lastRefusal, withLast, serverStep, ServerSteps}
 use Rattle.soupbintcp_server.proofs.ServerLaws.{server-name-bad, last-large, server-start-0}
+use Rattle.soupbintcp_server.proofs.StatementLaws.{server-promises}
 use Rattle.host_answers.specs.Answers.{orElse, short, unlessSized, stateLadder, behindStateless, isOneOf, RefusesOnly, wordsOf, AnswersWith, StateAnswers}
 use Rattle.host_answers.proofs.AnswerLaws.{or-first, or-short-no}
 use Rattle.host_answers.proofs.OnlyLaws.{only-if, only-none, only-sized, only-state, only-ending, answers-only}
-use Rattle.host_states.specs.States.{onCode}
+use Rattle.host_states.specs.States.{onCode, nameIn}
 use Rattle.host_states.proofs.StateLaws.{keeps-not, keeps-step, keeps-more}
 use Rattle.host_session.specs.Session.{sessionStateSize}
 use Rattle.host_session.specs.Replies.{sessionAnswerNumber, sized, stepWords, SessionNumbersApart}
@@ -30,7 +31,7 @@ use Rattle.host_answers.proofs.LadderLaws.{short-once}
 use Rattle.host_session.proofs.StepLaws.{took-nothing, step-ladder, ladder-only}
 use Rattle.host_session.proofs.HandsLaws.{hands-on}
 use Rattle.host_server.specs.Server.{serverBytes, serverIn, serverStateless, KeepsServer}
-use Rattle.host_server.proofs.ServerLaws.{length-server, server-ten}
+use Rattle.host_server.proofs.ServerLaws.{length-server, server-ten, named-there}
 use Rattle.host_server.proofs.StepLaws.{HasSteps, server-steps, server-ground}
 use Rattle.exports_server.specs.Calls.{StartsServer, MovesLast, StepsAtServer, ServerHandsOn}
 
@@ -175,8 +176,12 @@ module _ (t : List Account) (d l ws ws′ : List ℕ) (x : Server) (k : Stepped)
       record { answers = answers; keeps = keeps-more code _ none (rw same (length-server (serverIn l) (server-ten l))) }
 
   pub server-moves : (r : ℕ) (m : List ℕ) → (k .size ≡ 0 → ⊥) → r ≡ orElse code (short (ltb (length l) sessionStateSize))
-      → KeepsServer (onCode r) l m (k .server) → StepsAtServer r l m t d ws ws′
-  server-moves r m n e p =
+      → KeepsServer (onCode r) l m (server (nameIn l) (k .server .last .0) (k .server .state)) → StepsAtServer r l m t d ws ws′
+  server-moves r m n e q =
+      let own : k .server .session ≡ serverIn l .session =
+      ap (λ (x : Server). x .session) (s .leaves) ∙ server-promises .keeps t x d .session ∙ ap (λ (x : Server). x .session) a
+      in
+      let p : KeepsServer (onCode r) l m (k .server) = named-there (k .server) l m r code e own q in
       let same : r ≡ code = short-once _ _ code r (ltb (length l) sessionStateSize) _ (answers .returns) e in
       record { answers = rw same answers; keeps = rw (← a, ← s .size, ← s .leaves) (keeps-step r (k .size) n p) }
 

@@ -75,5 +75,5 @@ pub extern "C" fn eiderwagon_server_step(
     if stepped.size == 0 {
         return code;
     }
-    host_server::write(state, code, after)
+    host_server::keep(state, code, after)
 }

@@ -2,21 +2,22 @@
 use Prim.Native.Nat.{ℕ, _-_, _≤_, _<_}
 use mathlib.Core.List.{List}
 use mathlib.Core.Bool.{Bool, true, false, not}
-use mathlib.Core.Path.{_≡_, refl}
+use mathlib.Core.Path.{_≡_, refl, ap, _∙_}
 use lib.ListN.{length, getD, take, drop}
-use lib.Dec.{eqb}
+use lib.Dec.{ltb, eqb}
 use borrow.Author.Tests.{eq-eqb, ne-eqb, lt-ltb, le-ltb, not-true, not-false}
 use Rattle.wire.specs.Bounds.{sessionSize}
 use Rattle.wire.specs.Parts.{firstBytes}
-use Rattle.wire.proofs.Cases.{below-or-not}
+use Rattle.wire.proofs.Cases.{zero-or-not, below-or-not}
 use Rattle.wire.proofs.Numbers.{part-to-end}
 use Rattle.soupbintcp_server.specs.declared.server.ServerState.{ServerState}
 use Rattle.soupbintcp_server.specs.declared.server.ServerState.the-variants.{Waiting, In, Closed}
 use Rattle.soupbintcp_server.specs.declared.server.Server.{Server}
 use Rattle.soupbintcp_server.specs.Server.{server, refusedServer}
 use Rattle.host_states.specs.Little.{little}
-use Rattle.host_states.specs.States.{serverCode, isOpen, openByte, Keeps, StatePromises, nameAt, numberAt}
-use Rattle.host_states.proofs.StateLaws.{state-promises}
+use Rattle.host_states.specs.States.{serverCode, isOpen, openByte, Keeps, StatePromises, onCode, nameAt, numberAt, nameIn}
+use Rattle.host_answers.specs.Answers.{orElse, short}
+use Rattle.host_states.proofs.StateLaws.{state-promises, code-room, keeps-not}
 use Rattle.host_session.specs.Session.{phaseAt, sessionStateSize, SessionFields, sessionFields, sessionStateBytes, sessionStateIn}
 use Rattle.host_states.proofs.StateLaws.{name-ten}
 use Rattle.host_session.proofs.SessionLaws.{length-session, end-kept}
@@ -106,6 +107,30 @@ length-server s ten = length-session _ (s .session) (s .last .0) _ ten
 pub server-ten : (l : List ℕ) → length (serverIn l .session) ≡ sessionSize
 unfolding serverIn sessionStateIn
 server-ten l = below-or-not _ (length l) sessionStateSize (λ h. rw (lt-ltb (length l) sessionStateSize h) refl) (λ h. rw (le-ltb (length l) sessionStateSize h) (name-ten (drop nameAt l)))
+
+-- ---- around the name that stands there
+
+pub there-kept : (last : ℕ) (state : ServerState) (lays : Bool) (b₀ b : ℕ) (o : Bool) (l m : List ℕ) → o ≡ serverIsOpen state → b₀ ≡ openByte serverCode o
+    → b ≡ serverPhase state
+    → Keeps lays l m sessionStateSize sessionStateIn (sessionStateBytes (sessionFields b₀ (nameIn l) last b)) (sessionFields b₀ (nameIn l) last b)
+    → KeepsServer lays l m (server (nameIn l) last state)
+there-kept last state lays b₀ b o l m e f g k = server-kept (server (nameIn l) last state) lays b₀ b o l m e f g k
+
+-- where it is laid there is room, so that it is the server's own
+pub named-there : (x : Server) (l m : List ℕ) (r code : ℕ) → r ≡ orElse code (short (ltb (length l) sessionStateSize)) → x .session ≡ serverIn l .session
+    → KeepsServer (onCode r) l m (server (nameIn l) (x .last .0) (x .state)) → KeepsServer (onCode r) l m x
+unfolding serverIn sessionStateIn
+named-there x l m r code e f k = zero-or-not _ r laid not-laid
+  where
+    laid : r ≡ 0 → KeepsServer (onCode r) l m x
+    laid z =
+        let n : x .session ≡ nameIn l = rw (le-ltb (length l) sessionStateSize (code-room r code _ _ e z)) at f in
+        rw (← n) at k
+
+    not-laid : (r ≡ 0 → ⊥) → KeepsServer (onCode r) l m x
+    not-laid z =
+        let same : m ≡ l = rw (ne-eqb r 0 z) at (k .leaves) in
+        rw same (keeps-not l sessionStateSize serverIn _ _ (length-server x (ap length f ∙ server-ten l)) r z)
 
 pub server-promises : StatePromises KeepsServer sessionStateSize serverBytes
 server-promises = state-promises sessionStateSize serverIn serverBytes

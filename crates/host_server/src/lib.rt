@@ -12,8 +12,9 @@ use wire::parts;
 ghost use mathlib.Core.Path.{_≡_};
 ghost use lib.ListN.{length};
 ghost use lib.Dec.{ltb};
+ghost use Rattle.soupbintcp_server.specs.Server.{server};
 ghost use Rattle.host_answers.specs.Answers.{orElse, short};
-ghost use Rattle.host_states.specs.States.{StatePromises, onCode};
+ghost use Rattle.host_states.specs.States.{StatePromises, onCode, nameIn};
 ghost use Rattle.host_session.specs.Session.{sessionStateSize};
 ghost use Rattle.host_server.specs.Server.{serverStateOf, serverIsOpen, serverPhase, serverBytes, serverIn};
 ghost use Rattle.host_server.specs.Server.{KeepsServer};
@@ -100,6 +101,22 @@ pub fn write(state: &mut [u8], code: u32, server: Server) -> u32
         host_states::open_byte(SERVER, is_open(phase)),
         session,
         server.last.0,
+        phase_of(phase),
+    )
+}
+
+// The same of a server whose name stands in the bytes already: a step never changes it.
+pub fn keep(state: &mut [u8], code: u32, after: Server) -> u32
+    ensures { λ r. ⌜ r ≡ orElse code (short (ltb (length (now (state .entry))) sessionStateSize)) ⌝ }
+    ensures keeps { λ r. ⌜ KeepsServer (onCode r) (now (state .entry)) (now (state .exit))
+        (server (nameIn (now (state .entry))) (after .last .0) (after .state)) ⌝ }
+{
+    let phase = after.state;
+    host_session::keep(
+        state,
+        code,
+        host_states::open_byte(SERVER, is_open(phase)),
+        after.last.0,
         phase_of(phase),
     )
 }

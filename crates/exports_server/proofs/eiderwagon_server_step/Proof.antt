@@ -22,7 +22,7 @@ moves c =
     let said = ladder .before in
     let stepped = said .before .before in
     let found = stepped .before in
-    step-promised (server-moves _ _ _ _ _ _ _ _ _ _ _ (found .read .ensures) (stepped .step .ensures .0) (said .answer-words .ensures .0 .0) (said .answer-words .ensures .0 .1) (ladder .behind-stateless .ensures) (answered .answer .ensures) _ _ (moved .if1 .left) (kept .write .ensures .0) (kept .write .ensures .1 .0))
+    step-promised (server-moves _ _ _ _ _ _ _ _ _ _ _ (found .read .ensures) (stepped .step .ensures .0) (said .answer-words .ensures .0 .0) (said .answer-words .ensures .0 .1) (ladder .behind-stateless .ensures) (answered .answer .ensures) _ _ (moved .if1 .left) (kept .keep .ensures .0) (kept .keep .ensures .1))
 
 pub eiderwagon-server-step-spec : {M : Type 1} → statement M
 eiderwagon-server-step-spec =
@@ -37,7 +37,7 @@ eiderwagon-server-step-spec =
     (λ c. search servers)  -- same-length
     (λ c. search servers)  -- same-length-2
     waits
-    (λ c. search servers)  -- write-requires
+    (λ c. search servers)  -- keep-requires
     (λ c. search servers)  -- same-length-3
     (λ c. search servers)  -- same-length-4
     moves
