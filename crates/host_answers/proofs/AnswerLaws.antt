@@ -133,13 +133,16 @@ laid-end c h g = copied-end c h (omega arith) (omega arith)
 
 -- ---- an answer, by the refusal that its ladder came to
 
-pub answered : (r x g : ℕ) (ws ws′ vs : List ℕ) → x ≡ orElse g (short (ltb (length ws) (length vs))) → r ≡ x → r ≡ 0 → ws′ ≡ put ws 0 vs
-    → AnswersWith r ws ws′ g vs
-answered r x g ws ws′ vs e p z w = record { returns = p ∙ e; words = success r ws′ _ ws z w }
+-- a refusal, too few words, or the words laid
+module _ (r g : ℕ) (ws vs : List ℕ) where
+  pub answered-refused : r ≡ g → (g ≡ 0 → ⊥) → AnswersWith r ws ws g vs
+  answered-refused e z = record { returns = e ∙ or-first g _ z; words = no-success r _ ws (λ n. z (sym e ∙ n)) }
 
-pub not-answered : (r x g : ℕ) (ws vs : List ℕ) → x ≡ orElse g (short (ltb (length ws) (length vs))) → r ≡ x → (r ≡ 0 → ⊥)
-    → AnswersWith r ws ws g vs
-not-answered r x g ws vs e p z = record { returns = p ∙ e; words = no-success r _ ws z }
+  pub answered-short : r ≡ 41 → g ≡ 0 → length ws < length vs → AnswersWith r ws ws g vs
+  answered-short e z h = record { returns = e ∙ rung-short g _ z (lt-ltb _ _ h); words = no-success r _ ws (λ n. let y : _≡_ {A = ℕ} 41 0 = sym e ∙ n in omega arith) }
+
+  pub answered : (ws′ : List ℕ) → r ≡ 0 → g ≡ 0 → length vs ≤ length ws → ws′ ≡ put ws 0 vs → AnswersWith r ws ws′ g vs
+  answered ws′ e z h w = record { returns = e ∙ rung-none g _ z (le-ltb _ _ h); words = success r ws′ _ ws e w }
 
 -- ---- what a writer answered
 

@@ -90,12 +90,14 @@ fn lay(words: &mut [u64], values: &[u64])
 pub fn answer(words: &mut [u64], refused: Refusal, values: &[u64]) -> u32
     ensures { λ r. ⌜ AnswersWith r (now (words .entry)) (now (words .exit)) (refused .number) (now (values .entry)) ⌝ }
 {
-    let refusal = or_short(refused, words.len() < values.len());
-    let code = refusal.number as u32;
-    if code == 0 {
-        lay(words, values);
+    if refused.number != 0 {
+        return refused.number as u32;
     }
-    code
+    if words.len() < values.len() {
+        return SHORT;
+    }
+    lay(words, values);
+    0
 }
 
 // Answers what a writer answered, where other lent memory than words and output may be too short: how many bytes it

@@ -9,7 +9,7 @@ use Rattle.wire.specs.Choice.{if_then_else_}
 use Rattle.soupbintcp.specs.declared.packet.Sender.{Sender}
 use Rattle.soupbintcp.specs.declared.packet.Sender.the-variants.{Server, Client}
 use Rattle.soupbintcp.specs.declared.letters.Row.{Row}
-use Rattle.soupbintcp.specs.Letters.{mostPayload, row, letterRow, sends, allows}
+use Rattle.soupbintcp.specs.Letters.{mostPayload, row, letterRow, sentIn, allowedIn, sends, allows}
 
 -- ---- the rows
 
@@ -74,22 +74,27 @@ module _ (c : ℕ) (r : Row) where
 
 -- ---- who sends it, and how long it may be
 
-module _ (c : ℕ) (r : Row) where
-  pub sent-server : (s : Sender) → r ≡ letterRow c → s ≡ Server → r .server ≡ sends s c
+module _ (r : Row) where
+  pub sent-server : (s : Sender) → s ≡ Server → r .server ≡ sentIn s r
+  sent-server s f = rw f
+
+  pub sent-client : (s : Sender) → s ≡ Client → r .client ≡ sentIn s r
+  sent-client s f = rw f
+
+  pub allowed-under : (k : ℕ) → k < r .least → false ≡ allowedIn r k
+  allowed-under k h = rw (lt-ltb _ _ h)
+
+  pub allowed-up : (k : ℕ) → r .least ≤ k → leb k (r .most) ≡ allowedIn r k
+  allowed-up k h = rw (le-ltb _ _ h)
+
+  -- the row of a letter is the letter's
+  pub row-sends : (c : ℕ) (s : Sender) (t : Bool) → r ≡ letterRow c → t ≡ sentIn s r → t ≡ sends s c
   unfolding sends
-  sent-server s e f = simp (f, e)
+  row-sends c s t e f = rw e at f
 
-  pub sent-client : (s : Sender) → r ≡ letterRow c → s ≡ Client → r .client ≡ sends s c
-  unfolding sends
-  sent-client s e f = simp (f, e)
-
-  pub allowed-under : (k : ℕ) → r ≡ letterRow c → k < r .least → false ≡ allows c k
+  pub row-allows : (c k : ℕ) (t : Bool) → r ≡ letterRow c → t ≡ allowedIn r k → t ≡ allows c k
   unfolding allows
-  allowed-under k e h = simp (← e, lt-ltb _ _ h)
-
-  pub allowed-up : (k : ℕ) → r ≡ letterRow c → r .least ≤ k → leb k (r .most) ≡ allows c k
-  unfolding allows
-  allowed-up k e h = simp (← e, le-ltb _ _ h)
+  row-allows c k t e f = rw e at f
 
 -- ---- a length that is allowed is within the letter's row, and no row has more than 4,096 bytes
 

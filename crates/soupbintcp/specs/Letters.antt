@@ -125,13 +125,19 @@ letterRow c =
     else if eqb c letterLogout then row false true 0 0
     else row false false 0 0
 
-unfoldable pub sends : Sender → ℕ → Bool
-sends Server c = letterRow c .server
-sends Client c = letterRow c .client
+-- by its row: who sends it, and whether a payload of k bytes has a length that is right for it
+abbrev pub sentIn : Sender → Row → Bool
+sentIn Server r = r .server
+sentIn Client r = r .client
 
--- a payload of k bytes has a length that is right for the letter
+abbrev pub allowedIn : Row → ℕ → Bool
+allowedIn r k = if ltb k (r .least) then false else leb k (r .most)
+
+unfoldable pub sends : Sender → ℕ → Bool
+sends s c = sentIn s (letterRow c)
+
 unfoldable pub allows : ℕ → ℕ → Bool
-allows c k = if ltb k (letterRow c .least) then false else leb k (letterRow c .most)
+allows c k = allowedIn (letterRow c) k
 
 -- the letters that say all: S H Z U R O, and else +
 unfoldable pub plainOf : ℕ → PacketKind

@@ -37,10 +37,11 @@ pub(crate) fn read(stream: &[u8], sender: Sender) -> Head
         return Head::NeedMore;
     }
     let letter = stream[LENGTH_SIZE];
-    if !letters::is_sent(letter, sender) {
+    let row = letters::row_of(letter);
+    if !letters::is_sent(row, sender) {
         return Head::Refused(refusal::LETTER_NOT_SENT);
     }
-    if !letters::is_allowed(letter, payload) {
+    if !letters::is_allowed(row, payload) {
         return Head::Refused(refusal::LENGTH_WRONG);
     }
     let size = length + LENGTH_SIZE;

@@ -5,7 +5,7 @@ use crate::packet::MOST_PAYLOAD;
 use crate::packet::REJECTED_PAYLOAD;
 use crate::packet::Sender;
 ghost use mathlib.Core.Path.{_≡_};
-ghost use Rattle.soupbintcp.specs.Letters.{row, letterRow, sends, allows};
+ghost use Rattle.soupbintcp.specs.Letters.{row, letterRow, sentIn, allowedIn};
 
 // A row: who sends the letter, and the fewest and most bytes of its payload.
 pub struct Row {
@@ -28,7 +28,7 @@ fn line(server: bool, client: bool, least: usize, most: usize) -> Row
 }
 
 // The table. A letter that nobody sends has a row of its own.
-fn row_of(letter: u8) -> Row
+pub(crate) fn row_of(letter: u8) -> Row
     ensures { λ r. ⌜ r ≡ letterRow letter ⌝ }
 {
     match letter {
@@ -46,22 +46,20 @@ fn row_of(letter: u8) -> Row
     }
 }
 
-// Whether a sender sends a letter.
-pub(crate) fn is_sent(letter: u8, sender: Sender) -> bool
-    ensures { λ r. ⌜ r ≡ sends sender letter ⌝ }
+// Whether a sender sends the letter of a row.
+pub(crate) fn is_sent(found: Row, sender: Sender) -> bool
+    ensures { λ r. ⌜ r ≡ sentIn sender found ⌝ }
 {
-    let found = row_of(letter);
     match sender {
         Sender::Server => found.server,
         Sender::Client => found.client,
     }
 }
 
-// Whether a letter may have a payload of so many bytes.
-pub(crate) fn is_allowed(letter: u8, payload: usize) -> bool
-    ensures { λ r. ⌜ r ≡ allows letter payload ⌝ }
+// Whether the letter of a row may have a payload of so many bytes.
+pub(crate) fn is_allowed(found: Row, payload: usize) -> bool
+    ensures { λ r. ⌜ r ≡ allowedIn found payload ⌝ }
 {
-    let found = row_of(letter);
     if payload < found.least {
         return false;
     }
