@@ -22,15 +22,8 @@ use Rattle.soupbintcp.specs.Letters.{debug, accepted, rejected, sequenced, serv
 use Rattle.soupbintcp.specs.Front.{FrontKind, packet, wants-more, frontWords, frontOf}
 use Rattle.soupbintcp.specs.Scan.{stopWords, scanOf, Scans}
 use Rattle.host_answers.specs.Answers.{padded, wordsAt, wordsOf, AnswersWith}
-use Rattle.exports_soupbintcp.specs.Packets.{senderOf, frontNumber, scanWords, FrontsApart}
-
-pub from-server : (n : ℕ) → n ≡ 0 → Server ≡ senderOf n
-unfolding senderOf
-from-server n e = rw (eq-eqb n 0 e)
-
-pub from-client : (n : ℕ) → (n ≡ 0 → ⊥) → Client ≡ senderOf n
-unfolding senderOf
-from-client n e = rw (ne-eqb n 0 e)
+use Rattle.host_sender.specs.Sender.{senderOf}
+use Rattle.exports_soupbintcp.specs.Packets.{frontNumber, FrontsApart}
 
 -- a packet of a known kind
 pub packet-words : {x y : Packet} {ws : List ℕ} (size : ℕ) → x ≡ y → ws ≡ padded 3 (letterFor (packetKind y) ∷ size ∷ packetValues y)
@@ -64,22 +57,11 @@ module _ (x : Front) where
   unfolding frontWords wordsAt padded
   refused-words r e = rw e
 
-pub stop-more : (x : Stop) → x ≡ stop.NeedMore → 0 ≡ stopWords x .refusal
-unfolding stopWords
-stop-more x e = rw e
-
-pub stop-refused : (x : Stop) (r : Refusal) → x ≡ stop.Refused r → r .number ≡ stopWords x .refusal
-unfolding stopWords
-stop-refused x r e = rw e
-
 module _ (n : ℕ) (s : Sender) (l : List ℕ) (r : ℕ) (ws ws′ : List ℕ) (e : s ≡ senderOf n) where
   pub read-answers : (x : Front) (g : ℕ) (vs : List ℕ) → frontWords x ≡ frontOf s l → g ≡ frontWords x .refusal → vs ≡ wordsOf frontNumber 3 (frontWords x)
       → AnswersWith r ws ws′ g vs → AnswersWith r ws ws′ (frontOf (senderOf n) l .refusal) (wordsOf frontNumber 3 (frontOf (senderOf n) l))
   read-answers x g vs f a b h = rw (← e, ← f, ← a, ← b) h
 
-  pub scan-answers : (x : Scanned) (k : ℕ) → Scans x s l → k ≡ stopWords (x .stop) .refusal → AnswersWith r ws ws′ 0 (x .packets ∷ x .bytes ∷ k ∷ [])
-      → AnswersWith r ws ws′ 0 (scanWords (scanOf (senderOf n) l))
-  scan-answers x k f a h = rw (← e, ← f .packets, ← f .bytes, ← f .stop, ← a) h
 
 -- ---- the numbers tell fronts apart: each is read back
 

@@ -43,10 +43,6 @@ pub read-only : (l : List ℕ) (s : Sender) (x : Front) (r g : ℕ) (ws ws′ vs
 unfolding isOneOf
 read-only l s x r g ws ws′ vs a e f = answers-only r g ws ws′ vs frontList a (rw (e, f) (front-only s l)) refl
 
-pub scan-only : (r : ℕ) (ws ws′ vs : List ℕ) → AnswersWith r ws ws′ 0 vs → RefusesOnly r (41 ∷ [])
-unfolding isOneOf
-scan-only r ws ws′ vs a = answers-only r 0 ws ws′ vs (41 ∷ []) a refl refl
-
 -- ---- writers
 
 pub missized-only : RefusesOnly fieldNotWritten (46 ∷ 41 ∷ [])

@@ -3,18 +3,14 @@ use borrow.Author.Needs.{needs}
 use mathlib.Core.Path.{refl}
 use Rattle.host_answers.proofs.WritingLaws.{lent-within, writing-plain}
 use Rattle.exports_soupbintcp.proofs.NameLaws.{missized, missized-behind, accepted-reported, login-reported}
-use Rattle.exports_soupbintcp.proofs.RefusalLaws.{read-only, scan-only, missized-only, bare-only, payload-only, accepted-only, reason-only, login-only}
-use Rattle.exports_soupbintcp.proofs.PacketLaws.{from-server, from-client, packet-words, whole-refusal, whole-words, more-refusal, more-words, refused-refusal, refused-words, stop-more, stop-refused, read-answers, scan-answers, fronts-apart}
-
-pub ruleset senders = (from-server, from-client, needs)
+use Rattle.exports_soupbintcp.proofs.RefusalLaws.{read-only, missized-only, bare-only, payload-only, accepted-only, reason-only, login-only}
+use Rattle.exports_soupbintcp.proofs.PacketLaws.{packet-words, whole-refusal, whole-words, more-refusal, more-words, refused-refusal, refused-words, read-answers, fronts-apart}
 
 pub ruleset packets = (packet-words, refl, needs)
 
 pub ruleset fronts = (whole-refusal, whole-words, more-refusal, more-words, refused-refusal, refused-words, needs)
 
-pub ruleset stops = (stop-more, stop-refused, needs)
-
-pub ruleset answers = (fronts-apart, read-answers, scan-answers, read-only, scan-only, needs)
+pub ruleset answers = (fronts-apart, read-answers, read-only, needs)
 
 pub ruleset writers = (lent-within, writing-plain, bare-only, payload-only, reason-only, needs)
 

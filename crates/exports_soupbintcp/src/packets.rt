@@ -1,19 +1,16 @@
-// The front of a stream, and the scan over its packets.
+// The front of a stream.
 use soupbintcp::front;
 use soupbintcp::front::Front;
 use soupbintcp::packet::Packet;
-use soupbintcp::packet::Sender;
-use soupbintcp::scan;
-use soupbintcp::scan::Stop;
 use wire::refusal;
 use wire::refusal::Refusal;
 ghost use mathlib.Core.Path.{_≡_};
 ghost use mathlib.Core.List.{[], _∷_};
-ghost use Rattle.host_answers.specs.Answers.{padded, wordsOf, RefusesOnly, AnswersWith, Answers};
+ghost use Rattle.host_answers.specs.Answers.{padded, wordsOf, RefusesOnly, Answers};
 ghost use Rattle.soupbintcp.specs.Letters.{packetKind, packetValues, letterFor};
 ghost use Rattle.soupbintcp.specs.Front.{frontWords, frontOf};
-ghost use Rattle.soupbintcp.specs.Scan.{stopWords, scanOf};
-ghost use Rattle.exports_soupbintcp.specs.Packets.{senderOf, frontNumber, scanWords, FrontsApart};
+ghost use Rattle.host_sender.specs.Sender.{senderOf};
+ghost use Rattle.exports_soupbintcp.specs.Packets.{frontNumber, FrontsApart};
 
 // The words of a packet's answer: its letter, its size and its value.
 const PACKET_WORDS: usize = 3;
@@ -22,17 +19,6 @@ const PACKET_WORDS: usize = 3;
 struct Said {
     refusal: Refusal,
     words: [u64; PACKET_WORDS],
-}
-
-// Who sends a stream: 0 is the server, every other number the client.
-fn sender_of(number: u8) -> Sender
-    ensures { λ r. ⌜ r ≡ senderOf number ⌝ }
-{
-    if number == 0 {
-        Sender::Server
-    } else {
-        Sender::Client
-    }
 }
 
 // A packet by its letter, its size, and its number or reason.
@@ -82,34 +68,7 @@ pub extern "C" fn eiderwagon_soup_read(stream: &[u8], sender: u8, words: &mut [u
     ensures refuses { λ r. ⌜ RefusesOnly r (21 ∷ 22 ∷ 23 ∷ 24 ∷ 25 ∷ 41 ∷ []) ⌝ }
     ensures tells_apart { λ _. ⌜ FrontsApart ⌝ }
 {
-    let said = front_words(front::read(stream, sender_of(sender)));
+    let said = front_words(front::read(stream, host_sender::sender_of(sender)));
     let values = said.words;
     host_answers::answer(words, said.refusal, &values)
-}
-
-// The refusal that stopped a scan, its number 0 where more bytes are needed.
-fn stop_number(stop: Stop) -> u64
-    ensures { λ r. ⌜ r ≡ stopWords stop .refusal ⌝ }
-{
-    match stop {
-        Stop::NeedMore => 0,
-        Stop::Refused(r) => r.number as u64,
-    }
-}
-
-// Passes all good packets at the front of a stream.
-#[no_mangle]
-pub extern "C" fn eiderwagon_soup_scan(stream: &[u8], sender: u8, words: &mut [u64]) -> u32
-    ensures { λ r. ⌜ AnswersWith r (now (words .entry)) (now (words .exit)) 0
-        (scanWords (scanOf (senderOf sender) (now (stream .entry)))) ⌝ }
-    ensures refuses { λ r. ⌜ RefusesOnly r (41 ∷ []) ⌝ }
-{
-    let scanned = scan::scan(stream, sender_of(sender));
-    let stop = scanned.stop;
-    let values = [
-        scanned.packets as u64,
-        scanned.bytes as u64,
-        stop_number(stop),
-    ];
-    host_answers::answer(words, refusal::NONE, &values)
 }

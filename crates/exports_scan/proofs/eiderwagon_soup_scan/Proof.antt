@@ -1,7 +1,7 @@
 -- The scan's three numbers.
-use Rattle.exports_soupbintcp.proofs.Rules.{answers}
-use Rattle.exports_soupbintcp.proofs.packets.eiderwagon_soup_scan.Statement.{statement}
-use Rattle.exports_soupbintcp.proofs.packets.eiderwagon_soup_scan.Tie as tie
+use Rattle.exports_scan.proofs.Rules.{answers}
+use Rattle.exports_scan.proofs.eiderwagon_soup_scan.Statement.{statement}
+use Rattle.exports_scan.proofs.eiderwagon_soup_scan.Tie as tie
 
 pub eiderwagon-soup-scan-spec : {M : Type 1} → statement M
 eiderwagon-soup-scan-spec =

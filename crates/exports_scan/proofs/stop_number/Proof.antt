@@ -1,7 +1,7 @@
 -- Two cases.
-use Rattle.exports_soupbintcp.proofs.Rules.{stops}
-use Rattle.exports_soupbintcp.proofs.packets.stop_number.Statement.{statement}
-use Rattle.exports_soupbintcp.proofs.packets.stop_number.Tie as tie
+use Rattle.exports_scan.proofs.Rules.{stops}
+use Rattle.exports_scan.proofs.stop_number.Statement.{statement}
+use Rattle.exports_scan.proofs.stop_number.Tie as tie
 
 pub stop-number-spec : {M : Type 1} → statement M
 stop-number-spec =

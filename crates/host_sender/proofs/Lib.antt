@@ -1,0 +1,2 @@
+pub mod SenderLaws
+pub mod Rules
