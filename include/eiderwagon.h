@@ -21,8 +21,9 @@
  *   41 for a state or a cursor with fewer bytes than its size; then the state's own; and last 41 for too few words or
  *   an output that is too short. So 41 stands in a list once, or twice: before the state's own grounds, and at the end.
  *   An input of a fixed size (a session, a username, a password) that is shorter or longer is refused, and never cut:
- *   with 19 at a start, with 46 at a SoupBinTCP writer, and with 41, behind its other grounds, at a MoldUDP64 writer.
- *   Of a state, a cursor or `words` with more elements than are needed only the first are used.
+ *   with 19 at a start, with 46 at a SoupBinTCP writer, and with 41, behind its other grounds, at a MoldUDP64 writer
+ *   and at the transmitter; at the store with 41 in the place of 53. Of a state, a cursor or `words` with more elements
+ *   than are needed only the first are used.
  *
  * States and cursors
  *   Their layout is given below (_AT and _SIZE), and any bytes are one: a state can be stored, copied, compared and
@@ -30,10 +31,10 @@
  *   two kinds have the same code, and none is 0: a state that is lent to a function of another kind isn't open there.
  *   (It may be laid over, though: a start, a walk, eiderwagon_server_set_last and a capture's feed lay their own.)
  *   With every other first byte, 0 too, a receiver is ended, a session is closed or ended, a reading is done or its
- *   settings are refused, and a cursor has no messages left. So bytes of zero are never open.
+ *   settings are refused, a cursor has no messages left and a transmitter no packet. So bytes of zero are never open.
  *   Where more is needed no byte of a state changes, none by a feed that uses no byte and isn't over, and none of a
  *   cursor where no message is there. Every other success lays the state in one form, its first byte 0 if it isn't
- *   open, also where its meaning doesn't change; a cursor is always laid with its code.
+ *   open, also where its meaning doesn't change; a cursor and a transmitter are always laid with their code.
  *   Start every state before its first use. A refused start changes no byte: so clear a state, all bytes 0, before you
  *   start it anew. Otherwise the old one is still there, and perhaps open, where the start is refused.
  */
@@ -85,7 +86,11 @@ enum {
     EIDERWAGON_REFUSED_FIELD_NOT_WRITTEN = 46,  /* a writer is given an unsound username or password, a bad session
                                                    or reason, or A number 0 */
     EIDERWAGON_REFUSED_REQUEST_SIZE = 47,       /* a request that isn't 20 bytes */
-    EIDERWAGON_REFUSED_REQUEST_COUNT = 48       /* a request whose count is 0 or 65,535 */
+    EIDERWAGON_REFUSED_REQUEST_COUNT = 48,      /* a request whose count is 0 or 65,535 */
+    EIDERWAGON_REFUSED_NOT_IN_STORE = 51,       /* the wanted number isn't in the store */
+    EIDERWAGON_REFUSED_MESSAGE_LONG = 52,       /* a message alone doesn't fit the packet's size */
+    EIDERWAGON_REFUSED_STORE_DIFFERS = 53,      /* a request's session isn't the store's */
+    EIDERWAGON_REFUSED_NO_SUCH_PACKET = 54      /* a run has no packet at that place */
 };
 
 /* The number of a refusal in a returned code, or EIDERWAGON_OK. */
@@ -146,6 +151,14 @@ static inline const char *eiderwagon_ground(uint32_t code) {
         return "a request that isn't 20 bytes";
     case EIDERWAGON_REFUSED_REQUEST_COUNT:
         return "a request whose count is 0 or 65,535";
+    case EIDERWAGON_REFUSED_NOT_IN_STORE:
+        return "the wanted number isn't in the store";
+    case EIDERWAGON_REFUSED_MESSAGE_LONG:
+        return "a message alone doesn't fit the packet's size";
+    case EIDERWAGON_REFUSED_STORE_DIFFERS:
+        return "a request's session isn't the store's";
+    case EIDERWAGON_REFUSED_NO_SUCH_PACKET:
+        return "a run has no packet at that place";
     default:
         return "a refusal that this header doesn't know";
     }
@@ -184,6 +197,15 @@ enum {
     EIDERWAGON_RECEIVER_LIMIT_AT = 19,  /* asking limit (2) */
     EIDERWAGON_RECEIVER_SIZE = 21,      /* a receiver */
     EIDERWAGON_RECEIVER_OPEN = 0xE2     /* the code of a receiver that isn't ended */
+};
+
+/* A transmitter: how far its packets have come. The run itself isn't in it. */
+enum {
+    EIDERWAGON_TRANSMITTER_CODE_AT = 0,     /* its code, or no packet is left (1) */
+    EIDERWAGON_TRANSMITTER_MESSAGES_AT = 1, /* messages that went out (8) */
+    EIDERWAGON_TRANSMITTER_BYTES_AT = 9,    /* the bytes of their data (8) */
+    EIDERWAGON_TRANSMITTER_SIZE = 17,       /* a transmitter */
+    EIDERWAGON_TRANSMITTER_OPEN = 0xE6      /* the code of a transmitter */
 };
 
 /* The server's end of a session. */
@@ -396,6 +418,73 @@ uint32_t eiderwagon_receiver_take(uint8_t *state, size_t state_size, const uint8
  *   refusals:  41 */
 uint32_t eiderwagon_receiver_walk(const uint8_t *datagram, size_t datagram_size, uint16_t count, uint16_t skipped,
                                   uint8_t *cursor, size_t cursor_size);
+
+/* ---- A branch store ---------------------------------------------------------------------------------------------- */
+
+/* A packet's `size`, here and at the transmitter, is the most bytes that it may have, its header included: 22 to
+ * 65,507. A message of k bytes fits alone where 22 + k is at most that. */
+
+/* Answers a request with one packet, to send as it is: from the wanted number on the most whole messages that fit
+ * `size`, up to the count wanted and to the store's end. A request that goes on past the end is no refusal. The store
+ * is lent: a session, the number of its first message, 1 or more, the lengths of its messages and their joined bytes.
+ * It may have any number of messages, none too, while `first` and how many they are add up to at most 2^64 - 1.
+ *
+ * An answer costs one pass over all lengths, wherever the wanted number is. A host that keeps more than it wants to
+ * pass each time lends a part of its store: some messages in a row, with the first one's number. Then 51 means that the
+ * wanted number isn't in the part.
+ *   session:   EIDERWAGON_SESSION_SIZE bytes
+ *   request:   any bytes, as they came
+ *   words:     EIDERWAGON_WRITE_WORDS
+ *   refusals:  19, 44, 47, 13, 48, 53, 51, 52, 41. 19 for the size and for the store's numbers; 52 where the first
+ *              wanted message alone doesn't fit. A session that isn't ten bytes is 41 in the place of 53, 51 and 52. An
+ *              output needs to hold the packet that is written, not all of `size` */
+uint32_t eiderwagon_store_answer(const uint8_t *session, size_t session_size, uint64_t first,
+                                 const uint16_t *lengths, size_t lengths_size,
+                                 const uint8_t *joined, size_t joined_size, uint64_t size,
+                                 const uint8_t *request, size_t request_size,
+                                 uint8_t *out, size_t out_size, uint64_t *words, size_t words_size);
+
+/* ---- Our own transmitter ----------------------------------------------------------------------------------------- */
+
+/* A run of messages is cut into packets of at most `size` bytes, in order, each message once and none split, each
+ * packet taking the most that fit. No cutting under the same size has fewer packets. The run is lent: the number of its
+ * first message, the lengths of its messages and their joined bytes. A run of no messages has no packet. */
+
+/* Writes the packet at a place, from 0. The whole run is checked and walked up to that place by each call, so that all
+ * of a run by place costs the square of its packets. To send a whole run, start once and call
+ * eiderwagon_transmitter_next until it is refused with 54.
+ *   session:   EIDERWAGON_SESSION_SIZE bytes
+ *   words:     EIDERWAGON_WRITE_WORDS
+ *   refusals:  19, 44, 13, 14, 52, 54, 41. All but 54 and 41 are over the whole run, whichever packet is asked for: 19
+ *              is the size alone, and 52 is for any message of the run. 41 also for a session that isn't ten bytes */
+uint32_t eiderwagon_transmitter_packet(const uint8_t *session, size_t session_size, uint64_t first,
+                                       const uint16_t *lengths, size_t lengths_size,
+                                       const uint8_t *joined, size_t joined_size, uint64_t size, uint64_t place,
+                                       uint8_t *out, size_t out_size, uint64_t *words, size_t words_size);
+
+/* Starts a run, whose packets eiderwagon_transmitter_next then writes one after another, and checks all of it, once. No
+ * session is needed yet.
+ *   state:     EIDERWAGON_TRANSMITTER_SIZE bytes, written
+ *   refusals:  19, 44, 13, 14, 52, 41 */
+uint32_t eiderwagon_transmitter_start(uint64_t first, const uint16_t *lengths, size_t lengths_size,
+                                      const uint8_t *joined, size_t joined_size, uint64_t size,
+                                      uint8_t *state, size_t state_size);
+
+/* Writes the next packet of a run, and moves the transmitter on; a refusal leaves it, and the next call writes the same
+ * packet. It costs a walk over this packet's messages alone. Lend the very run that was started, the same lengths,
+ * joined bytes, `first` and `size`, at each call: then the packets are those of eiderwagon_transmitter_packet at the
+ * places from 0 on, behind the last one it is 54, and no other refusal but 41 is met. Another run is safe too: then the
+ * packet is one of that run's messages, behind as many as went out, and 44, 13, 14 and 52 are about this packet alone.
+ *   session:   EIDERWAGON_SESSION_SIZE bytes
+ *   state:     EIDERWAGON_TRANSMITTER_SIZE bytes, read, and written on success
+ *   words:     EIDERWAGON_WRITE_WORDS
+ *   refusals:  19, 41, 44, 13, 14, 52, 54, 41. Here 54, that no message is left, comes before 44. The last 41 also for
+ *              a session that isn't ten bytes */
+uint32_t eiderwagon_transmitter_next(const uint8_t *session, size_t session_size, uint64_t first,
+                                     const uint16_t *lengths, size_t lengths_size,
+                                     const uint8_t *joined, size_t joined_size, uint64_t size,
+                                     uint8_t *state, size_t state_size,
+                                     uint8_t *out, size_t out_size, uint64_t *words, size_t words_size);
 
 /* ---- SoupBinTCP packets ------------------------------------------------------------------------------------------ */
 

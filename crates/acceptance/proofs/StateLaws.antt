@@ -13,11 +13,13 @@ use Rattle.soupbintcp_client.specs.declared.client.ClientState.the-variants as 
 use Rattle.capture.specs.declared.reading.Stage.the-variants as stage
 use Rattle.capture.specs.Reading.{isOver}
 use Rattle.host_answers.specs.Answers.{isOneOf}
-use Rattle.host_states.specs.States.{cursorCode, receiverCode, serverCode, clientCode, readingCode, isOpen}
+use Rattle.host_states.specs.States.{cursorCode, receiverCode, serverCode, clientCode, readingCode, transmitterCode, isOpen}
 use Rattle.host_cursor.specs.Cursor.{cursorSize, cursorIn}
 use Rattle.host_cursor.proofs.CursorLaws.{cursor-promises}
 use Rattle.host_receiver.specs.Receiver.{receiverSize, receiverIn}
 use Rattle.host_receiver.proofs.ReceiverLaws as kept-receiver
+use Rattle.host_transmitter.specs.Progress.{progressSize, progressIn, pastAll}
+use Rattle.host_transmitter.proofs.ProgressLaws.{progress-promises}
 use Rattle.host_session.specs.Session.{sessionStateSize}
 use Rattle.host_server.specs.Server.{serverStateOf, serverIsOpen, serverIn}
 use Rattle.host_server.proofs.ServerLaws as kept-server
@@ -32,6 +34,7 @@ host-states =
     record {
       cursor = cursor-promises;
       receiver = kept-receiver.receiver-promises;
+      transmitter = progress-promises;
       server = kept-server.server-promises;
       client = kept-client.client-promises;
       reading = reading-promises;
@@ -120,7 +123,27 @@ cursor-few : (l : List ℕ) → length l < cursorSize → cursorIn l .left .0 �
 unfolding cursorIn
 cursor-few l h = rw (lt-ltb (length l) cursorSize h)
 
+transmitter-past : (l : List ℕ) → (getD l 0 0 ≡ transmitterCode → ⊥) → progressIn l ≡ pastAll
+unfolding progressIn isOpen
+transmitter-past l e =
+    below-or-not _ (length l) progressSize (λ h. rw (lt-ltb (length l) progressSize h))
+    (λ h. rw (le-ltb (length l) progressSize h, ne-eqb (getD l 0 0) transmitterCode e))
+
+transmitter-few : (l : List ℕ) → length l < progressSize → progressIn l ≡ pastAll
+unfolding progressIn
+transmitter-few l h = rw (lt-ltb (length l) progressSize h)
+
 pub open-by-code : OpenByCode
 unfolding allDifferent isOneOf
 open-by-code =
-    record { receiver = receiver-open; server = server-open; client = client-open; reading = reading-open; cursor = cursor-none; cursor-too-few = cursor-few; apart = refl }
+    record {
+      receiver = receiver-open;
+      server = server-open;
+      client = client-open;
+      reading = reading-open;
+      cursor = cursor-none;
+      cursor-too-few = cursor-few;
+      transmitter = transmitter-past;
+      transmitter-too-few = transmitter-few;
+      apart = refl;
+    }

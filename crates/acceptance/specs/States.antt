@@ -8,9 +8,11 @@ use lib.Dec.{eqb}
 use Rattle.wire.specs.Choice.{if_then_else_}
 use Rattle.capture.specs.Reading.{isOver}
 use Rattle.host_answers.specs.Answers.{isOneOf}
-use Rattle.host_states.specs.States.{cursorCode, receiverCode, serverCode, clientCode, readingCode, StatePromises}
+use Rattle.host_states.specs.States.{cursorCode, receiverCode, serverCode, clientCode, readingCode, transmitterCode}
+use Rattle.host_states.specs.States.{StatePromises}
 use Rattle.host_cursor.specs.Cursor.{cursorSize, cursorBytes, cursorIn, KeepsCursor}
 use Rattle.host_receiver.specs.Receiver.{receiverSize, receiverBytes, receiverIn, KeepsReceiver}
+use Rattle.host_transmitter.specs.Progress.{progressSize, progressBytes, progressIn, pastAll, KeepsProgress}
 use Rattle.host_session.specs.Session.{sessionStateSize}
 use Rattle.host_server.specs.Server.{serverIsOpen, serverBytes, serverIn, KeepsServer}
 use Rattle.host_client.specs.Client.{clientIsOpen, clientBytes, clientIn, KeepsClient}
@@ -20,6 +22,7 @@ use Rattle.host_capture.specs.Reading.{readingSize, readingBytes, readingIn, Ke
 pub record HostStates : Type 0 where
   pub cursor : StatePromises KeepsCursor cursorSize cursorBytes
   pub receiver : StatePromises KeepsReceiver receiverSize receiverBytes
+  pub transmitter : StatePromises KeepsProgress progressSize progressBytes
   pub server : StatePromises KeepsServer sessionStateSize serverBytes
   pub client : StatePromises KeepsClient sessionStateSize clientBytes
   pub reading : StatePromises KeepsReading readingSize readingBytes
@@ -45,5 +48,9 @@ pub record OpenByCode : Type 0 where
   -- bytes whose first isn't a cursor's code, and too few, have no messages left
   pub cursor : (l : List ℕ) → (getD l 0 0 ≡ cursorCode → ⊥) → cursorIn l .left .0 ≡ 0
   pub cursor-too-few : (l : List ℕ) → length l < cursorSize → cursorIn l .left .0 ≡ 0
+  -- and a transmitter's are past the end of every run
+  pub transmitter : (l : List ℕ) → (getD l 0 0 ≡ transmitterCode → ⊥) → progressIn l ≡ pastAll
+  pub transmitter-too-few : (l : List ℕ) → length l < progressSize → progressIn l ≡ pastAll
   -- no two kinds share a code, and 0 is no kind's
-  pub apart : allDifferent (0 ∷ cursorCode ∷ receiverCode ∷ serverCode ∷ clientCode ∷ readingCode ∷ []) ≡ true
+  pub apart :
+      allDifferent (0 ∷ cursorCode ∷ receiverCode ∷ serverCode ∷ clientCode ∷ readingCode ∷ transmitterCode ∷ []) ≡ true

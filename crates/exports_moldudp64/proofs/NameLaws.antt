@@ -14,9 +14,8 @@ use Rattle.moldudp64.specs.Header.{header}
 use Rattle.moldudp64.specs.Request.{requestGround}
 use Rattle.moldudp64.specs.Written.{encoded, encodedEnd}
 use Rattle.moldudp64_writer.specs.Writer.{cut, encodedCut, packetGround, endGround}
-use Rattle.host_answers.specs.Answers.{orElse, short, lentFrom, padded, AnswersWith, AnswersWriting}
+use Rattle.host_answers.specs.Answers.{orElse, short, named, lentFrom, padded, AnswersWith, AnswersWriting}
 use Rattle.host_answers.proofs.WritingLaws.{writing-reported}
-use Rattle.exports_moldudp64.specs.Writers.{named}
 
 module _ (ws ws′ l m : List ℕ) (w : Written) (r n from : ℕ) (s t : List ℕ) (a : t ≡ firstBytes sessionSize s)
     (e : from ≡ lentFrom (not (eqb (length s) sessionSize) || ltb (length ws) 1) (length l))

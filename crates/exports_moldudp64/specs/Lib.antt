@@ -1,2 +1,1 @@
 pub mod Datagrams
-pub mod Writers

@@ -13,8 +13,7 @@ ghost use Rattle.moldudp64.specs.Header.{header};
 ghost use Rattle.moldudp64.specs.Request.{requestGround};
 ghost use Rattle.moldudp64.specs.Written.{encoded, encodedEnd};
 ghost use Rattle.moldudp64_writer.specs.Writer.{encodedCut, packetGround, endGround};
-ghost use Rattle.host_answers.specs.Answers.{RefusesOnly, AnswersWriting};
-ghost use Rattle.exports_moldudp64.specs.Writers.{named};
+ghost use Rattle.host_answers.specs.Answers.{named, RefusesOnly, AnswersWriting};
 
 // Writes data; no lengths make a heartbeat.
 #[no_mangle]

@@ -20,14 +20,13 @@ use Rattle.transmitter.specs.declared.turns.Progress.{Progress}
 use Rattle.transmitter.specs.Transmitter.{runGround, transmitGround, packetAt}
 use Rattle.transmitter.specs.Turns.{startOfRun, nextGround, nextBytes, progressAfter}
 use Rattle.transmitter.proofs.GroundLaws.{next-19}
-use Rattle.host_answers.specs.Answers.{orElse, short, stateLadder, lentFrom, padded, AnswersWith, AnswersWriting}
+use Rattle.host_answers.specs.Answers.{orElse, short, named, stateLadder, lentFrom, padded, AnswersWith, AnswersWriting}
 use Rattle.host_answers.proofs.AnswerLaws.{or-first, or-next, or-short-no, no-short, no-success, length-padded}
 use Rattle.host_answers.proofs.LadderLaws.{first-zero}
 use Rattle.host_answers.proofs.WritingLaws.{writing-reported}
 use Rattle.host_states.specs.States.{onCode}
 use Rattle.host_transmitter.specs.Progress.{progressSize, progressIn, KeepsProgress}
 use Rattle.host_transmitter.proofs.ProgressLaws.{progress-not}
-use Rattle.exports_moldudp64.specs.Writers.{named}
 use Rattle.exports_transmitter.specs.Calls.{StartsTransmitter, NextPacket}
 
 pub starts-transmitter : (r g size n : ℕ) (ks d l m : List ℕ) (x : Progress) → g ≡ runGround size n ks d → x ≡ startOfRun size n ks d

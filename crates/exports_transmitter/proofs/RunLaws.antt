@@ -18,13 +18,12 @@ use Rattle.transmitter.specs.Turns.{beginning, nextGround, nextBytes, isWritten
 use Rattle.transmitter.proofs.RunLaws.{Good, good, start-good}
 use Rattle.transmitter.proofs.PlaceLaws.{Reached, reached-start, reached-next, same-ground, same-bytes}
 use Rattle.transmitter.proofs.TurnLaws.{after-written}
-use Rattle.host_answers.specs.Answers.{AnswersWriting}
+use Rattle.host_answers.specs.Answers.{named, AnswersWriting}
 use Rattle.host_answers.proofs.AnswerLaws.{has-room}
 use Rattle.host_answers.proofs.LadderLaws.{first-zero}
 use Rattle.host_answers.proofs.PromiseLaws.{host-promises}
 use Rattle.host_states.specs.States.{onCode}
 use Rattle.host_transmitter.specs.Progress.{progressSize, progressIn}
-use Rattle.exports_moldudp64.specs.Writers.{named}
 use Rattle.exports_transmitter.specs.Calls.{NextPacket}
 use Rattle.exports_transmitter.specs.Run.{Gets, by-refusal, by-packet, Handed, none, one, HandsOn}
 use Rattle.exports_transmitter.proofs.CallLaws.{whole-ladder}

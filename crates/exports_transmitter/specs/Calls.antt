@@ -10,10 +10,9 @@ use Rattle.wire.specs.Parts.{firstBytes}
 use Rattle.packing.specs.Fit.{sizeGround}
 use Rattle.transmitter.specs.Transmitter.{runGround}
 use Rattle.transmitter.specs.Turns.{startOfRun, nextGround, nextBytes, progressAfter}
-use Rattle.host_answers.specs.Answers.{orElse, short, stateLadder, AnswersWriting}
+use Rattle.host_answers.specs.Answers.{orElse, short, named, stateLadder, AnswersWriting}
 use Rattle.host_states.specs.States.{onCode}
 use Rattle.host_transmitter.specs.Progress.{progressSize, progressIn, KeepsProgress}
-use Rattle.exports_moldudp64.specs.Writers.{named}
 
 -- a run is started
 pub record StartsTransmitter (r size n : ℕ) (ks d l m : List ℕ) : Type 0 where

@@ -7,8 +7,7 @@ use lib.ListN.{length, getD, take}
 use Rattle.wire.specs.Bounds.{sessionSize}
 use Rattle.wire.specs.Parts.{firstBytes}
 use Rattle.transmitter.specs.Transmitter.{transmitGround, packetAt}
-use Rattle.host_answers.specs.Answers.{AnswersWriting}
-use Rattle.exports_moldudp64.specs.Writers.{named}
+use Rattle.host_answers.specs.Answers.{named, AnswersWriting}
 use Rattle.exports_transmitter.specs.Calls.{StartsTransmitter, NextPacket}
 
 -- what a host gets by a call of `eiderwagon_transmitter_next` that returned r and left the output o and the words ws:

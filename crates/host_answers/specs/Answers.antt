@@ -1,11 +1,12 @@
 -- What an exported function answers: its code, and what it leaves in lent words and in a lent output.
 use Prim.Native.Nat.{ℕ, zero, suc}
 use mathlib.Core.List.{List, [], _∷_, _++_}
-use mathlib.Core.Bool.{Bool, true, false}
+use mathlib.Core.Bool.{Bool, true, false, not}
 use mathlib.Core.Path.{_≡_}
 use lib.ListN.{length, drop}
 use lib.Dec.{ltb, eqb}
 use Rattle.wire.specs.Choice.{if_then_else_}
+use Rattle.wire.specs.Bounds.{sessionSize}
 use Rattle.wire.specs.Refusals.{outputShort}
 use Rattle.wire.specs.Words.{Words, Case, answer, refused}
 use Rattle.wire.specs.Output.{put, writeRefusal}
@@ -19,6 +20,11 @@ orElse g h = if eqb g 0 then h else g
 -- 41 where lent memory is too short
 unfoldable pub short : Bool → ℕ
 short lacks = if lacks then outputShort else 0
+
+-- a writer that is given a session's name: the documents have no ground for one that isn't ten bytes, so it is 41, behind
+-- the writer's own
+abbrev pub named : List ℕ → ℕ → ℕ
+named name g = orElse g (short (not (eqb (length name) sessionSize)))
 
 -- an input of n bytes that is to have k: where it hasn't, g; else h
 unfoldable pub unlessSized : ℕ → ℕ → ℕ → ℕ → ℕ

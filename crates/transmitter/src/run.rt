@@ -1,5 +1,5 @@
 // What a whole run is refused for.
-use moldudp64_writer::downstream;
+use moldudp64_writer::lengths;
 use packing::size;
 use wire::kinds::LARGEST_NUMBER;
 use wire::kinds::LENGTH_SIZE;
@@ -18,7 +18,7 @@ pub fn ground(first: SequenceNumber, lengths: &[u16], joined: &[u8], size: usize
     if refused.number != 0 {
         return refused;
     }
-    if !downstream::add_up(lengths, joined) {
+    if !lengths::add_up(lengths, joined) {
         return refusal::LENGTHS_DIFFER;
     }
     if first.is_zero() {

@@ -167,6 +167,14 @@ constants! {
     REFUSED_REQUEST_SIZE: u32 = 47;
     /// A request whose count is 0 or 65,535.
     REFUSED_REQUEST_COUNT: u32 = 48;
+    /// The wanted number isn't in the store.
+    REFUSED_NOT_IN_STORE: u32 = 51;
+    /// A message alone doesn't fit the packet's size.
+    REFUSED_MESSAGE_LONG: u32 = 52;
+    /// A request's session isn't the store's.
+    REFUSED_STORE_DIFFERS: u32 = 53;
+    /// A run has no packet at that place.
+    REFUSED_NO_SUCH_PACKET: u32 = 54;
 
     /// The name of a session, in bytes.
     SESSION_SIZE: usize = 10;
@@ -210,6 +218,17 @@ constants! {
     RECEIVER_SIZE: usize = 21;
     /// The code of a receiver that isn't ended.
     RECEIVER_OPEN: u8 = 0xE2;
+
+    /// Offset in a transmitter: its code, or no packet is left (1).
+    TRANSMITTER_CODE_AT: usize = 0;
+    /// Offset in a transmitter: messages that went out (8).
+    TRANSMITTER_MESSAGES_AT: usize = 1;
+    /// Offset in a transmitter: the bytes of their data (8).
+    TRANSMITTER_BYTES_AT: usize = 9;
+    /// A transmitter, in bytes.
+    TRANSMITTER_SIZE: usize = 17;
+    /// The code of a transmitter.
+    TRANSMITTER_OPEN: u8 = 0xE6;
 
     /// Offset in a server: its code, or it is closed (1).
     SERVER_CODE_AT: usize = 0;
@@ -493,6 +512,18 @@ exported! {
     receiver_take(state: &mut [u8], datagram: &[u8], words: &mut [u64]);
     /// Sets a cursor to the first message delivered.
     receiver_walk(datagram: &[u8], count: u16, skipped: u16, cursor: &mut [u8]);
+
+    /// Answers a request from a store. Words: how many bytes.
+    store_answer(session: &[u8], first: u64, lengths: &[u16], joined: &[u8], size: u64,
+        request: &[u8], out: &mut [u8], words: &mut [u64]);
+    /// Writes the packet of a run at a place. Words: how many bytes.
+    transmitter_packet(session: &[u8], first: u64, lengths: &[u16], joined: &[u8], size: u64,
+        place: u64, out: &mut [u8], words: &mut [u64]);
+    /// Starts the packets of a run.
+    transmitter_start(first: u64, lengths: &[u16], joined: &[u8], size: u64, state: &mut [u8]);
+    /// Writes the next packet of a run, and moves on. Words: how many bytes.
+    transmitter_next(session: &[u8], first: u64, lengths: &[u16], joined: &[u8], size: u64,
+        state: &mut [u8], out: &mut [u8], words: &mut [u64]);
 
     /// Reads the packet at the front of a stream. Words: its letter or 0, its size, and its number
     /// or reason.

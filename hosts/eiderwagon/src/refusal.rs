@@ -89,6 +89,10 @@ grounds! {
         "a writer is given an unsound username or password, a bad session or reason, or A number 0";
     RequestSize = 47, "a request that isn't 20 bytes";
     RequestCount = 48, "a request whose count is 0 or 65,535";
+    NotInStore = 51, "the wanted number isn't in the store";
+    MessageLong = 52, "a message alone doesn't fit the packet's size";
+    StoreDiffers = 53, "a request's session isn't the store's";
+    NoSuchPacket = 54, "a run has no packet at that place";
 }
 
 impl Ground {
