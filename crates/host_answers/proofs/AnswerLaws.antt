@@ -133,6 +133,10 @@ laid-end c h g = copied-end c h (omega arith) (omega arith)
 
 -- ---- an answer, by the refusal that its ladder came to
 
+pub not-answered : (r x g : ℕ) (ws vs : List ℕ) → x ≡ orElse g (short (ltb (length ws) (length vs))) → r ≡ x → (r ≡ 0 → ⊥)
+    → AnswersWith r ws ws g vs
+not-answered r x g ws vs e p z = record { returns = p ∙ e; words = no-success r _ ws z }
+
 -- a refusal, too few words, or the words laid
 module _ (r g : ℕ) (ws vs : List ℕ) where
   pub answered-refused : r ≡ g → (g ≡ 0 → ⊥) → AnswersWith r ws ws g vs

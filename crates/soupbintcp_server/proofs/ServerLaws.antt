@@ -268,7 +268,13 @@ module _ (s : Server) (l : List ℕ) (f : Found) (few : f .«too_many» ≡ fals
   unfolding frontRowAt frontWords
   server-step-packet p size e g h = rw (← by-front, ← e, g) h
 
--- with a table t of accounts: m is what the test of its length gave
+-- with a table t of accounts: e is the entry in front, f what was found for it
+pub server-step : (s : Server) (l : List ℕ) (t : List Account) (f : Found) (e : Account) (r : Stepped) → e ≡ entryOf l → f ≡ foundIn t e → FoundDecides
+    → ServerSteps r (stepWith s (verdictOn f (entryOf l)) l) → ServerSteps r (serverStep t s l)
+unfolding serverStep FoundDecides
+server-step s l t f e r g h d k = rw (h, g, d t (entryOf l)) at k
+
+-- with a table t of accounts that is lent as bytes: m is what the test of its length gave
 module _ (s : Server) (l : List ℕ) (t : List Account) (m : Bool) (is : m ≡ ltb mostAccounts (length t)) where
   pub step-too-long : (r : Stepped) → m ≡ true → r ≡ refuses-with s 19 → ServerSteps r (serverStep t s l)
   unfolding serverStep lookupOf stepAt sessionAnswerWords
@@ -283,8 +289,7 @@ module _ (s : Server) (l : List ℕ) (t : List Account) (m : Bool) (is : m ≡ l
     f-few = rw (← is, few) refl
 
     from-found : (r : Stepped) → ServerSteps r (stepWith s (verdictOn f (entryOf l)) l) → ServerSteps r (serverStep t s l)
-    unfolding serverStep FoundDecides
-    from-found r k = rw (found-decides t (entryOf l)) at k
+    from-found r k = server-step s l t f (entryOf l) r refl refl found-decides k
 
     pub few-enough : length t ≤ mostAccounts
     few-enough = ltb-false _ _ (sym is ∙ few)
