@@ -1,5 +1,7 @@
 //! The library's receiver as a host calls it, through the wrapper's raw functions.
 
+pub mod sessions;
+
 use crate::{LIMIT, NEXT, SESSION};
 use eiderwagon::raw;
 

@@ -8,6 +8,8 @@ pub mod compare;
 pub mod host;
 pub mod mold;
 pub mod receiver;
+pub mod soup;
+pub mod talks;
 
 /// What every receiver here is started with.
 pub const SESSION: &mold::Session = b"READROOM01";

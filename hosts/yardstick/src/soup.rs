@@ -1,0 +1,74 @@
+//! SoupBinTCP in ordinary Rust: packets here, and the session at both ends beside it.
+
+pub mod client;
+mod fields;
+pub mod front;
+pub mod login;
+pub mod server;
+
+use crate::mold::Session;
+use login::{Password, Username};
+
+/// The session of a login that takes any.
+pub const BLANK: &Session = b"          ";
+
+/// Why a start, a packet or a step is refused, by document 01's numbers.
+#[derive(Clone, Copy, Debug, PartialEq, Eq)]
+pub enum Refusal {
+    BadSetting = 19,
+    LengthZero = 21,
+    PayloadLong = 22,
+    LetterNotSent = 23,
+    LengthWrong = 24,
+    FieldBad = 25,
+    PacketNotTaken = 31,
+    StateClosed = 32,
+    LoginNotAsked = 33,
+    NumbersUsedUp = 34,
+}
+
+/// The end that sends a stream.
+#[derive(Clone, Copy, Debug, PartialEq, Eq)]
+pub enum Sender {
+    Server,
+    Client,
+}
+
+#[derive(Clone, Copy, Debug, PartialEq, Eq)]
+pub enum Packet<'a> {
+    Debug,
+    Accepted { session: &'a Session, number: u64 },
+    Rejected { reason: u8 },
+    Sequenced { message: &'a [u8] },
+    ServerHeartbeat,
+    End,
+    Login(Login<'a>),
+    Unsequenced { message: &'a [u8] },
+    ClientHeartbeat,
+    Logout,
+}
+
+#[derive(Clone, Copy, Debug, PartialEq, Eq)]
+pub struct Login<'a> {
+    pub username: &'a Username,
+    pub password: &'a Password,
+    pub session: &'a Session,
+    pub number: u64,
+}
+
+/// What either end answers to a packet.
+#[derive(Clone, Copy, Debug, PartialEq, Eq)]
+pub enum Answer<'a> {
+    Accepted { number: u64 },
+    Rejected { reason: u8 },
+    Sequenced { number: u64, message: &'a [u8] },
+    Unsequenced { message: &'a [u8] },
+    Heartbeat,
+    Debug,
+    LoggedOut,
+    Over,
+}
+
+/// What was made of the packet at the front of a stream, and the packet's size; none where more
+/// bytes are needed.
+pub type Front<T> = Option<(T, usize)>;
