@@ -8,6 +8,7 @@ pub mod compare;
 pub mod host;
 pub mod mold;
 pub mod receiver;
+pub mod report;
 pub mod soup;
 pub mod talks;
 

@@ -1,13 +1,14 @@
-//! SoupBinTCP in ordinary Rust: packets here, and the session at both ends beside it.
+//! SoupBinTCP in ordinary Rust: the packets of either end, and the session at both.
 
 pub mod client;
 mod fields;
+pub mod from_client;
+pub mod from_server;
 pub mod front;
 pub mod login;
 pub mod server;
 
 use crate::mold::Session;
-use login::{Password, Username};
 
 /// The session of a login that takes any.
 pub const BLANK: &Session = b"          ";
@@ -25,35 +26,6 @@ pub enum Refusal {
     StateClosed = 32,
     LoginNotAsked = 33,
     NumbersUsedUp = 34,
-}
-
-/// The end that sends a stream.
-#[derive(Clone, Copy, Debug, PartialEq, Eq)]
-pub enum Sender {
-    Server,
-    Client,
-}
-
-#[derive(Clone, Copy, Debug, PartialEq, Eq)]
-pub enum Packet<'a> {
-    Debug,
-    Accepted { session: &'a Session, number: u64 },
-    Rejected { reason: u8 },
-    Sequenced { message: &'a [u8] },
-    ServerHeartbeat,
-    End,
-    Login(Login<'a>),
-    Unsequenced { message: &'a [u8] },
-    ClientHeartbeat,
-    Logout,
-}
-
-#[derive(Clone, Copy, Debug, PartialEq, Eq)]
-pub struct Login<'a> {
-    pub username: &'a Username,
-    pub password: &'a Password,
-    pub session: &'a Session,
-    pub number: u64,
 }
 
 /// What either end answers to a packet.

@@ -16,17 +16,37 @@ pub struct Talk {
     pub session: Session,
     /// The number that a client asks for, or a server's last one.
     pub number: u64,
-    /// The accounts of a server.
+    /// The accounts of a server, and the same as the library is lent them.
     pub accounts: Vec<Account>,
+    pub table: Vec<u8>,
     pub streams: Vec<Vec<u8>>,
 }
 
 impl Talk {
-    /// The accounts as the library is lent them.
-    pub fn table(&self) -> Vec<u8> {
-        let records = self.accounts.iter();
+    /// The last stream: of a talk to be timed, all but its login.
+    pub fn messages(&self) -> &[u8] {
+        self.streams.last().map_or(&[], Vec::as_slice)
+    }
+
+    fn with_client(session: &Session, number: u64, streams: Vec<Vec<u8>>) -> Talk {
+        Talk::with_server(session, number, vec![], streams)
+    }
+
+    fn with_server(
+        session: &Session,
+        number: u64,
+        accounts: Vec<Account>,
+        streams: Vec<Vec<u8>>,
+    ) -> Talk {
+        let records = accounts.iter();
         let records = records.map(|account| [&account.username[..], &account.password].concat());
-        records.collect::<Vec<_>>().concat()
+        Talk {
+            session: *session,
+            number,
+            table: records.collect::<Vec<_>>().concat(),
+            accounts,
+            streams,
+        }
     }
 }
 
@@ -51,12 +71,8 @@ pub fn any_client(random: &mut Random) -> Talk {
         let packet = from_server(random, &session, number);
         stream(random, packet)
     });
-    Talk {
-        session,
-        number,
-        streams: streams.collect(),
-        accounts: vec![],
-    }
+    let streams = streams.collect();
+    Talk::with_client(&session, number, streams)
 }
 
 fn from_server(random: &mut Random, session: &Session, number: u64) -> Vec<u8> {
@@ -82,12 +98,8 @@ pub fn any_server(random: &mut Random) -> Talk {
         let packet = from_client(random, &session, number, &accounts);
         stream(random, packet)
     });
-    Talk {
-        session,
-        number,
-        streams: streams.collect(),
-        accounts,
-    }
+    let streams = streams.collect();
+    Talk::with_server(&session, number, accounts, streams)
 }
 
 fn from_client(random: &mut Random, session: &Session, last: u64, accounts: &[Account]) -> Vec<u8> {
@@ -113,12 +125,8 @@ fn messages(random: &mut Random, letter: u8, count: usize) -> Vec<u8> {
 /// A client that is let in, and messages for it.
 pub fn sequenced(seed: u64, count: usize) -> Talk {
     let random = &mut Random::new(seed, 0);
-    Talk {
-        session: *SESSION,
-        number: 1,
-        accounts: vec![],
-        streams: vec![accepted(SESSION, 1), messages(random, b'S', count)],
-    }
+    let streams = vec![accepted(SESSION, 1), messages(random, b'S', count)];
+    Talk::with_client(SESSION, 1, streams)
 }
 
 /// A server with as many accounts as there may be, a client that it lets in, and messages from it.
@@ -142,10 +150,6 @@ pub fn login_of_nobody() -> Talk {
 }
 
 fn login_by(entry: Account, accounts: Vec<Account>) -> Talk {
-    Talk {
-        session: *SESSION,
-        number: 5,
-        streams: vec![login(&entry, SESSION, 0)],
-        accounts,
-    }
+    let streams = vec![login(&entry, SESSION, 0)];
+    Talk::with_server(SESSION, 5, accounts, streams)
 }

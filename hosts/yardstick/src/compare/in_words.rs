@@ -1,47 +1,8 @@
-//! Fronts and steps as the library answers them, and their names.
+//! Steps as the library answers them, and their names.
 
 use crate::host::sessions::StepWords;
-use crate::soup::{Answer, Front, Packet, Refusal};
+use crate::soup::{Answer, Front, Refusal};
 use eiderwagon::raw;
-
-pub fn letter(packet: &Packet) -> u8 {
-    match packet {
-        Packet::Debug => b'+',
-        Packet::Accepted { .. } => b'A',
-        Packet::Rejected { .. } => b'J',
-        Packet::Sequenced { .. } => b'S',
-        Packet::ServerHeartbeat => b'H',
-        Packet::End => b'Z',
-        Packet::Login(_) => b'L',
-        Packet::Unsequenced { .. } => b'U',
-        Packet::ClientHeartbeat => b'R',
-        Packet::Logout => b'O',
-    }
-}
-
-/// The code and the words that the header gives a front.
-pub fn front_words(read: Result<Front<Packet>, Refusal>) -> (u32, [u64; raw::SOUP_READ_WORDS]) {
-    let (packet, size) = match read {
-        Ok(Some(front)) => front,
-        Ok(None) => return (raw::OK, [0; raw::SOUP_READ_WORDS]),
-        Err(refusal) => return (refusal as u32, [0; raw::SOUP_READ_WORDS]),
-    };
-    let value = match packet {
-        Packet::Accepted { number, .. } => number,
-        Packet::Login(login) => login.number,
-        Packet::Rejected { reason } => reason.into(),
-        _ => 0,
-    };
-    (raw::OK, [letter(&packet).into(), size as u64, value])
-}
-
-pub fn front_name(read: Result<Front<Packet>, Refusal>) -> String {
-    match read {
-        Ok(Some((packet, _))) => char::from(letter(&packet)).to_string(),
-        Ok(None) => "more".to_string(),
-        Err(refusal) => (refusal as u32).to_string(),
-    }
-}
 
 /// The code and the words that the header gives a step of either end.
 pub fn step_words(step: Result<Front<Answer>, Refusal>, stream: &[u8]) -> (u32, StepWords) {

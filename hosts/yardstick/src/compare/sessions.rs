@@ -1,19 +1,17 @@
-//! The library and the yardstick at each packet: the same front, the same answer, the same end
-//! after it.
+//! The library and the yardstick at each packet: the same answer, the same end after it.
 
-use super::in_words::{front_name, front_words, step_name, step_words};
+use super::fronts::{compare_fronts, FRONTS};
+use super::in_words::{step_name, step_words};
 use super::Drawn;
 use crate::host::sessions as host;
 use crate::soup::client::Client;
+use crate::soup::from_client::FromClient;
+use crate::soup::from_server::FromServer;
 use crate::soup::server::Server;
-use crate::soup::{front, Answer, Front, Refusal, Sender};
+use crate::soup::{Answer, Front, Refusal};
 use crate::talks::{self, Talk};
 use differential::random::Random;
-use eiderwagon::raw;
 
-pub const FRONTS: &[&str] = &[
-    "more", "+", "A", "J", "S", "H", "Z", "L", "U", "R", "O", "21", "22", "23", "24", "25",
-];
 pub const CLIENTS: &[&str] = &[
     "bad start",
     "more",
@@ -78,10 +76,10 @@ pub fn compare_talks(seed: u64, talks: usize) -> Everything {
     for _ in 0..talks {
         let (client, server) = (talks::any_client(random), talks::any_server(random));
         for stream in &client.streams {
-            compare_fronts(stream, Sender::Server, &mut fronts);
+            compare_fronts::<FromServer>(stream, &mut fronts);
         }
         for stream in &server.streams {
-            compare_fronts(stream, Sender::Client, &mut fronts);
+            compare_fronts::<FromClient>(stream, &mut fronts);
         }
         compare_client(&client, &mut clients);
         compare_server(&server, &mut servers);
@@ -99,22 +97,6 @@ pub fn each_front<'a>(stream: &'a [u8], mut take: impl FnMut(&'a [u8]) -> Option
     while let Some(size) = take(rest) {
         rest = &rest[size..];
     }
-}
-
-/// Reads each packet of a stream with both. Panics at the first difference.
-pub fn compare_fronts(stream: &[u8], sender: Sender, drawn: &mut Drawn) {
-    let by = match sender {
-        Sender::Server => raw::SOUP_FROM_SERVER,
-        Sender::Client => raw::SOUP_FROM_CLIENT,
-    };
-    each_front(stream, |rest| {
-        let mut words = [0; raw::SOUP_READ_WORDS];
-        let code = raw::soup_read(rest, by, &mut words);
-        let read = front::read(rest, sender);
-        assert_eq!((code, words), front_words(read), "the front {rest:?}");
-        drawn.add(front_name(read));
-        size(&read)
-    });
 }
 
 /// Starts a client and steps it through all streams with both. Panics at the first difference.
@@ -143,7 +125,6 @@ pub fn compare_client(talk: &Talk, drawn: &mut Drawn) {
 
 /// Starts a server and steps it through all streams with both. Panics at the first difference.
 pub fn compare_server(talk: &Talk, drawn: &mut Drawn) {
-    let table = talk.table();
     let started = host::Server::start(&talk.session, talk.number);
     let server = Server::start(talk.session, talk.number);
     let Some((mut host, mut server)) = both(started, server, drawn) else {
@@ -151,7 +132,7 @@ pub fn compare_server(talk: &Talk, drawn: &mut Drawn) {
     };
     for stream in &talk.streams {
         each_front(stream, |rest| {
-            let words = host.step(&table, rest);
+            let words = host.step(&talk.table, rest);
             let step = server.step(&talk.accounts, rest);
             assert_eq!(words, step_words(step, rest), "the server at {rest:?}");
             assert_eq!(host.session(), server.session(), "after {rest:?}");

@@ -1,6 +1,7 @@
 //! The client's end of a session.
 
-use super::{fields, front, Answer, Front, Packet, Refusal, Sender, BLANK};
+use super::from_server::FromServer;
+use super::{fields, front, Answer, Front, Refusal, BLANK};
 use crate::mold::Session;
 
 #[derive(Clone, Copy, Debug, PartialEq, Eq)]
@@ -46,7 +47,7 @@ impl Client {
     /// Takes the packet at the front of the server's stream. A call, as the library's is.
     #[inline(never)]
     pub fn step<'a>(&mut self, stream: &'a [u8]) -> Result<Front<Answer<'a>>, Refusal> {
-        let Some((packet, size)) = front::read(stream, Sender::Server)? else {
+        let Some((packet, size)) = front::read(stream)? else {
             return Ok(None);
         };
         let answer = match self.phase {
@@ -57,14 +58,14 @@ impl Client {
         Ok(Some((answer, size)))
     }
 
-    fn take_asked<'a>(&mut self, packet: Packet<'a>) -> Result<Answer<'a>, Refusal> {
+    fn take_asked<'a>(&mut self, packet: FromServer<'a>) -> Result<Answer<'a>, Refusal> {
         match packet {
-            Packet::Accepted { session, number } => self.enter(session, number),
-            Packet::Rejected { reason } => {
+            FromServer::Accepted { session, number } => self.enter(session, number),
+            FromServer::Rejected { reason } => {
                 self.phase = Phase::Closed;
                 Ok(Answer::Rejected { reason })
             }
-            Packet::Debug => Ok(Answer::Debug),
+            FromServer::Debug => Ok(Answer::Debug),
             _ => Err(Refusal::PacketNotTaken),
         }
     }
@@ -84,16 +85,16 @@ impl Client {
         Ok(Answer::Accepted { number })
     }
 
-    fn take_in<'a>(&mut self, packet: Packet<'a>) -> Result<Answer<'a>, Refusal> {
+    fn take_in<'a>(&mut self, packet: FromServer<'a>) -> Result<Answer<'a>, Refusal> {
         match packet {
-            Packet::Sequenced { message } => {
+            FromServer::Sequenced { message } => {
                 let number = self.number;
                 self.number = number.checked_add(1).ok_or(Refusal::NumbersUsedUp)?;
                 Ok(Answer::Sequenced { number, message })
             }
-            Packet::ServerHeartbeat => Ok(Answer::Heartbeat),
-            Packet::Debug => Ok(Answer::Debug),
-            Packet::End => {
+            FromServer::Heartbeat => Ok(Answer::Heartbeat),
+            FromServer::Debug => Ok(Answer::Debug),
+            FromServer::End => {
                 self.phase = Phase::Ended;
                 Ok(Answer::Over)
             }

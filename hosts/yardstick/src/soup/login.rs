@@ -1,6 +1,7 @@
 //! The lock: a table of accounts, and the decision on a login.
 
-use super::{fields, Login, BLANK};
+use super::from_client::Login;
+use super::{fields, BLANK};
 use crate::mold::Session;
 
 pub type Username = [u8; 6];

@@ -1,7 +1,8 @@
 //! The server's end of a session.
 
+use super::from_client::FromClient;
 use super::login::{self, Account, MOST_ACCOUNTS};
-use super::{fields, front, Answer, Front, Packet, Refusal, Sender};
+use super::{fields, front, Answer, Front, Refusal};
 use crate::mold::Session;
 
 #[derive(Clone, Copy, Debug, PartialEq, Eq)]
@@ -53,7 +54,7 @@ impl Server {
         if accounts.len() > MOST_ACCOUNTS {
             return Err(Refusal::BadSetting);
         }
-        let Some((packet, size)) = front::read(stream, Sender::Client)? else {
+        let Some((packet, size)) = front::read(stream)? else {
             return Ok(None);
         };
         let answer = match self.phase {
@@ -67,14 +68,14 @@ impl Server {
     fn take_waiting<'a>(
         &mut self,
         accounts: &[Account],
-        packet: Packet,
+        packet: FromClient,
     ) -> Result<Answer<'a>, Refusal> {
         match packet {
-            Packet::Login(login) => {
+            FromClient::Login(login) => {
                 let decided = login::decide(accounts, &login, &self.session, self.last);
                 Ok(self.answer_login(decided))
             }
-            Packet::Debug => Ok(Answer::Debug),
+            FromClient::Debug => Ok(Answer::Debug),
             _ => Err(Refusal::PacketNotTaken),
         }
     }
@@ -92,12 +93,12 @@ impl Server {
         }
     }
 
-    fn take_in<'a>(&mut self, packet: Packet<'a>) -> Result<Answer<'a>, Refusal> {
+    fn take_in<'a>(&mut self, packet: FromClient<'a>) -> Result<Answer<'a>, Refusal> {
         match packet {
-            Packet::Unsequenced { message } => Ok(Answer::Unsequenced { message }),
-            Packet::ClientHeartbeat => Ok(Answer::Heartbeat),
-            Packet::Debug => Ok(Answer::Debug),
-            Packet::Logout => {
+            FromClient::Unsequenced { message } => Ok(Answer::Unsequenced { message }),
+            FromClient::Heartbeat => Ok(Answer::Heartbeat),
+            FromClient::Debug => Ok(Answer::Debug),
+            FromClient::Logout => {
                 self.phase = Phase::Closed;
                 Ok(Answer::LoggedOut)
             }
