@@ -11,7 +11,7 @@ const LOGINS_A_RUN: usize = 5_000;
 
 pub fn print(runs: usize) {
     let ((short, long), talks) = (compared_captures(), compared_talks());
-    println!("\n| path | library, ns | Rust, ns | ratio | to reach | reached |");
+    println!("\n| path | library | Rust | ratio | to reach | reached |");
     println!("|---|---|---|---|---|---|");
     let table = Table { runs };
     table.takes(&short);
@@ -122,5 +122,5 @@ fn row(path: &str, bar: f64, times: &Times) {
     // as it is printed, so that nobody sees 1.30 held to be above 1.3
     let ratio = (times.ratio() * 100.0).round() / 100.0;
     let reached = if ratio <= bar { "yes" } else { "**no**" };
-    println!("| {path} | {library:.1} | {rust:.1} | {ratio:.2} | {bar:.2} | {reached} |");
+    println!("| {path} | {library:.1} ns | {rust:.1} ns | {ratio:.2} | {bar:.2} | {reached} |");
 }
