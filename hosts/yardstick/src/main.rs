@@ -1,7 +1,9 @@
-//! Compares the library with the yardstick at each input, and then times both, in turns in one process.
+//! Compares the library with the yardstick at each input, and then times both, in turns in one
+//! process.
 //!
-//! It prints what was drawn, and a table: nanoseconds, the least of all runs; `--runs` says how many. Without a word in front
-//! it is the table of the receiver and the walk (order 10); with `table` it is the whole one, with the bars to reach.
+//! It prints what was drawn, and a table: nanoseconds for an item, the least of all runs; `--runs`
+//! says how many. Without a word in front it is the table of the receiver and the walk (order 10);
+//! with `table` it is the whole one, with the bars to reach.
 
 mod inputs;
 mod measure;

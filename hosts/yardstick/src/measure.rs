@@ -8,6 +8,10 @@ use std::time::Instant;
 
 pub const DATAGRAMS_A_RUN: usize = 200_000;
 
+/// Room for the places of a datagram's messages: those that are timed have at most 30.
+#[cfg(feature = "deliver")]
+const PLACES: usize = 64;
+
 /// How many logins are one input.
 pub const LOGINS: usize = 100;
 
@@ -19,8 +23,7 @@ pub struct Fed<'a, I> {
     pub input: &'a I,
     /// The items of the input, each of them a call or more.
     pub items: usize,
-    /// A short input is fed again until so many items were, so that a run is long beside the clock's
-    /// steps.
+    /// A short input is fed again until so many items were: a run is long beside the clock's steps.
     pub items_a_run: usize,
 }
 

@@ -4,9 +4,9 @@ pub mod sessions;
 
 use super::glance;
 use yardstick::captures::Capture;
-use yardstick::mold::{Messages, Refusal};
 #[cfg(feature = "deliver")]
-use yardstick::mold::{Place, MOST_MESSAGES};
+use yardstick::mold::Place;
+use yardstick::mold::{Messages, Refusal};
 use yardstick::receiver::{Answer, Receiver};
 use yardstick::{LIMIT, NEXT, SESSION};
 
@@ -77,7 +77,7 @@ fn walks_with(
 /// One call for each datagram, and then its messages by the places that it laid.
 #[cfg(feature = "deliver")]
 pub fn deliveries(capture: &Capture) -> u64 {
-    let mut places = vec![Place::default(); MOST_MESSAGES];
+    let mut places = [Place::default(); super::PLACES];
     let (mut receiver, mut sum) = (started(), 0);
     for datagram in capture.datagrams() {
         let answer = called_deliver(&mut receiver, datagram, &mut places);

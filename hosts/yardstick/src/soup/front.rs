@@ -7,7 +7,7 @@ pub const LARGEST: u16 = 4_097;
 
 /// A packet of one end.
 pub trait Packet<'a>: Sized {
-    /// What the length of a letter's packets has to be; none for a letter that this end never sends.
+    /// What the length of a letter's packets has to be; none for a letter that it never sends.
     fn length(letter: u8) -> Option<Length>;
 
     /// A packet of a letter that this end sends, whose length is good; none where a field is bad.
