@@ -1,3 +1,4 @@
+# shellcheck shell=bash
 # What the commands here time, built where it is missing or older than its sources. To be sourced, in the repository's root.
 
 # Whether a built file is missing, or something that it is made of is newer.
