@@ -83,7 +83,7 @@ fn from_server(random: &mut Random, session: &Session, number: u64) -> Vec<u8> {
             let number = random.pick(&[number, number, 1, u64::MAX.into(), 1 << 64]);
             accepted(session, number)
         }
-        b'J' => packet(b'J', &[random.pick(b"AS")]),
+        b'J' => packet(b'J', &[random.pick(b"AASSB")]),
         letter @ (b'H' | b'Z') => packet(letter, &[]),
         letter => packet(letter, &any_payload(random)),
     }
