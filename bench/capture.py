@@ -83,6 +83,15 @@ def piped(path, command):
     return seconds, text.decode()
 
 
+def from_file(path, command):
+    """The seconds of `COMMAND < PATH`, and what it printed."""
+    with open(path, "rb") as file:
+        start = time.perf_counter()
+        ran = subprocess.run(command, stdin=file, stdout=subprocess.PIPE, check=True)
+        seconds = time.perf_counter() - start
+    return seconds, ran.stdout.decode()
+
+
 def peak(path, command):
     """The program's peak memory in KiB, read while it waits for more input than there is. What the system reports once it has ended
     can't be used: it counts the memory of the process that started it."""

@@ -1,56 +1,31 @@
 //! The library and the yardstick at each datagram: the same answer, the same receiver after it, the same messages.
 
+#[cfg(feature = "deliver")]
+pub mod delivery;
+mod drawn;
+pub mod fronts;
+mod in_words;
+pub mod sessions;
+
+pub use drawn::Drawn;
+
 use crate::captures::Capture;
 use crate::host::{Delivered, Host, TakeWords};
 use crate::mold::{Messages, Refusal};
 use crate::receiver::{Answer, Receiver};
 use crate::{LIMIT, NEXT, SESSION};
 use eiderwagon::raw;
-use std::collections::BTreeMap;
-use std::fmt::{self, Display, Formatter};
 
 /// The receiver's answers, and the refusals that a datagram can draw.
 pub const OUTCOMES: [&str; 14] = [
     "deliver", "old", "quiet", "ask", "ended", "11", "12", "13", "14", "15", "16", "17", "18", "20",
 ];
 
-/// How often each outcome was drawn, and how many messages were delivered.
-#[derive(Default)]
-pub struct Drawn {
-    outcomes: BTreeMap<String, usize>,
-    pub messages: usize,
-}
-
-impl Drawn {
-    pub fn count(&self, outcome: &str) -> usize {
-        self.outcomes.get(outcome).copied().unwrap_or(0)
-    }
-
-    /// Panics where an outcome was never drawn.
-    pub fn assert_everything(&self) {
-        let missing: Vec<_> = OUTCOMES
-            .into_iter()
-            .filter(|outcome| self.count(outcome) == 0)
-            .collect();
-        assert!(missing.is_empty(), "never drawn: {missing:?}");
-    }
-}
-
-impl Display for Drawn {
-    fn fmt(&self, f: &mut Formatter<'_>) -> fmt::Result {
-        let drawn = OUTCOMES.map(|outcome| (outcome, self.count(outcome)));
-        for (outcome, count) in drawn.into_iter().filter(|(_, count)| *count > 0) {
-            write!(f, "{outcome} {count}, ")?;
-        }
-        write!(f, "messages {}", self.messages)
-    }
-}
-
 /// Feeds a capture to both. Panics at the first difference.
 pub fn compare(capture: &Capture) -> Drawn {
     let mut host = Host::start();
     let mut receiver = Receiver::start(*SESSION, NEXT, LIMIT).expect("the start is good");
-    let mut drawn = Drawn::default();
+    let mut drawn = Drawn::new(&OUTCOMES);
     for (place, datagram) in capture.datagrams().enumerate() {
         let words = host.take(datagram);
         let answer = receiver.take(datagram);
@@ -61,9 +36,7 @@ pub fn compare(capture: &Capture) -> Drawn {
             receiver.is_ended(),
             "ended after datagram {place}"
         );
-        let name = name(answer);
-        assert!(OUTCOMES.contains(&name.as_str()), "{name} isn't listed");
-        *drawn.outcomes.entry(name).or_default() += 1;
+        drawn.add(name(answer));
         if let Ok(Answer::Deliver { count, skipped, .. }) = answer {
             drawn.messages += usize::from(count);
             let messages = Messages::new(datagram, count, skipped);

@@ -1,10 +1,13 @@
 //! The library's receiver as a host calls it, through the wrapper's raw functions.
 
+pub mod sessions;
+
 use crate::{LIMIT, NEXT, SESSION};
 use eiderwagon::raw;
 
 pub type TakeWords = [u64; raw::TAKE_WORDS];
 
+#[derive(Clone, Copy, Debug, PartialEq, Eq)]
 pub struct Host {
     state: [u8; raw::RECEIVER_SIZE],
 }
@@ -22,6 +25,15 @@ impl Host {
     pub fn take(&mut self, datagram: &[u8]) -> (u32, TakeWords) {
         let mut words = [0; raw::TAKE_WORDS];
         let code = raw::receiver_take(&mut self.state, datagram, &mut words);
+        (code, words)
+    }
+
+    /// As `take`, and two words for each delivered message: its offset and its length.
+    #[cfg(feature = "deliver")]
+    #[inline]
+    pub fn deliver(&mut self, datagram: &[u8], places: &mut [u64]) -> (u32, TakeWords) {
+        let mut words = [0; raw::TAKE_WORDS];
+        let code = raw::receiver_deliver(&mut self.state, datagram, &mut words, places);
         (code, words)
     }
 

@@ -1,13 +1,18 @@
-//! Order 10's yardstick: the plain receiver and the block walk in ordinary Rust, and the library beside them.
+//! The yardstick: the library's paths in ordinary Rust, and the library beside them.
 //!
-//! `mold` and `receiver` are the yardstick, `captures` what both are fed, `host` the library as a host calls it, and `compare`
-//! holds that both answer alike at each datagram. The program of this crate compares first, and then times both.
+//! `mold`, `receiver`, `soup` and `report` are the yardstick: the receiver with its walk, both ends
+//! of a session, and the capture program. `captures` and `talks` are what both sides are fed, `host`
+//! is the library as a host calls it, and `compare` holds that both answer alike at each input. The
+//! program of this crate compares first, and then times both; `report` is a program of its own too.
 
 pub mod captures;
 pub mod compare;
 pub mod host;
 pub mod mold;
 pub mod receiver;
+pub mod report;
+pub mod soup;
+pub mod talks;
 
 /// What every receiver here is started with.
 pub const SESSION: &mold::Session = b"READROOM01";

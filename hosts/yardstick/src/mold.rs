@@ -21,6 +21,7 @@ pub enum Refusal {
     SessionEnded = 18,
     BadSetting = 19,
     EndBelowExpected = 20,
+    OutputShort = 41,
 }
 
 #[derive(Clone, Copy, Debug, PartialEq, Eq)]
@@ -39,6 +40,7 @@ pub struct Datagram<'a> {
 }
 
 impl<'a> Datagram<'a> {
+    #[inline]
     pub fn read(bytes: &'a [u8]) -> Result<Self, Refusal> {
         let (header, blocks) = bytes
             .split_first_chunk::<HEADER>()
@@ -67,6 +69,7 @@ impl<'a> Datagram<'a> {
     }
 }
 
+#[inline]
 fn check_blocks(mut rest: &[u8], count: u16) -> Result<(), Refusal> {
     for _ in 0..count {
         (_, rest) = split_block(rest).ok_or(Refusal::BlockPastEnd)?;
@@ -78,12 +81,22 @@ fn check_blocks(mut rest: &[u8], count: u16) -> Result<(), Refusal> {
     }
 }
 
-/// The first block's data, and what is left behind it.
+/// The first block's data, and what is left behind it. A capture's record has the same form.
 #[inline]
-fn split_block(bytes: &[u8]) -> Option<(&[u8], &[u8])> {
+pub fn split_block(bytes: &[u8]) -> Option<(&[u8], &[u8])> {
     let (length, rest) = bytes.split_first_chunk()?;
     rest.split_at_checked(u16::from_be_bytes(*length).into())
 }
+
+/// Where a message stands in its datagram.
+#[derive(Clone, Copy, Debug, Default, PartialEq, Eq)]
+pub struct Place {
+    pub offset: usize,
+    pub length: usize,
+}
+
+/// No datagram has more messages: each has at least its length.
+pub const MOST_MESSAGES: usize = (LARGEST - HEADER) / 2;
 
 /// Messages of a datagram, each a part of it.
 #[derive(Clone, Debug)]
@@ -101,6 +114,17 @@ impl<'a> Messages<'a> {
             rest = split_block(rest).map_or(&[], |(_, behind)| behind);
         }
         Messages { rest, left: count }
+    }
+
+    /// The places of the messages in the datagram, which is the one that they are of.
+    #[inline]
+    pub fn places(self, datagram: &[u8]) -> impl Iterator<Item = Place> + 'a {
+        let mut end = datagram.len() - self.rest.len();
+        self.map(move |message| {
+            let (offset, length) = (end + 2, message.len());
+            end = offset + length;
+            Place { offset, length }
+        })
     }
 }
 

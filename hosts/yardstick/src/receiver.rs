@@ -1,6 +1,6 @@
 //! The plain receiver in ordinary Rust: document 01's table.
 
-use crate::mold::{Datagram, Kind, Refusal, Session};
+use crate::mold::{Datagram, Kind, Messages, Place, Refusal, Session};
 
 pub const LARGEST_LIMIT: u16 = 65_534;
 
@@ -42,6 +42,10 @@ impl Receiver {
         })
     }
 
+    pub fn session(&self) -> &Session {
+        &self.session
+    }
+
     pub fn next(&self) -> u64 {
         self.next
     }
@@ -50,8 +54,7 @@ impl Receiver {
         self.ended
     }
 
-    /// A call, as the library's is, wherever it stands.
-    #[inline(never)]
+    #[inline]
     pub fn take(&mut self, datagram: &[u8]) -> Result<Answer, Refusal> {
         let Datagram {
             session,
@@ -77,6 +80,23 @@ impl Receiver {
                 Ok(Answer::Ended)
             }
         }
+    }
+
+    /// Takes a datagram, and lays the place of each delivered message into a lent slice. Where that
+    /// is too short nothing changes.
+    #[inline]
+    pub fn deliver(&mut self, datagram: &[u8], out: &mut [Place]) -> Result<Answer, Refusal> {
+        let mut after = self.clone();
+        let answer = after.take(datagram)?;
+        if let Answer::Deliver { count, skipped, .. } = answer {
+            let out = out.get_mut(..count.into()).ok_or(Refusal::OutputShort)?;
+            let places = Messages::new(datagram, count, skipped).places(datagram);
+            for (laid, place) in out.iter_mut().zip(places) {
+                *laid = place;
+            }
+        }
+        *self = after;
+        Ok(answer)
     }
 
     fn ask(&self, number: u64) -> Answer {

@@ -1,5 +1,7 @@
 //! The library's side: the calls that a host makes.
 
+pub mod sessions;
+
 use super::glance;
 use eiderwagon::raw;
 use yardstick::captures::Capture;
@@ -22,6 +24,25 @@ pub fn walks(capture: &Capture) -> u64 {
         if words[raw::TAKE_ANSWER] == raw::RECEIVER_DELIVER {
             for message in &mut Delivered::new(datagram, &words) {
                 sum += glance(message);
+            }
+        }
+    }
+    sum
+}
+
+/// One call for each datagram, and then its messages by the places that it laid.
+#[cfg(feature = "deliver")]
+pub fn deliveries(capture: &Capture) -> u64 {
+    let mut places = [0; 2 * super::PLACES];
+    let (mut host, mut sum) = (Host::start(), 0);
+    for datagram in capture.datagrams() {
+        let (code, words) = host.deliver(datagram, &mut places);
+        sum += u64::from(code) + words[raw::TAKE_ANSWER];
+        if words[raw::TAKE_ANSWER] == raw::RECEIVER_DELIVER {
+            let laid = &places[..2 * words[raw::TAKE_COUNT] as usize];
+            for place in laid.chunks_exact(2) {
+                let (offset, length) = (place[0] as usize, place[1] as usize);
+                sum += glance(&datagram[offset..offset + length]);
             }
         }
     }

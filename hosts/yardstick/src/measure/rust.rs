@@ -1,7 +1,11 @@
 //! The yardstick's side: the same with the receiver and the walk in ordinary Rust.
 
+pub mod sessions;
+
 use super::glance;
 use yardstick::captures::Capture;
+#[cfg(feature = "deliver")]
+use yardstick::mold::Place;
 use yardstick::mold::{Messages, Refusal};
 use yardstick::receiver::{Answer, Receiver};
 use yardstick::{LIMIT, NEXT, SESSION};
@@ -23,10 +27,16 @@ fn number(answer: &Result<Answer, Refusal>) -> u64 {
     }
 }
 
+/// A call for each datagram, as the library's take is.
+#[inline(never)]
+fn called_take(receiver: &mut Receiver, datagram: &[u8]) -> Result<Answer, Refusal> {
+    receiver.take(datagram)
+}
+
 pub fn takes(capture: &Capture) -> u64 {
     let (mut receiver, mut sum) = (started(), 0);
     for datagram in capture.datagrams() {
-        sum += number(&receiver.take(datagram));
+        sum += number(&called_take(&mut receiver, datagram));
     }
     sum
 }
@@ -52,7 +62,7 @@ fn walks_with(
 ) -> u64 {
     let (mut receiver, mut sum) = (started(), 0);
     for datagram in capture.datagrams() {
-        let answer = receiver.take(datagram);
+        let answer = called_take(&mut receiver, datagram);
         sum += number(&answer);
         if let Ok(Answer::Deliver { count, skipped, .. }) = answer {
             let mut messages = Messages::new(datagram, count, skipped);
@@ -62,4 +72,32 @@ fn walks_with(
         }
     }
     sum
+}
+
+/// One call for each datagram, and then its messages by the places that it laid.
+#[cfg(feature = "deliver")]
+pub fn deliveries(capture: &Capture) -> u64 {
+    let mut places = [Place::default(); super::PLACES];
+    let (mut receiver, mut sum) = (started(), 0);
+    for datagram in capture.datagrams() {
+        let answer = called_deliver(&mut receiver, datagram, &mut places);
+        sum += number(&answer);
+        if let Ok(Answer::Deliver { count, .. }) = answer {
+            for place in &places[..count.into()] {
+                sum += glance(&datagram[place.offset..place.offset + place.length]);
+            }
+        }
+    }
+    sum
+}
+
+/// A call for each datagram, as the library's deliver is.
+#[cfg(feature = "deliver")]
+#[inline(never)]
+fn called_deliver(
+    receiver: &mut Receiver,
+    datagram: &[u8],
+    places: &mut [Place],
+) -> Result<Answer, Refusal> {
+    receiver.deliver(datagram, places)
 }
