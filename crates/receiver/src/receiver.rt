@@ -21,10 +21,11 @@ ghost use Rattle.receiver.specs.Condition3.{Condition3};
 ghost use Rattle.receiver.specs.Witnesses.{NotVacuous, NotWeak};
 ghost use Rattle.receiver.specs.Calls.{CallsDeliverTrue};
 
+// The number stands in front of the name, so that no padding is copied between them.
 pub struct Receiver {
-    pub session: [u8; SESSION_SIZE],
     // The number of the next message to deliver.
     pub next: SequenceNumber,
+    pub session: [u8; SESSION_SIZE],
     // The most messages that one request asks for.
     pub limit: MessageCount,
     pub ended: bool,
