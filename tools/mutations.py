@@ -2,6 +2,7 @@
 """Two wrong answers for each public function: changes of its code, drawn by a seed, that the prover has to refuse.
 
     tools/mutations.py [--seed N] [--each N] [--jobs N] [NAME ...]    draws for these libraries (default: all)
+    tools/mutations.py --due [NAME ...]                               only for functions that --check finds fault with
     tools/mutations.py --check                                        compares what is recorded with the sources
     tools/mutations.py --page                                         writes docs/MUTATIONS.md from what is recorded
 
@@ -146,7 +147,7 @@ def draw(room, function, offered, each, seed, before):
     return row
 
 
-def run(name, seed, each, names):
+def run(name, seed, each, names, due):
     """Draws for a crate, records it, and answers what is to be printed."""
     before = {row["function"]: row for row in recorded(name).get("functions", [])}
     # read before the copy is made, so that somebody may work on while the changes are tried
@@ -155,7 +156,11 @@ def run(name, seed, each, names):
         room = Room(name, pathlib.Path(folder))
         if not room.is_proved:
             return [f"{name}: not proved as it is: nothing is drawn"]
-        rows = [draw(room, f, offered, each, seed, before.get(f.title, {})) for f, offered in offers]
+        kept = before.keys() - at_fault(name) if due else ()
+        rows = [
+            before[f.title] if f.title in kept else draw(room, f, offered, each, seed, before.get(f.title, {}))
+            for f, offered in offers
+        ]
     DATA.mkdir(exist_ok=True)
     text = json.dumps({"crate": name, "seed": seed, "functions": rows}, indent=1, ensure_ascii=False)
     (DATA / f"{name}.json").write_text(text + "\n")
@@ -165,6 +170,11 @@ def run(name, seed, each, names):
         said.append(f"{title}: {r['tried']} tried of {r['offered']}, {counts}")
         said += [f"{title}: STILL PROVED: {s['old']}  ->  {s['new']}" for s in r["survivors"]]
     return said + [f"{name}: {len(rows)} functions, {sum(r['tried'] for r in rows)} tried"]
+
+
+def at_fault(name):
+    """The functions of a crate whose record is missing or no longer stands."""
+    return {fault.removeprefix(f"{name}::").split(": ")[0] for fault in faults_of(name)}
 
 
 def recorded(name):
@@ -274,6 +284,7 @@ def main():
     words.add_argument("--seed", type=int, default=1)
     words.add_argument("--each", type=int, default=2)
     words.add_argument("--jobs", type=int, default=2)
+    words.add_argument("--due", action="store_true")
     words.add_argument("--check", action="store_true")
     words.add_argument("--page", action="store_true")
     words.add_argument("names", nargs="*", metavar="NAME")
@@ -286,8 +297,9 @@ def main():
         check()
     if not said.page:
         names = Names()
+        wanted = [n for n in said.names or sources.libraries() if not said.due or at_fault(n)]
         with concurrent.futures.ThreadPoolExecutor(said.jobs) as pool:
-            drawn = pool.map(lambda name: run(name, said.seed, said.each, names), said.names or sources.libraries())
+            drawn = pool.map(lambda name: run(name, said.seed, said.each, names, said.due), wanted)
             for lines in drawn:
                 print("\n".join(lines), flush=True)
     PAGE.write_text(page())

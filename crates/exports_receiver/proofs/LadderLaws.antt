@@ -1,12 +1,10 @@
 -- The receiver's refusals by their ladder: those of the datagram, 11 to 16, come before 41 for a state that is too short.
-use Prim.Native.Nat.{ℕ, _≤_, _<_}
+use Prim.Native.Nat.{ℕ}
 use mathlib.Core.List.{List, [], _∷_}
-use mathlib.Core.Bool.{Bool, true, false}
+use mathlib.Core.Bool.{Bool, false}
 use mathlib.Core.Path.{_≡_, refl, ap, sym, _∙_}
-use native.Mathlib.Omega.{arith}
-use lib.Dec.{ltb, eqb}
-use borrow.Author.Tests.{eq-eqb, ne-eqb}
-use Rattle.wire.specs.Choice.{if_then_else_}
+use lib.Dec.{ltb}
+use borrow.Author.Tests.{ne-eqb}
 use Rattle.wire.specs.Bounds.{sessionSize, leastNumber, largestNumber, leastLimit, largestLimit}
 use Rattle.wire.specs.Refusals.{badSetting}
 use Rattle.wire.specs.Words.{Words}
@@ -22,10 +20,9 @@ use Rattle.receiver.specs.Receiver.{receiverStartRefusal, otherSession, endBelo
 use Rattle.receiver.proofs.ReadLaws.{read-as-whole}
 use Rattle.receiver.proofs.Promises.{row-of, refused-answers}
 use Rattle.receiver.proofs.TableLaws.{row-answer}
-use Rattle.host_answers.specs.Answers.{orElse, short, unlessSized, stateLadder, behindStateless, isOneOf, RefusesOnly, AnswersWith}
+use Rattle.host_answers.specs.Answers.{orElse, short, unlessSized, stateLadder, isOneOf, RefusesOnly, AnswersWith}
 use Rattle.host_answers.proofs.AnswerLaws.{or-first, or-next}
-use Rattle.host_answers.proofs.LadderLaws.{behind-ladder}
-use Rattle.host_answers.proofs.OnlyLaws.{only-if, only-sized, only-ending, answers-only, only-within, within, only-at-most, atMost}
+use Rattle.host_answers.proofs.OnlyLaws.{only-if, only-sized, only-ending, answers-only, only-within, within}
 use Rattle.host_cursor.proofs.DatagramLaws.{datagramGrounds, datagram-only}
 
 -- no row of the table refuses

@@ -5,22 +5,16 @@ use mathlib.Core.Path.{_≡_, refl}
 use native.Mathlib.Omega.{arith}
 use lib.ListN.{length}
 use lib.Dec.{eqb}
-use borrow.Author.Tests.{eq-eqb, ne-eqb}
 use Rattle.wire.specs.Choice.{if_then_else_}
 use Rattle.wire.proofs.Words.{read-back}
 use Rattle.wire.specs.declared.refusal.Refusal.{Refusal}
 use Rattle.soupbintcp.specs.declared.packet.Sender.{Sender}
-use Rattle.soupbintcp.specs.declared.packet.Sender.the-variants.{Server, Client}
 use Rattle.soupbintcp.specs.declared.packet.Packet.{Packet}
 use Rattle.soupbintcp.specs.declared.packet.Packet.the-variants as case
 use Rattle.soupbintcp.specs.declared.front.Front.{Front}
 use Rattle.soupbintcp.specs.declared.front.Front.the-variants.{Whole, NeedMore, Refused}
-use Rattle.soupbintcp.specs.declared.scan.Stop.{Stop}
-use Rattle.soupbintcp.specs.declared.scan.Scanned.{Scanned}
-use Rattle.soupbintcp.specs.declared.scan.Stop.the-variants as stop
 use Rattle.soupbintcp.specs.Letters.{debug, accepted, rejected, sequenced, server-heartbeat, end-of-session, login, unsequenced, client-heartbeat, logout, packetKind, packetValues, letterFor, letterDebug, letterAccepted, letterRejected, letterSequenced, letterServerHeartbeat, letterEnd, letterLogin, letterUnsequenced, letterClientHeartbeat, letterLogout}
 use Rattle.soupbintcp.specs.Front.{FrontKind, packet, wants-more, frontWords, frontOf}
-use Rattle.soupbintcp.specs.Scan.{stopWords, scanOf, Scans}
 use Rattle.host_answers.specs.Answers.{padded, wordsAt, wordsOf, AnswersWith}
 use Rattle.host_sender.specs.Sender.{senderOf}
 use Rattle.exports_soupbintcp.specs.Packets.{frontNumber, FrontsApart}
@@ -61,7 +55,6 @@ module _ (n : ℕ) (s : Sender) (l : List ℕ) (r : ℕ) (ws ws′ : List ℕ) (
   pub read-answers : (x : Front) (g : ℕ) (vs : List ℕ) → frontWords x ≡ frontOf s l → g ≡ frontWords x .refusal → vs ≡ wordsOf frontNumber 3 (frontWords x)
       → AnswersWith r ws ws′ g vs → AnswersWith r ws ws′ (frontOf (senderOf n) l .refusal) (wordsOf frontNumber 3 (frontOf (senderOf n) l))
   read-answers x g vs f a b h = rw (← e, ← f, ← a, ← b) h
-
 
 -- ---- the numbers tell fronts apart: each is read back
 

@@ -1,6 +1,5 @@
 -- What the exported reader of SoupBinTCP packets answers.
 use Prim.Native.Nat.{ℕ, _<_}
-use mathlib.Core.List.{List, [], _∷_}
 use lib.ListN.{length}
 use Rattle.wire.specs.Words.{Injective}
 use Rattle.soupbintcp.specs.Letters.{letterFor}

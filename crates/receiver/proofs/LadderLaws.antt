@@ -1,6 +1,6 @@
 -- Laws of the refusals: r is the receiver, l the datagram, p what the reader found in it.
 use mathlib.Core.Path.{_≡_}
-use mathlib.Core.List.{List, [], _∷_}
+use mathlib.Core.List.{List}
 use mathlib.Core.Bool.{Bool, true, false, not}
 use Prim.Native.Nat.{ℕ}
 use lib.ListN.{take}
@@ -13,8 +13,7 @@ use Rattle.wire.specs.declared.kinds.MessageCount.{MessageCount}
 use Rattle.moldudp64.specs.Header.{numberOf}
 use Rattle.moldudp64.specs.declared.downstream.Downstream.{Downstream}
 use Rattle.moldudp64.specs.declared.downstream.Downstream.the-variants.{Data, Heartbeat, EndOfSession, Refused}
-use Rattle.moldudp64.specs.Downstream.{DownstreamKind, data-packet, heartbeat, end-of-session, kindOf, refusalOf, downstreamOf, downstreamWords}
-use Rattle.moldudp64.proofs.DownstreamLaws.{kind-read, refusal-read, refused-number, number-read}
+use Rattle.moldudp64.specs.Downstream.{kindOf, refusalOf, downstreamWords}
 use Rattle.receiver.specs.declared.receiver.Receiver.{Receiver}
 use Rattle.receiver.specs.Receiver.{otherSession, endBelow, ownRefusal, refusalFor, belowReadAt, belowRead, refusalRead}
 
