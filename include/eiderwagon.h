@@ -2,7 +2,7 @@
  *
  * Link with libeiderwagon.a, which `tools/host_library.sh` builds for x86-64 Linux. Nothing here allocates, blocks,
  * reads a clock, touches a socket or keeps anything between two calls: a state is bytes that you keep, and lend to each
- * call. hosts/c has two examples, feed.c and login.c.
+ * call. hosts/c has three examples, feed.c, login.c and branch.c.
  *
  * What is lent
  *   A buffer is a pointer and, behind it, how many elements it has. With no elements it may be any pointer, NULL too.
