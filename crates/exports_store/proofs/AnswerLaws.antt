@@ -64,6 +64,7 @@ cut-rest st size q l bs a b =
   where
     rest : Bool → Bool → Bool → ℕ
     rest same there fits = if not same then storeDiffers else if not there then notInStore else if not fits then messageLong else 0
+
     go : (same there fits room : Bool)
         → orElse (behindStateless true 48 (if eqb (rest same there fits) 0 then (if room then 0 else outputShort) else rest same there fits)) outputShort ≡ outputShort
     go false there fits room = refl
