@@ -2,7 +2,7 @@
  *
  * Link with libeiderwagon.a, which `tools/host_library.sh` builds for x86-64 Linux. Nothing here allocates, blocks,
  * reads a clock, touches a socket or keeps anything between two calls: a state is bytes that you keep, and lend to each
- * call. hosts/c has two examples, feed.c and login.c.
+ * call. hosts/c has three examples, feed.c, login.c and branch.c.
  *
  * What is lent
  *   A buffer is a pointer and, behind it, how many elements it has. With no elements it may be any pointer, NULL too.
@@ -435,9 +435,9 @@ uint32_t eiderwagon_receiver_walk(const uint8_t *datagram, size_t datagram_size,
  *   session:   EIDERWAGON_SESSION_SIZE bytes
  *   request:   any bytes, as they came
  *   words:     EIDERWAGON_WRITE_WORDS
- *   refusals:  19, 44, 47, 13, 48, 53, 51, 52, 41. 19 for the size and for the store's numbers; 52 where the first
- *              wanted message alone doesn't fit. A session that isn't ten bytes is 41 in the place of 53, 51 and 52. An
- *              output needs to hold the packet that is written, not all of `size` */
+ *   refusals:  19, 44, 47, 13, 48, 41, 53, 51, 52, 41. 19 for the size and for the store's numbers; the first 41 for a
+ *              session that isn't ten bytes; 52 where the first wanted message alone doesn't fit. An output needs to
+ *              hold the packet that is written, not all of `size` */
 uint32_t eiderwagon_store_answer(const uint8_t *session, size_t session_size, uint64_t first,
                                  const uint16_t *lengths, size_t lengths_size,
                                  const uint8_t *joined, size_t joined_size, uint64_t size,

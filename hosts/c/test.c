@@ -1,10 +1,11 @@
 /* A test that each exported function does what eiderwagon.h says, and that the header itself holds.
  *
- * ../test.sh builds and runs it. feed.c and login.c, beside it, are the examples. The parts, in order:
- *   1. a MoldUDP64 receiver, with a gap      5. what is done, and that it changes no more than it says
- *   2. a SoupBinTCP login and session        6. states: open by their own code alone, and made by hand
- *   3. a capture, whole and in pieces        7. buffers with no elements, at NULL
- *   4. what is refused, and that it          8. the version, codes, and grounds in words
+ * ../test.sh builds and runs it. feed.c, login.c and branch.c, beside it, are the examples. The parts, in order:
+ *   1. a MoldUDP64 receiver, with a gap,     5. what is done, and that it changes no more than it says
+ *      a store and a transmitter             6. states: open by their own code alone, and made by hand
+ *   2. a SoupBinTCP login and session        7. buffers with no elements, at NULL
+ *   3. a capture, whole and in pieces        8. the version, codes, and grounds in words
+ *   4. what is refused, and that it
  *      changes nothing
  */
 #include "eiderwagon.h"
@@ -184,6 +185,63 @@ static void follow_a_feed(void) {
     }
     CHECK(take(receiver, &end, &request) == EIDERWAGON_RECEIVER_ENDED);
     CHECK(receiver[EIDERWAGON_RECEIVER_CODE_AT] == 0);
+}
+
+/* The messages of a store and of a run: "one", "", "three" and "four", from number 6 on. */
+static const uint16_t kept_lengths[] = {3, 0, 5, 4};
+static const char kept[] = "onethreefour";
+
+/* A receiver that misses all of a store's messages: each round of a heartbeat, its request and the store's answer moves
+ * it on, and a packet of 29 bytes holds "one" and "", and then one of the others. */
+static void serve_from_a_store(void) {
+    const Bytes behind = heartbeat(10);
+    uint8_t receiver[EIDERWAGON_RECEIVER_SIZE];
+    uint64_t words[EIDERWAGON_WRITE_WORDS];
+    Bytes request = {{0}, 0};
+    Bytes answer = {{0}, 0};
+    screen[0] = 0;
+    DONE(eiderwagon_receiver_start(LEND(name), 6, 100, LEND(receiver)));
+    for (int round = 0; round < 3; round++) {
+        CHECK(take(receiver, &behind, &request) == EIDERWAGON_RECEIVER_ASK);
+        DONE(eiderwagon_store_answer(LEND(name), 6, LEND(kept_lengths), TEXT(kept), 29, request.bytes, request.size,
+                                     LEND(answer.bytes), LEND(words)));
+        answer.size = WORD(WRITE_SIZE);
+        CHECK(answer.size <= 29);
+        CHECK(take(receiver, &answer, &request) == EIDERWAGON_RECEIVER_DELIVER);
+    }
+    CHECK(take(receiver, &behind, &request) == EIDERWAGON_RECEIVER_QUIET);
+    CHECK(strcmp(screen, "6 one\n7 \n8 three\n9 four\n") == 0);
+}
+
+/* The same messages as a run: its packets by turns are those by place, and a receiver has it whole. */
+static void send_a_run(void) {
+    uint8_t receiver[EIDERWAGON_RECEIVER_SIZE];
+    uint8_t transmitter[EIDERWAGON_TRANSMITTER_SIZE];
+    uint64_t words[EIDERWAGON_WRITE_WORDS];
+    Bytes request = {{0}, 0};
+    Bytes packet = {{0}, 0};
+    Bytes by_place = {{0}, 0};
+    screen[0] = 0;
+    DONE(eiderwagon_receiver_start(LEND(name), 6, 100, LEND(receiver)));
+    DONE(eiderwagon_transmitter_start(6, LEND(kept_lengths), TEXT(kept), 29, LEND(transmitter)));
+    for (uint64_t place = 0; place < 3; place++) {
+        DONE(eiderwagon_transmitter_next(LEND(name), 6, LEND(kept_lengths), TEXT(kept), 29, LEND(transmitter),
+                                         LEND(packet.bytes), LEND(words)));
+        packet.size = WORD(WRITE_SIZE);
+        DONE(eiderwagon_transmitter_packet(LEND(name), 6, LEND(kept_lengths), TEXT(kept), 29, place,
+                                           LEND(by_place.bytes), LEND(words)));
+        CHECK(WORD(WRITE_SIZE) == packet.size && memcmp(packet.bytes, by_place.bytes, packet.size) == 0);
+        CHECK(take(receiver, &packet, &request) == EIDERWAGON_RECEIVER_DELIVER);
+    }
+    CHECK(strcmp(screen, "6 one\n7 \n8 three\n9 four\n") == 0);
+    CHECK(number_in(transmitter, EIDERWAGON_TRANSMITTER_MESSAGES_AT, 8) == 4);
+    CHECK(number_in(transmitter, EIDERWAGON_TRANSMITTER_BYTES_AT, 8) == 12);
+    GIVES(EIDERWAGON_REFUSED_NO_SUCH_PACKET,
+          eiderwagon_transmitter_next(LEND(name), 6, LEND(kept_lengths), TEXT(kept), 29, LEND(transmitter),
+                                      LEND(packet.bytes), LEND(words)));
+    GIVES(EIDERWAGON_REFUSED_NO_SUCH_PACKET,
+          eiderwagon_transmitter_packet(LEND(name), 6, LEND(kept_lengths), TEXT(kept), 29, 3, LEND(packet.bytes),
+                                        LEND(words)));
 }
 
 /* A datagram without a receiver: what it is, one message by its place, and all of them. */
@@ -473,6 +531,7 @@ static const uint16_t too_many_lengths[65535];
 /* The first elements of a buffer: fewer than the call needs, or just as many. */
 #define STATE(size) lent.state, (size_t)(size)
 #define OUT(size) lent.out, (size_t)(size)
+#define PART(array, size) (array), (size_t)(size)
 
 /* As many words as a function needs, and one fewer. */
 #define WORDS(function) lent.words, (size_t)EIDERWAGON_##function##_WORDS
@@ -591,6 +650,106 @@ static void refuse_at_a_receiver(void) {
     DONE(eiderwagon_receiver_take(LEND(lent.state), end_at_five.bytes, end_at_five.size, WORDS(TAKE)));
     REFUSED(SESSION_ENDED,
             eiderwagon_receiver_take(LEND(lent.state), end_at_five.bytes, end_at_five.size, WORDS(TAKE)));
+}
+
+/* A store's call with the parts that a test changes: its name, first number, size, request, output and words. */
+#define ANSWER(session, first, size, request, out, words) \
+    eiderwagon_store_answer(session, first, LEND(kept_lengths), TEXT(kept), size, request, out, words)
+
+static void refuse_at_a_store(void) {
+    const Bytes count_zero = heartbeat(6);
+    const uint8_t six[] = "READROOM01\0\0\0\0\0\0\0\6\0\1";
+    const uint8_t eight[] = "READROOM01\0\0\0\0\0\0\0\10\0\1";
+    const uint8_t five[] = "READROOM01\0\0\0\0\0\0\0\5\0\1";
+    const uint8_t ten[] = "READROOM01\0\0\0\0\0\0\0\12\0\1";
+    const uint8_t other[] = "READROOM02\0\0\0\0\0\0\0\5\0\1";
+
+    /* The store's own grounds come first, and then the request's. */
+    REFUSED(BAD_SETTING, ANSWER(PART(name, 9), 6, 21, PART(zeros, 0), OUT(0), FEWER(WRITE)));
+    REFUSED(BAD_SETTING, ANSWER(LEND(name), 6, 65508, PART(six, 20), LEND(lent.out), WORDS(WRITE)));
+    REFUSED(BAD_SETTING, ANSWER(LEND(name), 6, UINT64_MAX, PART(six, 20), LEND(lent.out), WORDS(WRITE)));
+    REFUSED(BAD_SETTING, ANSWER(LEND(name), 0, 29, PART(six, 20), LEND(lent.out), WORDS(WRITE)));
+    REFUSED(BAD_SETTING, ANSWER(LEND(name), UINT64_MAX - 3, 29, PART(six, 20), LEND(lent.out), WORDS(WRITE)));
+    REFUSED(LENGTHS_DIFFER,
+            eiderwagon_store_answer(name, 9, 6, LEND(kept_lengths), TEXT("one"), 29, zeros, 0, OUT(0), FEWER(WRITE)));
+    REFUSED(REQUEST_SIZE, ANSWER(PART(name, 9), 6, 29, PART(six, 19), OUT(0), FEWER(WRITE)));
+    REFUSED(REQUEST_SIZE, ANSWER(LEND(name), 6, 29, PART(six, 21), LEND(lent.out), WORDS(WRITE)));
+    REFUSED(NUMBER_ZERO, ANSWER(PART(name, 9), 6, 29, PART(zeros, 20), OUT(0), FEWER(WRITE)));
+    REFUSED(REQUEST_COUNT, ANSWER(PART(name, 9), 6, 29, PART(count_zero.bytes, 20), OUT(0), FEWER(WRITE)));
+    /* A session that isn't ten bytes comes in the place of 53, 51 and 52. */
+    REFUSED(OUTPUT_SHORT, ANSWER(PART(name, 9), 6, 29, PART(other, 20), LEND(lent.out), WORDS(WRITE)));
+    REFUSED(OUTPUT_SHORT, ANSWER(TEXT("READROOM011"), 6, 29, PART(five, 20), LEND(lent.out), WORDS(WRITE)));
+    REFUSED(OUTPUT_SHORT, ANSWER(PART(name, 0), 6, 26, PART(eight, 20), LEND(lent.out), WORDS(WRITE)));
+    REFUSED(STORE_DIFFERS, ANSWER(LEND(name), 6, 29, PART(other, 20), OUT(0), FEWER(WRITE)));
+    REFUSED(NOT_IN_STORE, ANSWER(LEND(name), 6, 29, PART(five, 20), OUT(0), FEWER(WRITE)));
+    REFUSED(NOT_IN_STORE, ANSWER(LEND(name), 6, 29, PART(ten, 20), LEND(lent.out), WORDS(WRITE)));
+    REFUSED(MESSAGE_LONG, ANSWER(LEND(name), 6, 26, PART(eight, 20), OUT(0), FEWER(WRITE)));
+    REFUSED(OUTPUT_SHORT, ANSWER(LEND(name), 6, 29, PART(six, 20), OUT(24), WORDS(WRITE)));
+    REFUSED(OUTPUT_SHORT, ANSWER(LEND(name), 6, 29, PART(six, 20), LEND(lent.out), FEWER(WRITE)));
+
+    /* A store of no messages is good, and has no number. */
+    REFUSED(NOT_IN_STORE,
+            eiderwagon_store_answer(LEND(name), 6, NULL, 0, NULL, 0, 29, six, 20, LEND(lent.out), WORDS(WRITE)));
+}
+
+/* A transmitter's calls with the parts that a test changes. */
+#define PACKET(session, first, size, place, out, words) \
+    eiderwagon_transmitter_packet(session, first, LEND(kept_lengths), TEXT(kept), size, place, out, words)
+#define START(first, size, state) eiderwagon_transmitter_start(first, LEND(kept_lengths), TEXT(kept), size, state)
+#define NEXT_PACKET(session, first, size, state, out, words) \
+    eiderwagon_transmitter_next(session, first, LEND(kept_lengths), TEXT(kept), size, state, out, words)
+
+static void refuse_at_a_transmitter(void) {
+    const uint16_t twelve[] = {12};
+
+    REFUSED(BAD_SETTING, PACKET(PART(name, 9), 0, 21, 3, OUT(0), FEWER(WRITE)));
+    REFUSED(BAD_SETTING, PACKET(LEND(name), 6, 65508, 0, LEND(lent.out), WORDS(WRITE)));
+    REFUSED(LENGTHS_DIFFER,
+            eiderwagon_transmitter_packet(name, 9, 0, LEND(kept_lengths), TEXT("one"), 22, 9, OUT(0), FEWER(WRITE)));
+    REFUSED(NUMBER_ZERO, PACKET(PART(name, 9), 0, 22, 9, OUT(0), FEWER(WRITE)));
+    REFUSED(NUMBERS_RUN_OUT, PACKET(PART(name, 9), UINT64_MAX - 3, 22, 9, OUT(0), FEWER(WRITE)));
+    /* A message that fits no packet is refused at every place, behind the last one too. */
+    REFUSED(MESSAGE_LONG, PACKET(PART(name, 9), 6, 26, 0, OUT(0), FEWER(WRITE)));
+    REFUSED(MESSAGE_LONG, PACKET(LEND(name), 6, 26, 9, LEND(lent.out), WORDS(WRITE)));
+    REFUSED(NO_SUCH_PACKET, PACKET(PART(name, 9), 6, 29, 3, OUT(0), FEWER(WRITE)));
+    REFUSED(NO_SUCH_PACKET, PACKET(LEND(name), 6, 29, UINT64_MAX, LEND(lent.out), WORDS(WRITE)));
+    REFUSED(OUTPUT_SHORT, PACKET(PART(name, 9), 6, 29, 0, LEND(lent.out), WORDS(WRITE)));
+    REFUSED(OUTPUT_SHORT, PACKET(TEXT("READROOM011"), 6, 29, 0, LEND(lent.out), WORDS(WRITE)));
+    REFUSED(OUTPUT_SHORT, PACKET(LEND(name), 6, 29, 0, OUT(26), WORDS(WRITE)));
+    REFUSED(OUTPUT_SHORT, PACKET(LEND(name), 6, 29, 0, LEND(lent.out), FEWER(WRITE)));
+    /* A run of no messages has no packet. */
+    REFUSED(NO_SUCH_PACKET,
+            eiderwagon_transmitter_packet(LEND(name), UINT64_MAX, NULL, 0, NULL, 0, 22, 0, LEND(lent.out),
+                                          WORDS(WRITE)));
+
+    REFUSED(BAD_SETTING, START(0, 21, STATE(0)));
+    REFUSED(LENGTHS_DIFFER, eiderwagon_transmitter_start(0, LEND(kept_lengths), TEXT("one"), 22, STATE(0)));
+    REFUSED(NUMBER_ZERO, START(0, 22, STATE(0)));
+    REFUSED(NUMBERS_RUN_OUT, START(UINT64_MAX - 3, 22, STATE(0)));
+    REFUSED(MESSAGE_LONG, START(6, 26, STATE(0)));
+    REFUSED(OUTPUT_SHORT, START(6, 29, STATE(EIDERWAGON_TRANSMITTER_SIZE - 1)));
+
+    DONE(START(6, 29, LEND(lent.state)));
+    /* The size alone needs no state. */
+    REFUSED(BAD_SETTING, NEXT_PACKET(PART(name, 9), 6, 21, STATE(0), OUT(0), FEWER(WRITE)));
+    REFUSED(OUTPUT_SHORT, NEXT_PACKET(LEND(name), 6, 29, STATE(EIDERWAGON_TRANSMITTER_SIZE - 1), LEND(lent.out),
+                                      WORDS(WRITE)));
+    REFUSED(OUTPUT_SHORT, NEXT_PACKET(PART(name, 9), 6, 29, LEND(lent.state), LEND(lent.out), WORDS(WRITE)));
+    REFUSED(OUTPUT_SHORT, NEXT_PACKET(LEND(name), 6, 29, LEND(lent.state), OUT(26), WORDS(WRITE)));
+    REFUSED(OUTPUT_SHORT, NEXT_PACKET(LEND(name), 6, 29, LEND(lent.state), LEND(lent.out), FEWER(WRITE)));
+    /* Another run than the one that was started: its next packet is looked at, and what is left of it comes first. */
+    REFUSED(LENGTHS_DIFFER,
+            eiderwagon_transmitter_next(name, 9, 0, LEND(twelve), TEXT("one"), 34, LEND(lent.state), OUT(0),
+                                        FEWER(WRITE)));
+    REFUSED(NUMBER_ZERO, NEXT_PACKET(PART(name, 9), 0, 24, LEND(lent.state), OUT(0), FEWER(WRITE)));
+    REFUSED(NUMBERS_RUN_OUT, NEXT_PACKET(PART(name, 9), UINT64_MAX, 29, LEND(lent.state), OUT(0), FEWER(WRITE)));
+    REFUSED(MESSAGE_LONG, NEXT_PACKET(PART(name, 9), 6, 24, LEND(lent.state), OUT(0), FEWER(WRITE)));
+    DONE(NEXT_PACKET(LEND(name), 6, 29, LEND(lent.state), LEND(lent.out), WORDS(WRITE)));
+    REFUSED(NO_SUCH_PACKET,
+            eiderwagon_transmitter_next(name, 9, 0, LEND(twelve), TEXT("one"), 29, LEND(lent.state), OUT(0),
+                                        FEWER(WRITE)));
+    memset(lent.state, 0, sizeof lent.state);
+    REFUSED(NO_SUCH_PACKET, NEXT_PACKET(PART(name, 9), 0, 29, LEND(lent.state), OUT(0), FEWER(WRITE)));
 }
 
 static void refuse_packets(void) {
@@ -824,6 +983,9 @@ static void write_no_more_than_is_said(void) {
     WRITES(20, eiderwagon_mold_write_heartbeat(LEND(name), 1, LEND(lent.out), LEND(lent.words)));
     WRITES(20, eiderwagon_mold_write_end(LEND(name), 1, LEND(lent.out), LEND(lent.words)));
     WRITES(20, eiderwagon_mold_write_request(LEND(name), 1, 1, LEND(lent.out), LEND(lent.words)));
+    WRITES(27,
+           ANSWER(LEND(name), 6, 29, TEXT("READROOM01\0\0\0\0\0\0\0\6\0\11"), LEND(lent.out), LEND(lent.words)));
+    WRITES(27, PACKET(LEND(name), 6, 29, 0, LEND(lent.out), LEND(lent.words)));
     WRITES(8, eiderwagon_soup_write_debug(TEXT("hello"), LEND(lent.out), LEND(lent.words)));
     WRITES(33, eiderwagon_soup_write_accepted(LEND(name), 1, LEND(lent.out), LEND(lent.words)));
     WRITES(4, eiderwagon_soup_write_rejected('S', LEND(lent.out), LEND(lent.words)));
@@ -1068,7 +1230,7 @@ static void end_a_capture(void) {
 
 /* What each kind's functions make of the bytes in a buffer: whether they take them for open. */
 typedef struct {
-    int cursor, receiver, server, client, capture;
+    int cursor, receiver, server, client, capture, transmitter;
 } Open;
 
 static Open open_as(const uint8_t *state) {
@@ -1088,11 +1250,14 @@ static Open open_as(const uint8_t *state) {
     memcpy(copy, state, sizeof copy);
     DONE(eiderwagon_capture_feed(LEND(copy), zeros, 0, LEND(words)));
     open.capture = WORD(FEED_OVER) == 0;
+    memcpy(copy, state, sizeof copy);
+    open.transmitter = EIDERWAGON_NUMBER(NEXT_PACKET(LEND(name), 6, 29, LEND(copy), PART(NULL, 0), LEND(words))) !=
+                       EIDERWAGON_REFUSED_NO_SUCH_PACKET;
     return open;
 }
 
 static int opens(Open open) {
-    return open.cursor + open.receiver + open.server + open.client + open.capture;
+    return open.cursor + open.receiver + open.server + open.client + open.capture + open.transmitter;
 }
 
 /* The bytes of each kind are open for its own functions, and for no others; so is one first byte of all. */
@@ -1120,6 +1285,8 @@ static void be_open_as_one_kind_alone(void) {
     OPEN_ONLY_AS(client, EIDERWAGON_CLIENT_OPEN);
     DONE(eiderwagon_capture_start(LEND(lent.state)));
     OPEN_ONLY_AS(capture, EIDERWAGON_CAPTURE_OPEN);
+    DONE(START(6, 29, LEND(lent.state)));
+    OPEN_ONLY_AS(transmitter, EIDERWAGON_TRANSMITTER_OPEN);
 }
 
 /* The bytes in lent.state, lent for a cursor: no message is there, and none of them changes. */
@@ -1160,6 +1327,8 @@ static void change_no_byte_of_another_kind(void) {
     DONE(eiderwagon_client_start(LEND(name), 1, LEND(lent.state)));
     has_no_message(one.bytes, one.size);
     DONE(eiderwagon_capture_start(LEND(lent.state)));
+    has_no_message(one.bytes, one.size);
+    DONE(START(6, 29, LEND(lent.state)));
     has_no_message(one.bytes, one.size);
 }
 
@@ -1274,6 +1443,33 @@ static void lend_no_bytes_to_datagrams(void) {
     CHECK(number_in(lent.cursor, EIDERWAGON_CURSOR_LEFT_AT, 2) == 3);
     REFUSED(OUTPUT_SHORT, eiderwagon_receiver_walk(one.bytes, one.size, 1, 0, NONE));
     REFUSED(OUTPUT_SHORT, eiderwagon_receiver_walk(NONE, 1, 0, NONE));
+}
+
+static void lend_no_bytes_to_stores_and_transmitters(void) {
+    const char six[] = "READROOM01\0\0\0\0\0\0\0\6\0\1";
+    memset(&lent, 0xA5, sizeof lent);
+
+    REFUSED(OUTPUT_SHORT, ANSWER(NONE, 6, 29, PART((const uint8_t *)six, 20), LEND(lent.out), WORDS(WRITE)));
+    REFUSED(REQUEST_SIZE, ANSWER(LEND(name), 6, 29, NONE, LEND(lent.out), WORDS(WRITE)));
+    REFUSED(OUTPUT_SHORT, ANSWER(LEND(name), 6, 29, PART((const uint8_t *)six, 20), NONE, WORDS(WRITE)));
+    REFUSED(OUTPUT_SHORT, ANSWER(LEND(name), 6, 29, PART((const uint8_t *)six, 20), LEND(lent.out), NONE));
+    REFUSED(LENGTHS_DIFFER,
+            eiderwagon_store_answer(LEND(name), 6, NONE, TEXT(kept), 29, NONE, LEND(lent.out), WORDS(WRITE)));
+    REFUSED(BAD_SETTING, eiderwagon_store_answer(NONE, 0, NONE, NONE, 0, NONE, NONE, NONE));
+
+    REFUSED(OUTPUT_SHORT, PACKET(NONE, 6, 29, 0, LEND(lent.out), WORDS(WRITE)));
+    REFUSED(OUTPUT_SHORT, PACKET(LEND(name), 6, 29, 0, NONE, WORDS(WRITE)));
+    REFUSED(OUTPUT_SHORT, PACKET(LEND(name), 6, 29, 0, LEND(lent.out), NONE));
+    REFUSED(BAD_SETTING, eiderwagon_transmitter_packet(NONE, 0, NONE, NONE, 0, 0, NONE, NONE));
+    REFUSED(OUTPUT_SHORT, START(6, 29, NONE));
+    DONE(eiderwagon_transmitter_start(1, NONE, NONE, 22, LEND(lent.state)));
+    REFUSED(NO_SUCH_PACKET,
+            eiderwagon_transmitter_next(LEND(name), 1, NONE, NONE, 22, LEND(lent.state), LEND(lent.out),
+                                        WORDS(WRITE)));
+    DONE(START(6, 29, LEND(lent.state)));
+    REFUSED(OUTPUT_SHORT, NEXT_PACKET(LEND(name), 6, 29, NONE, LEND(lent.out), WORDS(WRITE)));
+    REFUSED(OUTPUT_SHORT, NEXT_PACKET(NONE, 6, 29, LEND(lent.state), LEND(lent.out), WORDS(WRITE)));
+    REFUSED(BAD_SETTING, eiderwagon_transmitter_next(NONE, 0, NONE, NONE, 0, NONE, NONE, NONE));
 }
 
 static void write_no_payload(PayloadWriter write) {
@@ -1436,7 +1632,7 @@ static void say_the_grounds(void) {
         /* a place above the number changes neither */
         CHECK(EIDERWAGON_NUMBER(0xABCDEF00u | number) == number && eiderwagon_ground(0xABCDEF00u | number) == ground);
     }
-    CHECK(known == 25);
+    CHECK(known == 29);
     CHECK(strcmp(eiderwagon_ground(EIDERWAGON_REFUSED_DATAGRAM_SHORT), "a Mold datagram under 20 bytes") == 0);
     CHECK(strcmp(eiderwagon_ground(EIDERWAGON_REFUSED_REQUEST_COUNT), "a request whose count is 0 or 65,535") == 0);
     CHECK(strcmp(eiderwagon_ground(EIDERWAGON_OK), "no refusal") == 0);
@@ -1444,6 +1640,8 @@ static void say_the_grounds(void) {
 
 int main(void) {
     follow_a_feed();
+    serve_from_a_store();
+    send_a_run();
     read_a_datagram();
 
     log_in_and_out();
@@ -1456,6 +1654,8 @@ int main(void) {
     refuse_written_datagrams();
     refuse_requests();
     refuse_at_a_receiver();
+    refuse_at_a_store();
+    refuse_at_a_transmitter();
     refuse_packets();
     refuse_written_packets();
     refuse_at_a_server();
@@ -1479,6 +1679,7 @@ int main(void) {
     lend_the_receiver_of_a_reading();
 
     lend_no_bytes_to_datagrams();
+    lend_no_bytes_to_stores_and_transmitters();
     lend_no_bytes_to_packets();
     lend_no_bytes_to_sessions();
     lend_no_bytes_to_captures();

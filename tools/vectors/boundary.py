@@ -1,6 +1,6 @@
 """The boundary as `include/eiderwagon.h` has it: how states lie in bytes, what codes mean, how many words each function
 sets, and the order of the grounds. No other module knows these: where the boundary changes, this one does. What is
-answered comes from document 01's rules."""
+answered comes from the documents' rules."""
 import inspect
 import struct
 
@@ -8,6 +8,8 @@ import capture_rules as capture
 import mold_rules as mold
 import session_rules as session
 import soup_rules as soup
+import store_rules as store
+import transmitter_rules as transmitter
 from lines import FILL, Answer
 from mold_rules import Receiver, Refused
 from soup_rules import SENT
@@ -38,7 +40,7 @@ def named(names, code):
 # ---- states and cursors, little-endian. The first byte is the kind's code while the state is open, and 0 where a call
 # lays one that isn't; any other byte means the same as 0
 
-CURSOR_CODE, RECEIVER_CODE, SERVER_CODE, CLIENT_CODE, CAPTURE_CODE = CODES = range(0xE1, 0xE6)
+CURSOR_CODE, RECEIVER_CODE, SERVER_CODE, CLIENT_CODE, CAPTURE_CODE, TRANSMITTER_CODE = CODES = range(0xE1, 0xE7)
 NOT_OPEN = 0
 NOT_OPEN_TOO = 2  # a first byte that no call lays, and that no kind has as its code
 
@@ -47,9 +49,11 @@ RECEIVER = struct.Struct("<B10sQH")  # code, session, next number, asking limit
 SESSION = struct.Struct("<B10sQB")  # code, session, last or next number, phase
 FRONT = struct.Struct("<BB")  # of a reading: code, stage; a receiver follows
 COUNTS = struct.Struct("<6Q")  # behind it: records, five counts
+TRANSMITTER = struct.Struct("<BQQ")  # code, messages that went out, the bytes of their data
 
 CURSOR_SIZE, RECEIVER_SIZE, SERVER_SIZE, CLIENT_SIZE = CURSOR.size, RECEIVER.size, SESSION.size, SESSION.size
 CAPTURE_SIZE = FRONT.size + RECEIVER.size + COUNTS.size
+TRANSMITTER_SIZE = TRANSMITTER.size
 # fixed sizes of inputs
 NAME_SIZE, USERNAME_SIZE, PASSWORD_SIZE = 10, 6, 10
 
@@ -121,6 +125,15 @@ def reading_in(data):
     return capture.Reading(stage, capture.Report(receiver, min(records, capture.MOST_RECORDS), capture.Tally(*counts)))
 
 
+def transmitter_bytes(sent):
+    return TRANSMITTER.pack(TRANSMITTER_CODE, *sent)
+
+
+def transmitter_in(data):
+    first, *sent = TRANSMITTER.unpack_from(data)
+    return tuple(sent) if first == TRANSMITTER_CODE else transmitter.PAST_ALL
+
+
 def by_hand(state, first, phase=None):
     """A state with another first byte, and with another phase or stage where one is given."""
     at = 1 if len(state) == CAPTURE_SIZE else SESSION.size - 1
@@ -128,8 +141,8 @@ def by_hand(state, first, phase=None):
     return made if phase is None else made[:at] + bytes([phase]) + made[at + 1 :]
 
 
-# ---- what a function gives: the words that it sets, what it lays at the front of the lent bytes, and of the reply what
-# it writes into its second output
+# ---- what a function gives: the words that it sets, what it lays at the front of the lent bytes, and of two functions
+# what it writes into its second output
 
 
 def located(found):
@@ -157,14 +170,37 @@ def lengths_bytes(lengths):
     return b"".join(length.to_bytes(2, "big") for length in lengths)
 
 
+def lengths_in(pairs):
+    return [length for (length,) in struct.iter_unpack(">H", pairs)]
+
+
 def ten(name):
     """A name of another size is refused behind a MoldUDP64 writer's own grounds, which take it for ten bytes."""
     return name[:NAME_SIZE].ljust(NAME_SIZE)
 
 
 def mold_write_data(a, n, b, c):
-    lengths = [length for (length,) in struct.iter_unpack(">H", b)]
-    return written(mold.messages_packet(ten(a), n, lengths, c))
+    return written(mold.messages_packet(ten(a), n, lengths_in(b), c))
+
+
+def store_answer(a, n, b, c, m, d):
+    """A name of another size is 41 in the place of 53, behind the grounds that need none."""
+    lengths = lengths_in(b)
+    store.check_store(n, lengths, c, m)
+    mold.request_of(d)
+    if len(a) != NAME_SIZE:
+        raise Refused(41)
+    return written(store.answer_packet(a, n, lengths, c, m, d))
+
+
+def transmitter_start(n, a, b, m):
+    transmitter.check_run(n, lengths_in(a), b, m)
+    return [], transmitter_bytes((0, 0))
+
+
+def transmitter_next(s, a, n, b, c, m):
+    packet, sent = transmitter.next_packet(ten(a), n, lengths_in(b), c, m, transmitter_in(s))
+    return [len(packet)], transmitter_bytes(sent), packet
 
 
 def receiver_take(s, a):
@@ -243,7 +279,8 @@ class Function:
         self.number, self.rule, self.words, self.names, self.before = number, rule, words, names, before
         self.state, self.sized = state or {}, sized
         self.keys = inspect.signature(rule).parameters
-        self.writes_two = rule is server_reply
+        # the field of a second output
+        self.second = {server_reply: "c", transmitter_next: "d"}.get(rule)
 
     def other_sizes(self, fields, refusals):
         """Refuses an input of another size than its own, on one of these grounds."""
@@ -265,7 +302,7 @@ class Function:
 
     def answer(self, fields, words):
         lent, before = fields.get("s", b""), [FILL] * words
-        also = fields["c"] if self.writes_two else None
+        also = fields[self.second] if self.second else None
         try:
             values, front, second = self.given(fields)
             if len(front) > len(lent) or len(second) > len(also or b"") or words < self.words:
@@ -274,7 +311,7 @@ class Function:
             return Answer(refusal.args[0], before, lent, [refusal.args[0]], also)
         assert len(values) == self.words
         said = [self.names[values[0]], *values[1:]] if self.names else values
-        written_too = second + also[len(second) :] if self.writes_two else None
+        written_too = second + also[len(second) :] if self.second else None
         return Answer(0, [*values, *before[len(values) :]], front + lent[len(front) :], said, written_too)
 
 
@@ -282,7 +319,7 @@ class Function:
 NAME_AT_START, NAME_AT_MOLD, NAME_AT_SOUP = (NAME_SIZE, 19), (NAME_SIZE, 41), (NAME_SIZE, 46)
 
 # By subject, as the modules of the crate `vector_calls` have them, each from its own number on.
-MOLD, RECEIVERS, SOUP, SERVERS, CLIENTS, CAPTURES = range(0, 120, 20)
+MOLD, RECEIVERS, SOUP, SERVERS, CLIENTS, CAPTURES, STORES, TRANSMITTERS = range(0, 160, 20)
 
 FUNCTIONS = {
     "mold_read": Function(MOLD, mold_read, 3, KINDS),
@@ -338,4 +375,20 @@ FUNCTIONS = {
         CAPTURES + 3, lambda a: written(capture.reading_text(reading_in(a))), 1, state={"a": CAPTURE_SIZE}
     ),
     "capture_report": Function(CAPTURES + 4, lambda a: written(capture.capture_text(a)), 1),
+    "store_answer": Function(STORES, store_answer, 1, a=NAME_AT_MOLD),
+    "transmitter_packet": Function(
+        TRANSMITTERS,
+        lambda a, n, b, c, m, p: written(transmitter.packet_at(ten(a), n, lengths_in(b), c, m, p)),
+        1,
+        a=NAME_AT_MOLD,
+    ),
+    "transmitter_start": Function(TRANSMITTERS + 1, transmitter_start),
+    "transmitter_next": Function(
+        TRANSMITTERS + 2,
+        transmitter_next,
+        1,
+        state={"s": TRANSMITTER_SIZE},
+        before=lambda m: store.check_size(m),
+        a=NAME_AT_MOLD,
+    ),
 }

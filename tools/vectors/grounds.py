@@ -1,6 +1,6 @@
 """Vectors to which two grounds of refusal apply at once, of every function that has several: the first of its ladder is
 given. A ladder is a good call, and its grounds in their order, each with what is to be changed for it to apply; two
-whose changes touch other fields are put together. The order is document 01's: what needs no state, 41 for the state,
+whose changes touch other fields are put together. The order is the documents': what needs no state, 41 for the state,
 the state's own, and 41 for what is lent to write in."""
 import itertools
 
@@ -10,12 +10,14 @@ from boundary import (
     CURSOR_SIZE,
     RECEIVER_SIZE,
     SERVER_SIZE,
+    TRANSMITTER_SIZE,
     client_bytes,
     cursor_bytes,
     lengths_bytes,
     reading_bytes,
     receiver_bytes,
     server_bytes,
+    transmitter_bytes,
 )
 from capture_rules import START
 from captures import lines
@@ -24,6 +26,7 @@ from lines import room
 from logins import LOGIN, READER, SOUND_RECORD
 from mold_rules import TOP, Receiver, header
 from session_rules import Client, Server
+from sizes import KEPT
 from streams import BLANK, PASSWORD, USER, accepted, login, packet, raw
 
 OTHER = b"READROOM02"
@@ -196,6 +199,87 @@ LADDERS = [
         [("41 state", dict(a=room(CAPTURE_SIZE - 1))), output(17), FEW_WORDS],
     ),
     ("capture_report", dict(a=b"", s=room(17)), [output(17), FEW_WORDS]),
+    (
+        "store_answer",
+        dict(a=ROOM, n=6, **KEPT, m=29, d=header(ROOM, 6, 9), s=room(27)),
+        [
+            ("19 size", dict(m=21)),
+            ("19 number", dict(n=0)),
+            ("44", dict(c=b"onethreefours")),
+            ("47", dict(d=header(ROOM, 6, 9)[:19])),
+            ("13", dict(d=header(ROOM, 0, 9))),
+            ("48", dict(d=header(ROOM, 6, 65535))),
+            *named(41),
+            ("53", dict(d=header(OTHER, 6, 9))),
+            ("51", dict(d=header(ROOM, 5, 9))),
+            ("52", dict(m=24)),
+            output(27),
+            FEW_WORDS,
+        ],
+    ),
+    # the same with each ground of the request behind a change of the size
+    (
+        "store_answer",
+        dict(a=ROOM, n=6, **KEPT, m=29, d=header(ROOM, 8, 1), s=room(27)),
+        [("53", dict(d=header(OTHER, 8, 1))), ("51", dict(n=9)), ("52", dict(m=26)), output(27), FEW_WORDS],
+    ),
+    (
+        "transmitter_packet",
+        dict(a=ROOM, n=6, **KEPT, m=29, p=0, s=room(27)),
+        [
+            ("19", dict(m=65508)),
+            ("44", dict(c=b"onethreefou")),
+            ("13", dict(n=0)),
+            ("14", dict(n=TOP - 3)),
+            ("52", dict(m=26)),
+            ("54", dict(p=3)),
+            *named(41),
+            output(27),
+            FEW_WORDS,
+        ],
+    ),
+    (
+        "transmitter_start",
+        dict(a=KEPT["b"], b=KEPT["c"], n=6, m=29, s=room(TRANSMITTER_SIZE)),
+        [
+            ("19", dict(m=21)),
+            ("44", dict(b=b"")),
+            ("13", dict(n=0)),
+            ("14", dict(n=TOP - 3)),
+            ("52", dict(m=26)),
+            short(TRANSMITTER_SIZE),
+        ],
+    ),
+    # here what is left of the run comes first, and the rest is about one packet
+    (
+        "transmitter_next",
+        dict(a=ROOM, n=6, **KEPT, m=29, d=room(27), s=transmitter_bytes((0, 0))),
+        [
+            ("19", dict(m=21)),
+            short(TRANSMITTER_SIZE),
+            ("54", dict(s=transmitter_bytes((4, 12)))),
+            ("44", dict(c=b"on")),
+            ("13", dict(n=0)),
+            # a packet without a message has no data that could be missing
+            ("52", dict(m=24, c=KEPT["c"])),
+            *named(41),
+            output(27, "d"),
+            FEW_WORDS,
+        ],
+    ),
+    (
+        "transmitter_next",
+        dict(a=ROOM, n=6, **KEPT, m=29, d=room(27), s=transmitter_bytes((2, 3))),
+        [
+            ("19", dict(m=65508)),
+            ("54", dict(s=transmitter_bytes((4, 0)))),
+            ("44", dict(c=b"onethre")),
+            ("14", dict(n=TOP - 1)),
+            ("52", dict(m=26, c=KEPT["c"])),
+            output(27, "d"),
+            FEW_WORDS,
+        ],
+    ),
 ]
 
 

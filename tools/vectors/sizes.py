@@ -8,12 +8,14 @@ from boundary import (
     FUNCTIONS,
     RECEIVER_SIZE,
     SERVER_SIZE,
+    TRANSMITTER_SIZE,
     client_bytes,
     cursor_bytes,
     lengths_bytes,
     reading_bytes,
     receiver_bytes,
     server_bytes,
+    transmitter_bytes,
 )
 from capture_rules import START
 from captures import lines
@@ -25,6 +27,8 @@ from session_rules import Client, Server
 from streams import BLANK, PASSWORD, USER, accepted, packet, raw
 
 LONG = b"m" * 4097  # a payload that no packet has
+# messages that a store keeps or a transmitter sends: one with no bytes
+KEPT = dict(b=lengths_bytes([3, 0, 5, 4]), c=b"onethreefour")
 
 # of each function a good call, and refused ones
 CALLS = {
@@ -94,6 +98,24 @@ CALLS = {
     "capture_finish": [dict(a=lines(), s=reading_bytes(START)), dict(a=b"", s=room(CAPTURE_SIZE))],
     "capture_write": [dict(a=reading_bytes(START), s=room(17))],
     "capture_report": [dict(a=b"", s=room(17))],
+    "store_answer": [
+        dict(a=ROOM, n=6, **KEPT, m=29, d=header(ROOM, 6, 9), s=room(27)),
+        dict(a=ROOM, n=6, **KEPT, m=29, d=header(ROOM, 5, 9), s=room(27)),
+        dict(a=ROOM, n=6, **KEPT, m=29, d=b"", s=room(27)),
+    ],
+    "transmitter_packet": [
+        dict(a=ROOM, n=6, **KEPT, m=29, p=0, s=room(27)),
+        dict(a=ROOM, n=6, **KEPT, m=29, p=3, s=room(27)),
+    ],
+    "transmitter_start": [
+        dict(a=KEPT["b"], b=KEPT["c"], n=6, m=29, s=room(TRANSMITTER_SIZE)),
+        dict(a=KEPT["b"], b=KEPT["c"], n=0, m=29, s=room(TRANSMITTER_SIZE)),
+    ],
+    "transmitter_next": [
+        dict(a=ROOM, n=6, **KEPT, m=29, d=room(27), s=transmitter_bytes((0, 0))),
+        dict(a=ROOM, n=6, **KEPT, m=29, d=room(27), s=transmitter_bytes((4, 12))),
+        dict(a=ROOM, n=6, **KEPT, m=21, d=room(27), s=room(TRANSMITTER_SIZE)),
+    ],
 }
 
 
@@ -105,7 +127,7 @@ def sizes(v):
             for spare in (-1, 0) if FUNCTIONS[name].words else (0,):
                 v.ask(name, spare=spare, **fields)
             function = FUNCTIONS[name]
-            lent = {"s", "c"} if function.writes_two else {"s"}
+            lent = {"s", function.second} - {None}
             for key in sorted({*function.state, *function.sized, *lent} & set(fields)):
                 for value in (fields[key][:-1], fields[key] + bytes([FILL]), b""):
                     v.ask(name, **{**fields, key: value})

@@ -16,6 +16,7 @@ from boundary import (
     receiver_bytes,
     server_bytes,
     server_in,
+    transmitter_bytes,
 )
 from capture_rules import Reading, Report
 from captures import record
@@ -25,6 +26,7 @@ from logins import GUEST, LOGIN, READER, SOUND_RECORD
 from mold_rules import TOP, Receiver
 from server import MORE, NOT_AUTHORIZED, STATES, rows
 from session_rules import Client, Server
+from sizes import KEPT
 from streams import BLANK, accepted, login, packet
 
 OPEN_RECEIVER = Receiver(ROOM, 1, 100, False)
@@ -35,6 +37,7 @@ KINDS = {
     "a server": server_bytes(Server(ROOM, 5, "waiting")),
     "a client": client_bytes(Client(ROOM, 7, "asked")),
     "a reading": reading_bytes(Reading("records", Report(OPEN_RECEIVER))),
+    "a transmitter": transmitter_bytes((0, 0)),
 }
 # what each kind's function answers to an open state, and to one that isn't; a receiver's own name may differ too
 TAKERS = {
@@ -43,6 +46,7 @@ TAKERS = {
     "a server": ("server_step", dict(a=READER, b=packet(b"+")), ("debug",), (32,)),
     "a client": ("client_step", dict(a=packet(b"+")), ("debug",), (32,)),
     "a reading": ("capture_feed", dict(a=record(heartbeat(1))), None, None),
+    "a transmitter": ("transmitter_next", dict(a=ROOM, n=6, **KEPT, m=29, d=room(29)), (27,), (54,)),
 }
 
 
@@ -67,7 +71,7 @@ def kinds(v):
     v.section("first bytes: the kind's code is open, and no other")
     for kind, state in KINDS.items():
         v.heading(kind)
-        for first in sorted({*CODES, NOT_OPEN, 1, NOT_OPEN_TOO, 0xE0, 0xE6, 0xFF}):
+        for first in sorted({*CODES, NOT_OPEN, 1, NOT_OPEN_TOO, 0xE0, 0xE7, 0xFF}):
             taken(v, kind, by_hand(state, first), first == state[0])
     v.section("bytes of zero are never open")
     for taker in TAKERS:

@@ -22,6 +22,11 @@ receiver_take: deliver all | deliver the rest | old data | old heartbeat | quiet
     ask for all, heartbeat | ask for all, end | ask to the limit, data | ask to the limit, heartbeat |
     ask to the limit, end | ended | 11 | 12 | 13 | 14 | 15 | 16 | 41 state | 17 | 18 | 20 | 41 words
 receiver_walk: delivered messages | not of this datagram | 41 state
+store_answer: all that is wanted | to the store's end | as many as fit | 19 packet | 19 numbers | 44 | 47 | 13 | 48 |
+    41 session | 53 | 51 | 52 | 41 output | 41 words
+transmitter_packet: written | 19 | 44 | 13 | 14 | 52 | 54 | 41 session | 41 output | 41 words
+transmitter_start: started | 19 | 44 | 13 | 14 | 52 | 41 state
+transmitter_next: written | 19 | 41 state | 54 | 44 | 13 | 14 | 52 | 41 session | 41 output | 41 words
 soup_read: + of the server | A | J with A | J with S | S | H | Z | + of the client | L | L for 0 | U | R | O |
     need more | 21 | 22 | 23 | 24 | 25 in A, session | 25 in A, number | 25 in A, number 0 |
     25 in A, session and number | 25 in J, reason | 25 in L, session | 25 in L, number |
@@ -73,6 +78,26 @@ capture_report: report | settings=refused | 41 output | 41 words
 const WRITTEN_BACK: &str = "
 write_back: data | heartbeat | end of session | request | + of the server | + of the client | A | A, leading zeros |
     J | S | H | Z | L | L, leading zeros | L, unsound | U | R | O
+";
+
+/// Both sides of each bound of the store and of the transmitter.
+const BOUNDS: &str = "
+packet_size: 21 | 22 | 65,507 | 65,508
+store_first: 0 | 1 | the last number is 2^64 - 2 | the last number is 2^64 - 1
+store_data: one byte short | as the lengths say | one byte more
+store_request: 19 bytes | 20 bytes | 21 bytes
+store_wanted: 0 | 1 | one below the first | the first | the last | one past the last
+store_count: 0 | 1 | 65,534 | 65,535
+store_name: the same | one byte differs | nine bytes | eleven bytes
+store_message: the size is its own | the size is one byte less
+store_output: the packet's size | one byte less
+run_first: 0 | 1 | the last number is 2^64 - 2 | the last number is 2^64 - 1
+run_data: one byte short | as the lengths say | one byte more
+run_message: the size is the longest's own | the size is one byte less
+run_place: the last | one past the last
+run_output: the packet's size | one byte less
+turn_state: 16 bytes | 17 bytes
+turns: by turns as by place | read back whole
 ";
 
 /// How often each outcome of each function was drawn.
@@ -185,9 +210,22 @@ fn are_apart(function: &str, (first, second): &Pair) -> bool {
         // A login that is accepted was good, and so was the state.
         (21..=25 | 31 | 32, 46) => true,
         (21..=25 | 31 | 32, 41) if *second == "41 output" => function == "server_reply",
+        // A number that isn't in the store has no message that could be too long, and neither a session without ten
+        // bytes nor a packet that isn't there is compared with anything.
+        (51, 52) => true,
+        (41, 53) => true,
+        (51 | 52, 41) if *second == "41 output" => {
+            matches!(function, "store_answer" | "transmitter_next")
+        }
+        (54, 41) if *second == "41 output" => true,
+        // A turn's other grounds are about the messages that are left, and a packet without one has no data.
+        (41, 54 | 44 | 13 | 14 | 52) => function == "transmitter_next",
+        (54, 44 | 13 | 14 | 52) | (44, 52) if function == "transmitter_next" => true,
         // Of a state that lacks bytes nothing is looked at.
         (41, 17 | 18 | 19 | 20 | 31..=34 | 46) => true,
-        (41, 41) if *first == "41 state" && *second == "41 output" => function == "server_reply",
+        (41, 41) if *first == "41 state" && *second == "41 output" => {
+            matches!(function, "server_reply" | "transmitter_next")
+        }
         // A client's session is its only setting, and a number that is too high for a server falls below none.
         (19, 19) => matches!(function, "client_start" | "server_set_last"),
         _ => false,
@@ -201,7 +239,9 @@ pub fn functions() -> impl Iterator<Item = (&'static str, Vec<&'static str>)> {
 
 /// The functions, and what is made of several.
 fn all() -> impl Iterator<Item = (&'static str, Vec<&'static str>)> {
-    functions().chain(entries(WRITTEN_BACK))
+    functions()
+        .chain(entries(WRITTEN_BACK))
+        .chain(entries(BOUNDS))
 }
 
 fn entries(list: &'static str) -> impl Iterator<Item = (&'static str, Vec<&'static str>)> {

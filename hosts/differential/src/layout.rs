@@ -5,6 +5,7 @@ use crate::reference::login::Account;
 use crate::reference::mold::HEADER;
 use crate::reference::receiver::Receiver;
 use crate::reference::session::{Client, ClientState, Server, ServerState};
+use crate::reference::transmitter::Progress;
 use crate::reference::Name;
 
 pub const CURSOR: usize = 11;
@@ -12,6 +13,7 @@ pub const RECEIVER: usize = 21;
 pub const SERVER: usize = 20;
 pub const CLIENT: usize = 20;
 pub const CAPTURE: usize = 71;
+pub const TRANSMITTER: usize = 17;
 pub const ACCOUNT: usize = 16;
 
 /// The first byte of each kind's state while it is open. No two are the same, and none is 0.
@@ -20,12 +22,14 @@ pub const RECEIVER_CODE: u8 = 0xE2;
 pub const SERVER_CODE: u8 = 0xE3;
 pub const CLIENT_CODE: u8 = 0xE4;
 pub const CAPTURE_CODE: u8 = 0xE5;
-pub const CODES: [u8; 5] = [
+pub const TRANSMITTER_CODE: u8 = 0xE6;
+pub const CODES: [u8; 6] = [
     CURSOR_CODE,
     RECEIVER_CODE,
     SERVER_CODE,
     CLIENT_CODE,
     CAPTURE_CODE,
+    TRANSMITTER_CODE,
 ];
 
 /// Where the parts stand that are made by hand: a session's phase, a reading's stage, its receiver, and how many
@@ -93,6 +97,30 @@ pub fn cursor_bytes(cursor: Cursor) -> Vec<u8> {
         &[CURSOR_CODE][..],
         &cursor.place.to_le_bytes(),
         &cursor.left.to_le_bytes(),
+    ]
+    .concat()
+}
+
+/// What isn't open is past every message.
+pub fn transmitter(bytes: &[u8]) -> Progress {
+    let bytes = whole::<TRANSMITTER>(bytes);
+    if bytes[0] != TRANSMITTER_CODE {
+        return Progress {
+            messages: u64::MAX,
+            bytes: 0,
+        };
+    }
+    Progress {
+        messages: number64(&bytes, 1),
+        bytes: number64(&bytes, 9),
+    }
+}
+
+pub fn transmitter_bytes(progress: Progress) -> Vec<u8> {
+    [
+        &[TRANSMITTER_CODE][..],
+        &progress.messages.to_le_bytes(),
+        &progress.bytes.to_le_bytes(),
     ]
     .concat()
 }

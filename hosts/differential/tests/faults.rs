@@ -78,6 +78,15 @@ const HANDLING: &[(&str, Fault)] = &[
         },
     ),
     (
+        "a refused turn moves the transmitter on",
+        |call, _, code, after| {
+            let turned = matches!(call, Call::TransmitterNext { .. });
+            if turned && *code == 41 {
+                touch(after.state.get_mut(1));
+            }
+        },
+    ),
+    (
         "a refused start closes the state",
         |call, _, code, after| {
             if *code == 19 && call.function().ends_with("start") {
@@ -120,7 +129,7 @@ fn refuse(number: u32, before: &Lent, code: &mut u32, after: &mut Lent) {
     after.clone_from(before);
 }
 
-/// Faults of a rule, document 01's own list of errors first.
+/// Faults of a rule, document 01's own list of errors first, and at the end those of the orders.
 const RULES: &[(&str, Fault)] = &[
     (
         "a password counts up to its first zero byte",
@@ -307,6 +316,66 @@ const RULES: &[(&str, Fault)] = &[
             }
         },
     ),
+    (
+        "a request past the store's end is refused",
+        |call, before, code, after| {
+            if let Call::StoreAnswer {
+                first,
+                lengths,
+                request,
+                ..
+            } = *call
+            {
+                if *code != 0 {
+                    return;
+                }
+                let wanted = u16::from_be_bytes([request[18], request[19]]);
+                let number = u64::from_be_bytes(request[10..18].try_into().expect("eight bytes"));
+                let there = first + lengths.len() as u64 - number;
+                if there < u64::from(wanted) {
+                    refuse(51, before, code, after);
+                }
+            }
+        },
+    ),
+    (
+        "a store without a name has another one",
+        |call, before, code, after| {
+            if let Call::StoreAnswer { session, .. } = call {
+                if session.len() != 10 && *code == 41 {
+                    refuse(53, before, code, after);
+                }
+            }
+        },
+    ),
+    (
+        "an answer needs room for the whole size",
+        |call, before, code, after| {
+            if let Call::StoreAnswer { size, .. } = call {
+                if *code == 0 && (before.out.len() as u64) < *size {
+                    refuse(41, before, code, after);
+                }
+            }
+        },
+    ),
+    (
+        "only the packet that is asked for is looked at",
+        |call, before, code, after| {
+            if let Call::TransmitterPacket { lengths, size, .. } = call {
+                let first = lengths.first().map_or(0, |&length| u64::from(length));
+                if *code == 52 && 22 + first <= *size {
+                    refuse(54, before, code, after);
+                }
+            }
+        },
+    ),
+    ("an empty run has a packet", |call, _, code, _| {
+        if let Call::TransmitterPacket { lengths, place, .. } = call {
+            if *code == 54 && *place == 0 && lengths.is_empty() {
+                *code = 0;
+            }
+        }
+    }),
     ("a last number falls", |call, before, code, after| {
         if let Call::ServerSetLast { last } = call {
             if *code == 19 && *last < u64::MAX {

@@ -16,8 +16,20 @@ fn declared() -> Vec<(&'static str, Vec<u32>)> {
         .map(|text| text.split('(').next().expect("a name"));
     names
         .zip(comments)
-        .filter_map(|(name, refusals)| Some((name, refusals?)))
+        .filter_map(|(name, refusals)| Some((name, in_order(name, refusals?))))
         .collect()
+}
+
+/// Of one function the header lists the refusals as its contract does, and says in words which one comes earlier.
+fn in_order(name: &str, mut refusals: Vec<u32>) -> Vec<u32> {
+    if name == "transmitter_next" {
+        assert!(HEADER.contains("Here 54, that no message is left, comes before 44."));
+        let place = |number| move |&listed: &u32| listed == number;
+        let from = refusals.iter().position(place(54)).expect("54");
+        let to = refusals.iter().position(place(44)).expect("44");
+        refusals[to..=from].rotate_right(1);
+    }
+    refusals
 }
 
 /// The numbers of the last list of refusals in a text, if it has one.
@@ -45,7 +57,7 @@ fn list_has_what_the_header_names() {
     let list: Vec<(&str, Vec<u32>)> = coverage::functions()
         .map(|(function, outcomes)| (function, listed(&outcomes)))
         .collect();
-    assert_eq!(list.len(), 35);
+    assert_eq!(list.len(), 39);
     assert_eq!(list, declared());
 }
 

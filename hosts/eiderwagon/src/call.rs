@@ -43,6 +43,16 @@ pub(crate) fn written(
     Ok(&out[..size as usize])
 }
 
+/// Lends an output to a writer that judges what came from the peer, and takes the part of it that
+/// was written.
+pub(crate) fn written_for(
+    out: &mut [u8],
+    call: impl FnOnce(&mut [u8], &mut [u64]) -> u32,
+) -> Result<&[u8], Refusal> {
+    let [size] = received(|words| call(out, words))?;
+    Ok(&out[..size as usize])
+}
+
 /// Takes the answer of a call that refuses nothing but a buffer that is too short, as none is here.
 pub(crate) fn sure<T>(answer: Result<T, Refusal>) -> T {
     answer.expect("each buffer has the size that the header names")

@@ -9,20 +9,23 @@
 //!   requests are paced, for which there is [`receiver::Requests`];
 //! - one [`session::Server`] or [`session::Client`] for each connection, and one
 //!   [`receiver::Receiver`] for each feed. The host keeps them, and hands each datagram or stream
-//!   to its own, in the order in which it came.
+//!   to its own, in the order in which it came;
+//! - the messages of a [`store::Store`] that answers requests, and of a
+//!   [`transmitter::Transmitter`] that sends them: both borrow what the host keeps.
 //!
 //! Nothing needs to be checked beforehand. What doesn't follow the rules is answered with a
 //! [`Refusal`], which has changed nothing.
 //!
-//! A receiver, a server, a client or a reading is had from a start that succeeded, and in no other
-//! way; it can't be copied or made of bytes. So the state that a call is given is always the one
-//! that the call before left, as the proofs want it. To go on after a restart, keep a receiver's
-//! [`next`](receiver::Receiver::next) number, and start a new one there.
+//! A receiver, a transmitter, a server, a client or a reading is had from a start that succeeded,
+//! and in no other way; it can't be copied or made of bytes. So the state that a call is given is
+//! always the one that the call before left, as the proofs want it. To go on after a restart, keep
+//! a receiver's [`next`](receiver::Receiver::next) number, and start a new one there.
 //!
 //! The archive has to be of this crate's version, [`raw::VERSION`]: the first call says so where it
 //! isn't, and panics.
 //!
-//! An enum to which later rules may add is `#[non_exhaustive]`: a `match` needs an arm for the rest.
+//! An enum to which later rules may add is `#[non_exhaustive]`: a `match` needs an arm for the
+//! rest.
 //!
 //! A receiver over three datagrams, of which the second is lost at first:
 //!
@@ -71,6 +74,8 @@ pub mod receiver;
 mod refusal;
 pub mod session;
 pub mod soup;
+pub mod store;
+pub mod transmitter;
 
 #[cfg(test)]
 mod header_test;
@@ -93,6 +98,10 @@ pub type Session = [u8; raw::SESSION_SIZE];
 ///
 /// ```compile_fail
 /// eiderwagon::capture::Reading::start().clone();
+/// ```
+///
+/// ```compile_fail
+/// eiderwagon::transmitter::Transmitter::start(b"READROOM01", 1, &[], &[], 22).unwrap().clone();
 /// ```
 ///
 /// What has a password in it isn't compared.

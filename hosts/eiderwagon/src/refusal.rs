@@ -149,6 +149,8 @@ impl Refusal {
         let ground = Ground::answered(number);
         let fault = match ground {
             Ground::OutputShort | Ground::BadSetting => Fault::Caller,
+            // A store, and the size of its packets, are the caller's own.
+            Ground::LengthsDiffer | Ground::MessageLong => Fault::Caller,
             // That it is over was answered before.
             Ground::SessionEnded | Ground::StateClosed => Fault::Caller,
             _ => Fault::Peer,

@@ -41,12 +41,12 @@ fn each_number_leads_back_to_its_ground() {
         assert_eq!(Ground::from_number(ground.number()), Some(ground));
         before = ground.number();
     }
-    assert_eq!(Ground::ALL.len(), 25);
+    assert_eq!(Ground::ALL.len(), 29);
 }
 
 #[test]
 fn other_numbers_have_no_ground() {
-    for number in [0, 10, 26, 30, 35, 40, 43, 45, 49, u32::MAX] {
+    for number in [0, 10, 26, 30, 35, 40, 43, 45, 49, 50, 55, u32::MAX] {
         assert_eq!(Ground::from_number(number), None);
     }
 }

@@ -4,6 +4,8 @@
 //! A ground's name begins with its number. 25, 31 and 32 stand here without the finer names of their outcomes.
 
 use super::fixed_sizes;
+use super::store::store_of;
+use super::transmitter::run_of;
 use crate::call::{Call, Lent};
 use crate::layout;
 use crate::reference::login::{self, Reply};
@@ -11,6 +13,7 @@ use crate::reference::mold::{self, Kind, END, HEADER, LARGEST, MOST_MESSAGES};
 use crate::reference::receiver::LARGEST_LIMIT;
 use crate::reference::session::{ClientState, ServerState};
 use crate::reference::soup::{self, Front, Packet, Sender, LARGEST_PAYLOAD, PAYLOAD};
+use crate::reference::store::{blocks, is_size};
 use crate::reference::text;
 
 pub const SHORT_STATE: &str = "41 state";
@@ -21,6 +24,8 @@ pub const SETTING_SIZE: &str = "19 size";
 pub const FIELD_SIZE: &str = "46 size";
 pub const LAST_TOO_HIGH: &str = "19 too high";
 pub const LAST_FALLS: &str = "19 falls";
+pub const BAD_SIZE: &str = "19 packet";
+pub const BAD_NUMBERS: &str = "19 numbers";
 
 /// The number of a ground.
 pub fn number(ground: &str) -> u32 {
@@ -60,6 +65,10 @@ pub fn of(call: &Call, lent: &Lent) -> Vec<&'static str> {
     ladder.rung(!whole, SHORT_STATE);
     if whole {
         of_state(call, &lent.state, &mut ladder);
+    }
+    // Its session is looked at behind the state.
+    if let Call::TransmitterNext { session, .. } = call {
+        ladder.rung(session.len() != 10, OTHER_SESSION_SIZE);
     }
     let needed = output_needed(call, &lent.state);
     ladder.rung(lent.out.len() < needed, SHORT_OUTPUT);
@@ -115,6 +124,20 @@ fn without_state(call: &Call, ladder: &mut Ladder) {
             ladder.rung(session.len() != 10, SETTING_SIZE);
             ladder.rung(next == 0 || limit == 0 || limit > LARGEST_LIMIT, "19");
         }
+        Call::StoreAnswer {
+            session,
+            size,
+            request,
+            ..
+        } => of_store(call, session, size, request, ladder),
+        Call::TransmitterPacket { session, place, .. } => {
+            of_run(call, ladder);
+            let there = run_of(call).and_then(|run| run.group_at(place));
+            ladder.rung(there.is_none(), "54");
+            ladder.rung(session.len() != 10, OTHER_SESSION_SIZE);
+        }
+        Call::TransmitterStart { .. } => of_run(call, ladder),
+        Call::TransmitterNext { size, .. } => ladder.rung(!is_size(size), "19"),
         Call::ServerStart { session, last } => {
             let sized = session.len() == 10;
             ladder.rung(!sized, SETTING_SIZE);
@@ -161,6 +184,37 @@ fn without_state(call: &Call, ladder: &mut Ladder) {
         Call::ClientStep { stream } => of_stream(stream, Sender::Server, ladder),
         _ => {}
     }
+}
+
+/// Of a request that isn't 20 bytes its header is looked at where it is there.
+fn of_store(call: &Call, session: &[u8], size: u64, request: &[u8], ladder: &mut Ladder) {
+    let store = store_of(call).expect("a store's call");
+    let fields = (request.len() >= HEADER).then(|| mold::header(request));
+    ladder.rung(!is_size(size), BAD_SIZE);
+    ladder.rung(!store.numbers_are_good(), BAD_NUMBERS);
+    ladder.rung(!store.adds_up(), "44");
+    ladder.rung(request.len() != HEADER, "47");
+    let Some((name, number, count)) = fields else {
+        return ladder.rung(session.len() != 10, OTHER_SESSION_SIZE);
+    };
+    ladder.rung(number == 0, "13");
+    ladder.rung(count == 0 || count == END, "48");
+    ladder.rung(session.len() != 10, OTHER_SESSION_SIZE);
+    ladder.rung(session.len() == 10 && name != store.session, "53");
+    let place = store.place(number);
+    ladder.rung(place.is_none(), "51");
+    let alone = |place| store.chosen(place, 1, size).is_empty();
+    ladder.rung(place.is_some_and(alone), "52");
+}
+
+/// The grounds over a whole run.
+fn of_run(call: &Call, ladder: &mut Ladder) {
+    let run = run_of(call).expect("a transmitter's call");
+    ladder.rung(!is_size(run.size), "19");
+    ladder.rung(!run.adds_up(), "44");
+    ladder.rung(run.first == 0, "13");
+    ladder.rung(run.numbers_run_out(), "14");
+    ladder.rung(run.has_a_long_message(), "52");
 }
 
 fn of_datagram(datagram: &[u8], ladder: &mut Ladder) {
@@ -223,6 +277,7 @@ fn of_state(call: &Call, state: &[u8], ladder: &mut Ladder) {
             let ends_below = |(_, number, count)| count == END && number < receiver.next;
             ladder.rung(fields.is_some_and(ends_below), "20");
         }
+        Call::TransmitterNext { .. } => of_turn(call, state, ladder),
         Call::ServerSetLast { last } => {
             ladder.rung(last < layout::server(state).last, LAST_FALLS);
         }
@@ -236,6 +291,20 @@ fn of_state(call: &Call, state: &[u8], ladder: &mut Ladder) {
         Call::ClientStep { stream } => of_client(state, stream, ladder),
         _ => {}
     }
+}
+
+/// The grounds of the next packet alone; where no message is left there is no packet.
+fn of_turn(call: &Call, state: &[u8], ladder: &mut Ladder) {
+    let run = run_of(call).expect("a transmitter's call");
+    let group = run.group(layout::transmitter(state));
+    let messages = group.from.messages;
+    if messages >= run.lengths.len() as u64 {
+        return ladder.rung(true, "54");
+    }
+    ladder.rung(!run.has_data_of(&group), "44");
+    ladder.rung(run.first == 0 && messages == 0, "13");
+    ladder.rung(run.group_runs_out(&group), "14");
+    ladder.rung(group.lengths.is_empty(), "52");
 }
 
 fn of_server(state: &[u8], stream: &[u8], ladder: &mut Ladder) {
@@ -303,6 +372,20 @@ fn written_data(lengths: &[u16], data: &[u8]) -> usize {
     HEADER + 2 * lengths.len() + data.len()
 }
 
+/// The packet of a store's answer, if its request's header is there and a message can be chosen.
+fn stored_packet(call: &Call, size: u64, request: &[u8]) -> usize {
+    let store = store_of(call).expect("a store's call");
+    let fields = (request.len() >= HEADER).then(|| mold::header(request));
+    let chosen = fields.and_then(|(_, number, count)| {
+        let place = store.place(number)?;
+        Some(store.chosen(place, count, size))
+    });
+    match chosen {
+        None | Some([]) => 0,
+        Some(lengths) => HEADER + blocks(lengths) as usize,
+    }
+}
+
 /// How many bytes the call writes, where nothing else refuses it.
 pub fn output_needed(call: &Call, state: &[u8]) -> usize {
     match *call {
@@ -310,6 +393,15 @@ pub fn output_needed(call: &Call, state: &[u8]) -> usize {
         Call::MoldWriteHeartbeat { .. }
         | Call::MoldWriteEnd { .. }
         | Call::MoldWriteRequest { .. } => HEADER,
+        Call::StoreAnswer { size, request, .. } => stored_packet(call, size, request),
+        Call::TransmitterPacket { place, .. } => {
+            let group = run_of(call).and_then(|run| run.group_at(place));
+            group.map_or(0, |group| group.packet_size() as usize)
+        }
+        Call::TransmitterNext { .. } => {
+            let progress = layout::transmitter(state);
+            run_of(call).map_or(0, |run| run.group(progress).packet_size() as usize)
+        }
         Call::SoupWriteDebug { payload }
         | Call::SoupWriteSequenced { payload }
         | Call::SoupWriteUnsequenced { payload } => PAYLOAD + payload.len(),

@@ -6,6 +6,8 @@ mod mold;
 mod receiver;
 mod session;
 mod soup;
+mod store;
+mod transmitter;
 pub mod typed;
 
 use crate::call::{Call, Input, Lent};
@@ -107,13 +109,17 @@ pub fn refusal_name(code: Refusal) -> &'static str {
         46 => "46",
         47 => "47",
         48 => "48",
-        _ => unreachable!("document 01 has no refusal {code}"),
+        51 => "51",
+        52 => "52",
+        53 => "53",
+        54 => "54",
+        _ => unreachable!("no document has a refusal {code}"),
     }
 }
 
 /// How many words and how many bytes of a state or cursor a function has.
 pub fn fixed_sizes(call: &Call) -> (usize, usize) {
-    use crate::layout::{CAPTURE, CLIENT, CURSOR, RECEIVER, SERVER};
+    use crate::layout::{CAPTURE, CLIENT, CURSOR, RECEIVER, SERVER, TRANSMITTER};
     use Call::*;
     match call {
         MoldRead { .. } | MoldLocate { .. } | SoupRead { .. } | SoupScan { .. } => (3, 0),
@@ -122,6 +128,8 @@ pub fn fixed_sizes(call: &Call) -> (usize, usize) {
         MoldNext { .. } => (3, CURSOR),
         ReceiverStart { .. } => (0, RECEIVER),
         ReceiverTake { .. } => (4, RECEIVER),
+        TransmitterStart { .. } => (0, TRANSMITTER),
+        TransmitterNext { .. } => (1, TRANSMITTER),
         ServerStart { .. } | ServerSetLast { .. } => (0, SERVER),
         ServerStep { .. } => (5, SERVER),
         ServerReply { .. } => (6, SERVER),
@@ -158,6 +166,8 @@ pub fn expect(call: &Call, lent: &Lent) -> Expected {
 pub fn answer(call: &Call, state: &[u8]) -> Expected {
     mold::answer(call, state)
         .or_else(|| receiver::answer(call, state))
+        .or_else(|| store::answer(call))
+        .or_else(|| transmitter::answer(call, state))
         .or_else(|| soup::answer(call))
         .or_else(|| session::answer(call, state))
         .or_else(|| capture::answer(call, state))

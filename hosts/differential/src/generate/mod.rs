@@ -12,7 +12,9 @@ mod pairs;
 mod session_cases;
 mod soup;
 mod soup_cases;
+mod store_cases;
 mod talk;
+mod transmitter_cases;
 mod write_back;
 
 use crate::random::Random;
@@ -20,7 +22,7 @@ use crate::run::Run;
 
 /// One case: a kind of input, and some calls with it.
 pub fn case(run: &mut Run, random: &mut Random) {
-    match random.below(100) {
+    match random.below(104) {
         0..13 => mold_cases::read(run, random),
         13..24 => mold_cases::write(run, random),
         24..34 => mold_cases::receive(run, random),
@@ -32,6 +34,8 @@ pub fn case(run: &mut Run, random: &mut Random) {
         75..86 => pairs::case(run, random),
         86..90 => talk::case(run, random),
         90..96 => capture_cases::single(run, random),
-        _ => capture_cases::pieces(run, random),
+        96..100 => capture_cases::pieces(run, random),
+        100..102 => store_cases::case(run, random),
+        _ => transmitter_cases::case(run, random),
     }
 }

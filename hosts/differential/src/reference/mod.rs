@@ -1,4 +1,4 @@
-//! Document 01's rules once more, in plain Rust: written from the documents alone, to be read next to them.
+//! Document 01's rules and document 02's orders once more, in plain Rust: written from the documents alone, to be read next to them.
 //!
 //! Nothing here knows of words, lent outputs or byte layouts of states; those are the interface's and stand in
 //! `compare` and `layout`.
@@ -8,6 +8,7 @@
 //! records read it is over and uses all that follows; settings that are read start a capture's counts anew, and a count
 //! stops at 2^64 - 1; the cursor over a datagram that would be refused stands at place 20. That a record cut short is
 //! among the records read was changed then too; there the readings decide, as refused records count.
+//! What `transmitter_next` refuses of a state that no start and no turns lead to is the header's rule, not order 14's.
 
 pub mod capture;
 pub mod login;
@@ -15,7 +16,9 @@ pub mod mold;
 pub mod receiver;
 pub mod session;
 pub mod soup;
+pub mod store;
 pub mod text;
+pub mod transmitter;
 
 /// The number of a refusal, as in document 01's table.
 pub type Refusal = u32;

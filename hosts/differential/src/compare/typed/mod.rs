@@ -9,6 +9,7 @@ mod mold;
 mod reach;
 mod session;
 mod soup;
+mod store;
 
 use super::{expect, grounds, Expected};
 use crate::call::{Call, Lent};
@@ -24,6 +25,7 @@ pub fn difference(call: &Call, lent: &Lent) -> Option<String> {
     let expected = expect(call, lent);
     let mut out = lent.out.clone();
     mold::difference(call, &lent.state, &expected, &mut out)
+        .or_else(|| store::difference(call, &lent.state, &expected, &mut out))
         .or_else(|| soup::difference(call, &expected, &mut out))
         .or_else(|| session::difference(call, &lent.state, &expected, &mut out))
         .or_else(|| capture::difference(call, &expected, &mut out))
