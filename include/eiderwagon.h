@@ -473,8 +473,9 @@ uint32_t eiderwagon_transmitter_start(uint64_t first, const uint16_t *lengths, s
 /* Writes the next packet of a run, and moves the transmitter on; a refusal leaves it, and the next call writes the same
  * packet. It costs a walk over this packet's messages alone. Lend the very run that was started, the same lengths,
  * joined bytes, `first` and `size`, at each call: then the packets are those of eiderwagon_transmitter_packet at the
- * places from 0 on, behind the last one it is 54, and no other refusal but 41 is met. Another run is safe too: then the
- * packet is one of that run's messages, behind as many as went out, and 44, 13, 14 and 52 are about this packet alone.
+ * places from 0 on, behind the last one it is 54, and no other refusal but 41 is met. With another run nothing undefined
+ * happens, and 44, 13, 14 and 52 are about this packet alone: but its data begins where the state says, which need not
+ * be where a message of that run begins.
  *   session:   EIDERWAGON_SESSION_SIZE bytes
  *   state:     EIDERWAGON_TRANSMITTER_SIZE bytes, read, and written on success
  *   words:     EIDERWAGON_WRITE_WORDS
