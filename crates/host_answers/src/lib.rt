@@ -16,9 +16,7 @@ pub const WRITTEN_WORDS: usize = 1;
 // The code of lent memory that is too short.
 pub const SHORT: u32 = refusal::OUTPUT_SHORT.number as u32;
 
-// The last refusal that needs no receiver, and the last that needs no session.
-pub const LAST_OF_DATAGRAM: u8 = refusal::BYTES_AFTER_BLOCKS.number;
-
+// The last refusal that needs no session.
 pub const LAST_OF_STREAM: u8 = refusal::FIELD_BAD.number;
 
 // A refusal, or 41 where lent memory is too short.

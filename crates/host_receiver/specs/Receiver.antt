@@ -2,15 +2,14 @@
 use Prim.Native.Nat.{ℕ, _+_}
 use mathlib.Core.List.{List, _++_}
 use mathlib.Core.Bool.{Bool, not}
-use lib.ListN.{length, drop}
+use lib.ListN.{length}
 use lib.Dec.{ltb}
 use Rattle.wire.specs.Choice.{if_then_else_}
-use Rattle.wire.specs.Bounds.{sessionSize, numberSize, countSize}
-use Rattle.wire.specs.Parts.{firstBytes}
+use Rattle.wire.specs.Bounds.{numberSize, countSize}
 use Rattle.receiver.specs.declared.receiver.Receiver as declared
 use Rattle.receiver.specs.Receiver.{receiver, refusedReceiver}
 use Rattle.host_states.specs.Little.{little, littleBytes}
-use Rattle.host_states.specs.States.{receiverCode, isOpen, openByte, Keeps, nameAt, numberAt, frontSize, frontBytes}
+use Rattle.host_states.specs.States.{receiverCode, isOpen, openByte, Keeps, nameIn, numberAt, frontSize, frontBytes}
 
 abbrev pub limitAt : ℕ
 limitAt = frontSize
@@ -27,7 +26,7 @@ receiverBytes r =
 unfoldable pub receiverIn : List ℕ → declared.Receiver
 receiverIn l =
     if ltb (length l) receiverSize then refusedReceiver
-    else receiver (firstBytes sessionSize (drop nameAt l)) (little l numberAt numberSize)
+    else receiver (nameIn l) (little l numberAt numberSize)
     (little l limitAt countSize)
     (not (isOpen receiverCode l))
 

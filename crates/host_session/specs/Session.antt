@@ -1,11 +1,10 @@
 -- A SoupBinTCP session as bytes, at either end: its code while it is open, its session's name, its number, its phase.
 use Prim.Native.Nat.{ℕ, _+_}
 use mathlib.Core.List.{List, [], _∷_, _++_}
-use lib.ListN.{getD, drop}
-use Rattle.wire.specs.Bounds.{sessionSize, numberSize}
-use Rattle.wire.specs.Parts.{firstBytes}
+use lib.ListN.{getD}
+use Rattle.wire.specs.Bounds.{numberSize}
 use Rattle.host_states.specs.Little.{little}
-use Rattle.host_states.specs.States.{nameAt, numberAt, frontSize, frontBytes, phaseSize}
+use Rattle.host_states.specs.States.{nameIn, numberAt, frontSize, frontBytes, phaseSize}
 
 -- where its phase stands, and the bytes of the whole
 abbrev pub phaseAt : ℕ
@@ -30,5 +29,5 @@ sessionStateBytes s = frontBytes (s .first) (s .name) (s .num) ++ (s .phase ∷ 
 -- any bytes have them
 unfoldable pub sessionStateIn : List ℕ → SessionFields
 sessionStateIn l =
-    sessionFields (getD l 0 0) (firstBytes sessionSize (drop nameAt l)) (little l numberAt numberSize)
+    sessionFields (getD l 0 0) (nameIn l) (little l numberAt numberSize)
     (getD l phaseAt 0)

@@ -70,7 +70,7 @@ pub fn put_front(state: &mut [u8], first: u8, name: [u8; SESSION_SIZE], number: 
     little::put64(state, NUMBER_AT, number);
 }
 
-// Lays the same fields but for the name, which stays as it stands there: a step never changes it.
+// Lays the same fields but for the name, which stays as it stands there: for a step that never changes it.
 pub fn keep_front(state: &mut [u8], first: u8, number: u64)
     ensures { λ _. ⌜ now (state .exit) ≡ put (now (state .entry)) 0 (frontBytes first (nameIn (now (state .entry))) number) ⌝ }
 {

@@ -26,7 +26,7 @@ progressSize = bytesAt + fieldSize
 unfoldable pub progressBytes : declared.Progress → List ℕ
 progressBytes p = transmitterCode ∷ littleBytes fieldSize (p .messages) ++ littleBytes fieldSize (p .bytes)
 
--- what isn't open is past the end of every run, so that every turn is 54
+-- what isn't open is past the end of every run, so that every turn of a good size is 54
 abbrev pub pastAll : declared.Progress
 pastAll = progress (2 ^ 64 - 1) 0
 

@@ -72,7 +72,6 @@ pub record Most (room : ℕ) (ks : List ℕ) (c : ℕ) : Type 0 where
 pub record PackingPromises : Type 0 where
   pub is-most : (room : ℕ) (ks : List ℕ) → Most room ks (mostThatFit room ks)
   pub only : (room : ℕ) (ks : List ℕ) (c : ℕ) → Most room ks c → c ≡ mostThatFit room ks
-  -- where each fits alone and there is one, one is taken
-  pub some : (room k : ℕ) (ks : List ℕ) → eachFits room (k ∷ ks) ≡ true → 1 ≤ mostThatFit room (k ∷ ks)
   -- the first fits alone exactly where at least one is taken
+  pub some : (room k : ℕ) (ks : List ℕ) → fitsAlone room k ≡ true → 1 ≤ mostThatFit room (k ∷ ks)
   pub none : (room k : ℕ) (ks : List ℕ) → fitsAlone room k ≡ false → mostThatFit room (k ∷ ks) ≡ 0

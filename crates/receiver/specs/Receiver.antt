@@ -89,8 +89,8 @@ answerOf r l = if accepted r l then tableRow r l .reply else refuses (refusalFor
 unfoldable pub receiverAfter : Receiver → List ℕ → Receiver
 receiverAfter r l = if accepted r l then afterRow r (tableRow r l) else r
 
--- ---- the same by what a reader found, in its words w, of a datagram that begins with l. Anyone can make them up: data
--- then has as many messages as can be numbered
+-- ---- the same by what a reader found, in its words w; l is the datagram whose session is compared. Anyone can make the
+-- words up, or take another datagram's: data then has as many messages as can be numbered
 
 -- the number and the count in them
 abbrev pub numberRead : Words DownstreamKind → ℕ

@@ -63,10 +63,6 @@ table limit n data-packet f c =
 table limit n heartbeat f c = if ltb n f then askOutcome limit n f else if ltb f n then oldOutcome n else quietOutcome n
 table limit n end-of-session f c = if ltb n f then askOutcome limit n f else endedOutcome n
 
--- how many of c messages from number f on can be numbered: all of them in every datagram that is read
-abbrev pub numbered : ℕ → ℕ → ℕ
-numbered f c = min c (largestNumber - f)
-
 -- ---- the same, a row each, as document 01 prints it
 
 pub data Row (limit n : ℕ) (kind : DownstreamKind) (f c : ℕ) (o : Outcome) : Type 0 where
@@ -76,3 +72,9 @@ pub data Row (limit n : ℕ) (kind : DownstreamKind) (f c : ℕ) (o : Outcome) :
   heartbeat-at : kind ≡ heartbeat → f ≡ n → o ≡ quietOutcome n → Row limit n kind f c o
   any-above : n < f → o ≡ askOutcome limit n f → Row limit n kind f c o
   end-at : kind ≡ end-of-session → f ≡ n → o ≡ endedOutcome n → Row limit n kind f c o
+
+-- ---- data whose words were made up
+
+-- how many of c messages from number f on can be numbered: all of them in every datagram that is read
+abbrev pub numbered : ℕ → ℕ → ℕ
+numbered f c = min c (largestNumber - f)

@@ -128,7 +128,7 @@ impl Receiver {
     }
 
     // The same by what was read, so that a caller can look at that before it has a receiver. It may be made up, or of
-    // another datagram than the one whose session is compared.
+    // another datagram than the one whose session is compared: condition 3 is about a datagram's own reading.
     pub fn take_read(self, packet: Downstream, datagram: &[u8]) -> Taken
         ensures { λ r. ⌜ TakesRead r self (now (datagram .entry)) (downstreamWords packet) ⌝ }
         ensures as_whole { λ _. ⌜ ReadAsWhole ⌝ }

@@ -21,12 +21,12 @@ sent st size q o =
     take (getD (replied st size q o .values) 0 0) (writeOutput (answerGround st size q) o 0 (answerBytes st size q))
 
 -- the request of an ask, as its writer writes it
-unfoldable pub requestOf : Receiver → List ℕ → List ℕ
-requestOf r vs = header (r .session) (getD vs 0 0) (getD vs 1 0)
+unfoldable pub requestFor : Receiver → List ℕ → List ℕ
+requestFor r vs = header (r .session) (getD vs 0 0) (getD vs 1 0)
 
--- what comes back for an ask, and nothing for another answer
+-- what comes back for an ask, and nothing for another answer; a refused request brings a datagram of no bytes
 unfoldable pub backFor : Store → ℕ → Receiver → List ℕ → Case AnswerKind → List ℕ → List (List ℕ)
-backFor st size r o (answer ask) vs = sent st size (requestOf r vs) o ∷ []
+backFor st size r o (answer ask) vs = sent st size (requestFor r vs) o ∷ []
 backFor st size r o (answer deliver) vs = []
 backFor st size r o (answer old) vs = []
 backFor st size r o (answer quiet) vs = []

@@ -16,7 +16,8 @@ ghost use Rattle.store.specs.Statements.{StorePromises};
 ghost use Rattle.store.specs.Witness.{NotVacuous};
 
 // Answers a request of any bytes with one packet of at most a size: from the wanted number on, the most whole messages
-// that fit, up to the count wanted. All lengths are gone through once.
+// that fit, up to the count wanted. All lengths are gone through once, and those that are answered with again when they
+// are written.
 pub fn answer(
     out: &mut [u8],
     session: [u8; SESSION_SIZE],

@@ -12,7 +12,7 @@ use Rattle.wire.proofs.Cases.{below-or-not}
 use Rattle.moldudp64_writer.specs.Writer.{cut, total, lengthsOf}
 use Rattle.moldudp64_writer.proofs.CutLaws.{cut-count}
 use Rattle.packing.specs.Fit.{eachFits, mostThatFit, fitting}
-use Rattle.packing.proofs.FitLaws.{is-most, packing-promises}
+use Rattle.packing.proofs.FitLaws.{first-alone, is-most, packing-promises}
 use Rattle.packing.proofs.GroupLaws.{lengths-drop, lengths-cut}
 use Rattle.packing.proofs.PartLaws.{cut-part, part-whole}
 use Rattle.transmitter.specs.declared.turns.Progress.{Progress}
@@ -43,7 +43,7 @@ first-of room zero (m ∷ ms) l h = absurd (omega arith)
 first-of room (suc f) [] l h =
     record { first = sym (take-nil (taken room [])); left = 0; enough = rw drop-nil (omega arith); behind = refl; some = λ z. z; none = λ z. z }
 first-of room (suc f) (m ∷ ms) l h =
-    let one = packing-promises .some room (length m) (lengthsOf ms) h in
+    let one = packing-promises .some room (length m) (lengthsOf ms) (first-alone room (length m) (lengthsOf ms) h) in
     record {
       first = refl;
       left = f;
@@ -145,7 +145,7 @@ module _ (size n : ℕ) (ks d : List ℕ) (g : Good size n ks d) (i : ℕ) (p : 
   one-taken : m < length ks → 1 ≤ c
   one-taken h =
       let e = drop-cons ks m 0 h in
-      rw e (packing-promises .some room (getD ks m 0) (drop (suc m) ks) (rw e at (each-later room m ks (g .each))))
+      rw e (packing-promises .some room (getD ks m 0) (drop (suc m) ks) (first-alone room (getD ks m 0) (drop (suc m) ks) (rw e at (each-later room m ks (g .each)))))
 
   there-good : m < length ks → nextGround size n ks d p ≡ 0
   there-good h =

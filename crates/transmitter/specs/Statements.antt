@@ -1,9 +1,10 @@
 -- What is promised of the transmitter's packets.
-use Prim.Native.Nat.{ℕ, _≤_, _<_, _^_}
+use Prim.Native.Nat.{ℕ, _≤_}
 use mathlib.Core.List.{List, [], _∷_}
 use mathlib.Core.Path.{_≡_}
 use lib.ListN.{length, take}
 use Rattle.wire.specs.Bounds.{sessionSize}
+use Rattle.wire.specs.Refusals.{noSuchPacket}
 use Rattle.wire.specs.Words.{says}
 use Rattle.wire.specs.Output.{wrote, writeAnswer, writeOutput}
 use Rattle.moldudp64.specs.Downstream.{data-packet}
@@ -36,15 +37,15 @@ pub record IsPacket (session : List ℕ) (size n : ℕ) (ks d : List ℕ) (place
 
 abbrev pub EveryPacketReadsBack : Type 0
 EveryPacketReadsBack = (out session : List ℕ) (size n : ℕ) (ks d : List ℕ) (place bytes : ℕ)
-    → length session ≡ sessionSize → n < 2 ^ 64
+    → length session ≡ sessionSize
     → writeAnswer (transmitGround size n ks d place) out 0 (packetAt session size n ks d place)
     ≡ says wrote (bytes ∷ [])
     → IsPacket session size n ks d place bytes
     (take bytes (writeOutput (transmitGround size n ks d place) out 0 (packetAt session size n ks d place)))
 
--- an empty run has no packet
+-- an empty run has no packet: every place is 54
 abbrev pub EmptyRunHasNone : Type 0
-EmptyRunHasNone = (size : ℕ) → groupsOf size [] [] ≡ []
+EmptyRunHasNone = (size n place : ℕ) → runGround size n [] [] ≡ 0 → transmitGround size n [] [] place ≡ noSuchPacket
 
 pub record TransmitterPromises : Type 0 where
   pub cuts-every-run : CutsEveryRun

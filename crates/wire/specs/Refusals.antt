@@ -33,7 +33,7 @@ sessionDiffers = 17
 abbrev pub sessionEnded : ℕ
 sessionEnded = 18
 
--- a bad starting setting, or an account table over 1,024 records
+-- a bad starting setting, an account table over 1,024 records, or a packet's size or a store's numbers out of bounds
 abbrev pub badSetting : ℕ
 badSetting = 19
 

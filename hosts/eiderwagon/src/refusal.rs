@@ -71,7 +71,8 @@ grounds! {
     BytesAfterBlocks = 16, "bytes stand after the last block";
     SessionDiffers = 17, "the session differs";
     SessionEnded = 18, "the session has already ended";
-    BadSetting = 19, "a bad starting setting, or an account table over 1,024 records";
+    BadSetting = 19,
+        "a bad starting setting, an account table over 1,024 records, or a packet's size or a store's numbers out of bounds";
     EndBelowExpected = 20, "an end of session below the expected number";
     LengthZero = 21, "a packet's length is 0";
     PayloadLong = 22, "a payload above 4,096 bytes";
