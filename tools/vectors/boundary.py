@@ -10,7 +10,7 @@ import session_rules as session
 import soup_rules as soup
 import store_rules as store
 import transmitter_rules as transmitter
-from lines import FILL, Answer
+from lines import FILL, Answer, room
 from mold_rules import Receiver, Refused
 from soup_rules import SENT
 
@@ -141,8 +141,8 @@ def by_hand(state, first, phase=None):
     return made if phase is None else made[:at] + bytes([phase]) + made[at + 1 :]
 
 
-# ---- what a function gives: the words that it sets, what it lays at the front of the lent bytes, and of two functions
-# what it writes into its second output
+# ---- what a function gives: the words that it sets, what it lays at the front of the lent bytes, and of three
+# functions what it writes into its second output
 
 
 def located(found):
@@ -206,6 +206,20 @@ def transmitter_next(s, a, n, b, c, m):
 def receiver_take(s, a):
     (answer, *values), after = mold.receiver_take(receiver_in(s), a)
     return [TAKEN.index(answer), *values, *[0] * (3 - len(values))], receiver_bytes(after)
+
+
+def places_bytes(places):
+    """Places as a line gives them: two words each, of eight bytes."""
+    return b"".join(struct.pack(">QQ", *place) for place in places)
+
+
+def places_room(words):
+    """So many words for places, before the call."""
+    return room(8 * words)
+
+
+def receiver_deliver(s, a):
+    return *receiver_take(s, a), places_bytes(mold.delivered_places(receiver_in(s), a))
 
 
 def soup_read(a, n):
@@ -280,7 +294,7 @@ class Function:
         self.state, self.sized = state or {}, sized
         self.keys = inspect.signature(rule).parameters
         # the field of a second output
-        self.second = {server_reply: "c", transmitter_next: "d"}.get(rule)
+        self.second = {receiver_deliver: "d", server_reply: "c", transmitter_next: "d"}.get(rule)
 
     def other_sizes(self, fields, refusals):
         """Refuses an input of another size than its own, on one of these grounds."""
@@ -340,6 +354,9 @@ FUNCTIONS = {
     ),
     "receiver_take": Function(
         RECEIVERS + 1, receiver_take, 4, TAKEN, {"s": RECEIVER_SIZE}, lambda a: mold.packet_of(a)
+    ),
+    "receiver_deliver": Function(
+        RECEIVERS + 3, receiver_deliver, 4, TAKEN, {"s": RECEIVER_SIZE}, lambda a: mold.packet_of(a)
     ),
     "receiver_walk": Function(RECEIVERS + 2, lambda a, n, m: ([], cursor_bytes(mold.delivery_start(a, n, m)))),
     "soup_read": Function(SOUP, soup_read, 3, LETTERS),

@@ -14,6 +14,7 @@ from boundary import (
     client_bytes,
     cursor_bytes,
     lengths_bytes,
+    places_room,
     reading_bytes,
     receiver_bytes,
     server_bytes,
@@ -59,6 +60,12 @@ OF_DATAGRAM = [
     ("14", dict(a=data_of(TOP, 1))),
     ("15", dict(a=TWO[:-1])),
     ("16", dict(a=TWO + b"\x00")),
+]
+
+# of a receiver at number 2
+OF_RECEIVER = [
+    ("17", dict(s=receiver_bytes(Receiver(OTHER, 2, 9, False)))),
+    ("18", dict(s=receiver_bytes(Receiver(ROOM, 2, 9, True)))),
 ]
 
 
@@ -128,9 +135,31 @@ LADDERS = [
         [
             *OF_DATAGRAM,
             short(RECEIVER_SIZE),
-            ("17", dict(s=receiver_bytes(Receiver(OTHER, 2, 9, False)))),
-            ("18", dict(s=receiver_bytes(Receiver(ROOM, 2, 9, True)))),
+            *OF_RECEIVER,
             ("20", dict(s=receiver_bytes(Receiver(ROOM, 3, 9, False)))),
+            FEW_WORDS,
+        ],
+    ),
+    # the same with no place needed, and where two messages are delivered
+    (
+        "receiver_deliver",
+        dict(a=end(2), d=b"", s=receiver_bytes(Receiver(ROOM, 2, 9, False))),
+        [
+            *OF_DATAGRAM,
+            short(RECEIVER_SIZE),
+            *OF_RECEIVER,
+            ("20", dict(s=receiver_bytes(Receiver(ROOM, 3, 9, False)))),
+            FEW_WORDS,
+        ],
+    ),
+    (
+        "receiver_deliver",
+        dict(a=data_of(1, 3), d=places_room(4), s=receiver_bytes(Receiver(ROOM, 2, 9, False))),
+        [
+            *OF_DATAGRAM,
+            short(RECEIVER_SIZE),
+            *OF_RECEIVER,
+            ("41 places", dict(d=places_room(3))),
             FEW_WORDS,
         ],
     ),

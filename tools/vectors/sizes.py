@@ -12,6 +12,7 @@ from boundary import (
     client_bytes,
     cursor_bytes,
     lengths_bytes,
+    places_room,
     reading_bytes,
     receiver_bytes,
     server_bytes,
@@ -19,7 +20,7 @@ from boundary import (
 )
 from capture_rules import START
 from captures import lines
-from datagrams import ROOM, TWO, data_of
+from datagrams import ROOM, TWO, data_of, heartbeat
 from lines import FILL, room
 from logins import LOGIN, READER, UNSOUND_RECORD
 from mold_rules import TOP, Receiver, header
@@ -52,6 +53,12 @@ CALLS = {
         dict(a=data_of(5, 1), s=receiver_bytes(Receiver(ROOM, 5, 9, False))),
         dict(a=data_of(5, 1), s=receiver_bytes(Receiver(ROOM, 5, 9, True))),
         dict(a=b"", s=room(RECEIVER_SIZE)),
+    ],
+    "receiver_deliver": [
+        dict(a=data_of(4, 3), d=places_room(4), s=receiver_bytes(Receiver(ROOM, 5, 9, False))),
+        dict(a=data_of(5, 1), d=places_room(2), s=receiver_bytes(Receiver(ROOM, 5, 9, True))),
+        dict(a=heartbeat(5), d=b"", s=receiver_bytes(Receiver(ROOM, 5, 9, False))),
+        dict(a=b"", d=places_room(2), s=room(RECEIVER_SIZE)),
     ],
     "receiver_walk": [dict(a=TWO, n=1, m=0, s=room(CURSOR_SIZE))],
     "soup_read": [dict(a=LOGIN, n=1), dict(a=raw(0, b"L"), n=1)],

@@ -12,6 +12,7 @@ from boundary import (
     client_bytes,
     client_in,
     cursor_bytes,
+    places_room,
     reading_bytes,
     receiver_bytes,
     server_bytes,
@@ -77,7 +78,16 @@ def kinds(v):
     for taker in TAKERS:
         taken(v, taker, bytes(CAPTURE_SIZE), False)
     v.section("the receiver inside a reading, lent to the receiver's functions")
-    v.ask("receiver_take", ("deliver", 1, 2, 0), a=data_of(1, 2), s=KINDS["a reading"][2:23])
+    inside = dict(a=data_of(1, 2), s=KINDS["a reading"][2:23])
+    v.ask("receiver_take", ("deliver", 1, 2, 0), **inside)
+    v.ask("receiver_deliver", ("deliver", 1, 2, 0), d=places_room(4), **inside)
+    v.section("every kind's bytes, lent to the call that lays places: what isn't a receiver changes no byte")
+    for kind, state in (*KINDS.items(), ("bytes of zero", bytes(CAPTURE_SIZE))):
+        v.heading(kind)
+        state = state.ljust(CAPTURE_SIZE, b"\x00")
+        answer = v.ask("receiver_deliver", a=TWO, d=places_room(5), s=state)
+        assert (answer.said[0] == "deliver") == (kind == "a receiver")
+        assert answer.code == 0 or (answer.lent, answer.also) == (state, places_room(5))
 
 
 PHASES = (0, 1, 2, 3, 4, 9, 255)
