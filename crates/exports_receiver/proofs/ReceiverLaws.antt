@@ -20,7 +20,7 @@ use Rattle.receiver.specs.Receiver.{receiver, receiverStartRefusal, startReceiv
 use Rattle.host_answers.specs.Answers.{orElse, short, onSuccess, unlessSized, stateLadder, wordsOf, AnswersWith}
 use Rattle.host_answers.proofs.AnswerLaws.{or-first, or-next, or-short-no}
 use Rattle.host_states.specs.States.{onCode, nameIn}
-use Rattle.host_receiver.proofs.TakenLaws.{not-taken, taken-answer, taken-there}
+use Rattle.host_receiver.proofs.TakenLaws.{not-taken, taken-answer, taken-there, taken-ladder}
 use Rattle.host_receiver.specs.Receiver.{receiverSize, receiverIn, KeepsReceiver}
 use Rattle.host_receiver.specs.Replies.{answerNumber}
 use Rattle.exports_receiver.specs.Calls.{StartsReceiver, TakesDatagram}
@@ -72,10 +72,7 @@ module _ (d l ws : List ℕ) (p : Downstream) (e : downstreamWords p ≡ downstr
     unfolding short
     takes-datagram r m ws′ vs code q a v y b kept =
         let one : r ≡ code = b ∙ rw (le-ltb (length l) receiverSize room) (sym (or-short-no code)) in
-        let ladder : q ≡ stateLadder (refusalOf d) (ltb (length l) receiverSize) (answerOf (receiverIn l) d .refusal) =
-        a ∙ ap (λ (w : Words AnswerKind). w .refusal) answered
-        ∙ rw (le-ltb (length l) receiverSize room) (or-next 0 _ refl ∙ or-next (refusalOf d) _ well)
-        in
+        let ladder = taken-ladder d l p e x is t q well room g a in
         record {
           answers = rw (one, ← ladder, ← answered, ← v) y;
           keeps = rw (taken-there d l p e x is t room h) at kept;

@@ -63,14 +63,14 @@ module _ {l : List ℕ} {d : Datagram} {m : List ℕ} {ms : List Message} (t : T
 
   -- what the host gets, by what the answer says
   by-none : t .code ≡ 0 → (getD (t .laid) 0 0 ≡ 1 → ⊥) → Says (answerOf (receiverIn l) d) d → [] ≡ messagesDelivered (answerOf (receiverIn l) d) d
-  by-none z n (delivers first count skipped e) = absurd (n (word first count skipped 0 z e (omega arith)))
+  by-none z n (delivers first count skipped e _ _) = absurd (n (word first count skipped 0 z e (omega arith)))
   by-none z n (gives-none o e) = sym e
 
   by-walk : {c k : List ℕ} {ns : List Message} (q : ℕ) → t .code ≡ 0 → getD (t .laid) 0 0 ≡ 1 → cursorSize ≤ length c
       → SetsCursor q c k (deliveryCursor d (getD (t .laid) 2 0) (getD (t .laid) 3 0)) → Walked d k ns → Says (answerOf (receiverIn l) d) d
       → ns ≡ messagesDelivered (answerOf (receiverIn l) d) d
   unfolding DeliveryVisits
-  by-walk q z e room sets walk (delivers first count skipped f) =
+  by-walk q z e room sets walk (delivers first count skipped f _ _) =
       walked d (deliveryCursor d count skipped) (messagesDelivered (answerOf (receiverIn l) d) d) count
       (delivery-visits (receiverIn l) d first count skipped (t .are-bytes) f .visits)
       room

@@ -1,10 +1,13 @@
--- What a receiver's answer says by its words: deliver with its three values, or another that delivers nothing.
-use Prim.Native.Nat.{ℕ, _<_}
+-- What a receiver's answer to a datagram says by its words: deliver with its three values, whose count and skipped make
+-- the count of the datagram, or another that delivers nothing.
+use Prim.Native.Nat.{ℕ, _+_, _<_}
 use mathlib.Core.List.{List, [], _∷_}
 use mathlib.Core.Path.{_≡_, refl, ap}
 use native.Mathlib.Omega.{arith}
 use lib.ListN.{length, getD, List·getD-append}
 use Rattle.wire.specs.Words.{Words, Case, answer, refused, says}
+use Rattle.moldudp64.specs.Header.{numberOf, countOf}
+use Rattle.moldudp64.specs.Downstream.{data-packet, kindOf}
 use Rattle.receiver.specs.declared.receiver.Receiver.{Receiver}
 use Rattle.receiver.specs.Table.{AnswerKind, deliver, old, quiet, ask, ended, Outcome, Row, data-reaches, data-below, heartbeat-below, heartbeat-at, any-above, end-at}
 use Rattle.receiver.specs.Receiver.{refusalFor, answerOf}
@@ -18,7 +21,7 @@ use Rattle.host_answers.proofs.PromiseLaws.{host-promises}
 use Rattle.host_receiver.specs.Replies.{answerNumber}
 
 pub data Says (w : Words AnswerKind) (d : Datagram) : Type 0 where
-  delivers : (first count skipped : ℕ) → w ≡ says deliver (first ∷ count ∷ skipped ∷ []) → Says w d
+  delivers : (first count skipped : ℕ) → w ≡ says deliver (first ∷ count ∷ skipped ∷ []) → kindOf d ≡ data-packet → skipped + count ≡ countOf d → Says w d
   gives-none : (getD (wordsOf answerNumber 4 w) 0 0 ≡ 1 → ⊥) → messagesDelivered w d ≡ [] → Says w d
 
 -- an answer of another kind
@@ -29,9 +32,9 @@ other k vs e n m = gives-none (rw e n) (rw e m)
 reply-so : {o x : Outcome} → o ≡ x → o .reply ≡ x .reply
 reply-so e = ap (λ (y : Outcome). y .reply) e
 
-by-row : {limit n f c : ℕ} {k : _} {o : Outcome} (d : Datagram) → Row limit n k f c o → Says (o .reply) d
+by-row : {limit n : ℕ} {o : Outcome} (d : Datagram) → Row limit n (kindOf d) (numberOf d) (countOf d) o → Says (o .reply) d
 unfolding answerNumber messagesDeliveredAt
-by-row d (data-reaches a b x e) = delivers _ _ _ (reply-so e)
+by-row d (data-reaches a b x e) = delivers _ _ _ (reply-so e) a (omega arith)
 by-row d (data-below a b e) = other old [] (reply-so e) (λ z. omega arith) refl
 by-row d (heartbeat-below a b e) = other old [] (reply-so e) (λ z. omega arith) refl
 by-row d (heartbeat-at a b e) = other quiet [] (reply-so e) (λ z. omega arith) refl

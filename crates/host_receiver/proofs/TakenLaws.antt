@@ -1,14 +1,16 @@
 -- A receiver that took a datagram d, and what a call leaves of it in the bytes l.
 use Prim.Native.Nat.{ℕ, _≤_}
 use mathlib.Core.List.{List}
-use mathlib.Core.Path.{_≡_, ap, _∙_}
+use mathlib.Core.Path.{_≡_, refl, ap, _∙_}
 use lib.ListN.{length}
-use borrow.Author.Tests.{eq-eqb, ne-eqb}
+use lib.Dec.{ltb}
+use borrow.Author.Tests.{le-ltb, eq-eqb, ne-eqb}
 use Rattle.wire.specs.Output.{put}
 use Rattle.wire.proofs.Cases.{zero-or-not}
 use Rattle.wire.proofs.Outputs.{length-put}
+use Rattle.wire.proofs.Words.{refusal-of}
 use Rattle.moldudp64.specs.declared.downstream.Downstream.{Downstream}
-use Rattle.moldudp64.specs.Downstream.{downstreamOf, downstreamWords}
+use Rattle.moldudp64.specs.Downstream.{refusalOf, downstreamOf, downstreamWords}
 use Rattle.receiver.specs.declared.receiver.Receiver.{Receiver}
 use Rattle.receiver.specs.declared.receiver.Taken.{Taken}
 use Rattle.receiver.specs.Table.{answerWords}
@@ -16,6 +18,8 @@ use Rattle.receiver.specs.Receiver.{receiver, refusalFor, answerOf, receiverAft
 use Rattle.receiver.proofs.ReadLaws.{read-as-whole}
 use Rattle.receiver.proofs.Promises.{receiver-promises}
 use Rattle.receiver.proofs.TableLaws.{refused-stays}
+use Rattle.host_answers.specs.Answers.{short, stateLadder}
+use Rattle.host_answers.proofs.AnswerLaws.{or-next}
 use Rattle.host_states.specs.States.{Keeps, onCode, nameIn}
 use Rattle.host_receiver.specs.Receiver.{receiverSize, receiverIn, KeepsReceiver}
 use Rattle.host_receiver.proofs.ReceiverLaws.{receiver-not, receiver-ten, name-there}
@@ -36,6 +40,12 @@ module _ (d l : List ℕ) (p : Downstream) (e : downstreamWords p ≡ downstream
       let left : t .receiver ≡ receiverAfter (receiverIn l) d = rw (← is) (h ∙ rw e (read-as-whole .leaves x d)) in
       let n : receiverAfter (receiverIn l) d .session ≡ nameIn l = receiver-promises .keeps-settings (receiverIn l) d .0 ∙ name-there l room in
       rw (left, ← n)
+
+  -- its refusal by the ladder of a call that is lent a state, which is long enough
+  pub taken-ladder : (q : ℕ) → refusalOf d ≡ 0 → receiverSize ≤ length l → answerWords (t .answer) ≡ answerRead x d (downstreamWords p) → q ≡ answerWords (t .answer) .refusal
+      → q ≡ stateLadder (refusalOf d) (ltb (length l) receiverSize) (answerOf (receiverIn l) d .refusal)
+  unfolding short
+  taken-ladder q well room g a = a ∙ refusal-of (taken-answer g) ∙ rw (le-ltb (length l) receiverSize room) (or-next 0 _ refl ∙ or-next (refusalOf d) _ well)
 
 -- ---- from call to call
 

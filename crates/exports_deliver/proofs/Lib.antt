@@ -1,0 +1,5 @@
+pub mod PlaceLaws
+pub mod LayLaws
+pub mod FindLaws
+pub mod MessageLaws
+pub mod Rules
