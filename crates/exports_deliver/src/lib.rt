@@ -9,21 +9,23 @@ use receiver::receiver::Answer;
 use wire::kinds::LENGTH_SIZE;
 use wire::kinds::MessageCount;
 use wire::kinds::MessagePlace;
+use wire::refusal::Refusal;
 ghost use mathlib.Core.Path.{_≡_};
 ghost use mathlib.Core.List.{[], _∷_};
 ghost use mathlib.Core.Bool.{true};
 ghost use Prim.Native.Nat.{_+_, _-_, _*_, _≤_};
 ghost use lib.ListN.{length, drop};
+ghost use lib.Dec.{ltb};
 ghost use Rattle.wire.specs.Bounds.{lengthSize};
 ghost use Rattle.wire.specs.Output.{put};
 ghost use Rattle.moldudp64.specs.Header.{headerSize};
 ghost use Rattle.moldudp64.specs.Blocks.{blockLength, allFit, afterBlocks};
 ghost use Rattle.moldudp64.specs.Downstream.{downstreamOf, downstreamWords};
 ghost use Rattle.receiver.specs.Table.{answerWords};
-ghost use Rattle.host_answers.specs.Answers.{RefusesOnly};
+ghost use Rattle.host_answers.specs.Answers.{orElse, short, RefusesOnly};
 ghost use Rattle.host_receiver.specs.Receiver.{receiverSize};
-ghost use Rattle.exports_deliver.specs.Places.{placesAt, PlacesAreMessages, EnoughPlaces, Finds};
-ghost use Rattle.exports_deliver.specs.Calls.{DeliversDatagram};
+ghost use Rattle.exports_deliver.specs.Places.{placesAt, placesBehind, PlacesAreMessages, EnoughPlaces, Finds};
+ghost use Rattle.exports_deliver.specs.Calls.{DeliversDatagram, BlocksThere, LaysAnswer};
 ghost use Rattle.exports_deliver.specs.Run.{HandsOn};
 ghost use Rattle.exports_deliver.specs.Example.{HandedExample};
 
@@ -109,6 +111,44 @@ fn lay_places(datagram: &[u8], from: usize, count: u16, places: &mut [u64])
     }
 }
 
+// Lays the places of so many messages behind those that are skipped: all of their blocks are there.
+fn lay_behind(datagram: &[u8], count: u16, skipped: u16, places: &mut [u64])
+    requires { ⌜ (headerSize ≤ length (now datagram))
+        × (allFit (skipped + count) (drop headerSize (now datagram)) ≡ true) × (2 * count ≤ length (now places)) ⌝ }
+    ensures { λ _. ⌜ now (places .exit)
+        ≡ put (now (places .entry)) 0 (placesBehind count skipped (now (datagram .entry))) ⌝ }
+{
+    lay_places(datagram, behind_blocks(datagram, skipped), count, places);
+}
+
+// An answer's refusal, or 41 where an array of so many words is too short for the places of so many messages.
+fn or_few(refused: Refusal, lent: usize, count: u16) -> Refusal
+    ensures { λ r. ⌜ r .number ≡ orElse (refused .number) (short (ltb lent (2 * count))) ⌝ }
+{
+    host_answers::or_short(refused, lent < PLACE_WORDS * count as usize)
+}
+
+// Answers by an answer's words, and lays the places of what it delivers: its blocks are there. Too few places are known
+// before anything is laid.
+fn lay_answer(answer: Answer, datagram: &[u8], words: &mut [u64], places: &mut [u64]) -> u32
+    requires { ⌜ BlocksThere (answerWords answer) (now datagram) ⌝ }
+    ensures { λ r. ⌜ LaysAnswer r (answerWords answer) (now (datagram .entry)) (now (words .entry)) (now (words .exit))
+        (now (places .entry)) (now (places .exit)) ⌝ }
+{
+    let said = answers::answer_words(answer);
+    let values = said.words;
+    let delivery = delivery_of(answer);
+    let count = delivery.count.0;
+    let skipped = delivery.skipped.0;
+    let refused = or_few(said.refusal, places.len(), count);
+    let code = host_answers::answer(words, refused, &values);
+    if code != 0 {
+        return code;
+    }
+    lay_behind(datagram, count, skipped, places);
+    code
+}
+
 // Takes a datagram that was read, with a state that is long enough.
 fn deliver_read(
     state: &mut [u8],
@@ -126,17 +166,7 @@ fn deliver_read(
     let taken = host_receiver::read(state).take_read(packet, datagram);
     let answer = taken.answer;
     let after = taken.receiver;
-    let said = answers::answer_words(answer);
-    let values = said.words;
-    let delivery = delivery_of(answer);
-    let count = delivery.count.0;
-    let skipped = delivery.skipped.0;
-    let refused = host_answers::or_short(said.refusal, places.len() < PLACE_WORDS * count as usize);
-    let code = host_answers::answer(words, refused, &values);
-    if code != 0 {
-        return code;
-    }
-    lay_places(datagram, behind_blocks(datagram, skipped), count, places);
+    let code = lay_answer(answer, datagram, words, places);
     host_receiver::keep(state, code, after)
 }
 
