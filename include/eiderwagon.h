@@ -384,14 +384,14 @@ uint32_t eiderwagon_receiver_start(const uint8_t *session, size_t session_size, 
 
 /* What a receiver answers. */
 enum {
-    EIDERWAGON_RECEIVER_DELIVER = 1, /* deliver messages of this datagram: eiderwagon_receiver_walk finds them */
+    EIDERWAGON_RECEIVER_DELIVER = 1, /* deliver messages of this datagram */
     EIDERWAGON_RECEIVER_OLD = 2,     /* nothing new */
     EIDERWAGON_RECEIVER_QUIET = 3,   /* a heartbeat, and nothing is missing */
     EIDERWAGON_RECEIVER_ASK = 4,     /* messages are missing: send a request, if none is under way */
     EIDERWAGON_RECEIVER_ENDED = 5    /* the session is over, and nothing is missing */
 };
 
-/* The words of eiderwagon_receiver_take. */
+/* The words of eiderwagon_receiver_take and of eiderwagon_receiver_deliver. */
 enum {
     EIDERWAGON_TAKE_ANSWER = 0,  /* what to do */
     EIDERWAGON_TAKE_FIRST = 1,   /* number of the first message delivered, or to ask for */
@@ -400,14 +400,34 @@ enum {
     EIDERWAGON_TAKE_WORDS = 4    /* how many words */
 };
 
-/* Takes one datagram as it came. Requests are paced by the host: a datagram ahead isn't kept, and each one asks again,
- * so that one loss is answered by many EIDERWAGON_RECEIVER_ASK. Send the first, and another only where its first number
- * differs or a while has passed.
+/* Takes one datagram as it came; eiderwagon_receiver_walk finds the messages that it delivers. Requests are paced by
+ * the host: a datagram ahead isn't kept, and each one asks again, so that one loss is answered by many
+ * EIDERWAGON_RECEIVER_ASK. Send the first, and another only where its first number differs or a while has passed.
  *   state:     EIDERWAGON_RECEIVER_SIZE bytes, read and written
  *   words:     EIDERWAGON_TAKE_WORDS
  *   refusals:  11, 12, 13, 14, 15, 16, 41, 17, 18, 20, 41 */
 uint32_t eiderwagon_receiver_take(uint8_t *state, size_t state_size, const uint8_t *datagram, size_t datagram_size,
                                   uint64_t *words, size_t words_size);
+
+/* The words of a place, where eiderwagon_receiver_deliver lays one for each delivered message. */
+enum {
+    EIDERWAGON_PLACE_OFFSET = 0,   /* the offset of the message's first byte in the datagram */
+    EIDERWAGON_PLACE_LENGTH = 1,   /* its length, perhaps 0 */
+    EIDERWAGON_PLACE_WORDS = 2,    /* how many words a place has */
+    EIDERWAGON_MOST_PLACES = 65486 /* how many words are enough for the places of every datagram */
+};
+
+/* Takes one datagram as eiderwagon_receiver_take does, with the same words and the same answers, and lays a place for
+ * each message that an EIDERWAGON_RECEIVER_DELIVER answer delivers, in order. It is the fastest way to all messages of
+ * a datagram: one call, and no cursor. Words behind the last place aren't touched. Any other answer needs no place
+ * and lays none.
+ *   state:     EIDERWAGON_RECEIVER_SIZE bytes, read and written
+ *   words:     EIDERWAGON_TAKE_WORDS
+ *   places:    EIDERWAGON_PLACE_WORDS for each delivered message, written; EIDERWAGON_MOST_PLACES are always enough
+ *   refusals:  11, 12, 13, 14, 15, 16, 41, 17, 18, 20, 41. The last 41 for too few words, and for too few places for
+ *              what is delivered: nothing has changed, so lend more and call again */
+uint32_t eiderwagon_receiver_deliver(uint8_t *state, size_t state_size, const uint8_t *datagram, size_t datagram_size,
+                                     uint64_t *words, size_t words_size, uint64_t *places, size_t places_size);
 
 /* Sets a cursor to the first message that an EIDERWAGON_RECEIVER_DELIVER answer delivers: `count` and `skipped` are
  * EIDERWAGON_TAKE_COUNT and EIDERWAGON_TAKE_SKIPPED of the answer to this datagram. eiderwagon_mold_next then answers

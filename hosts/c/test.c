@@ -103,8 +103,8 @@ static Bytes end_of_session(uint64_t next) {
 /* What the program shows: one line for each message, with its number. */
 static char screen[256];
 
-/* Shows the messages that a deliver answer delivers. */
-static void deliver(const Bytes *datagram, const uint64_t *answer) {
+/* Shows the messages that a deliver answer delivers, which stand at these places. */
+static void deliver(const Bytes *datagram, const uint64_t *answer, const uint64_t *places) {
     uint8_t cursor[EIDERWAGON_CURSOR_SIZE];
     uint64_t words[EIDERWAGON_NEXT_WORDS];
     uint64_t number = answer[EIDERWAGON_TAKE_FIRST];
@@ -115,6 +115,9 @@ static void deliver(const Bytes *datagram, const uint64_t *answer) {
         if (WORD(NEXT_FOUND) == 0) {
             break;
         }
+        CHECK(places[EIDERWAGON_PLACE_OFFSET] == WORD(NEXT_OFFSET));
+        CHECK(places[EIDERWAGON_PLACE_LENGTH] == WORD(NEXT_LENGTH));
+        places += EIDERWAGON_PLACE_WORDS;
         size_t used = strlen(screen);
         snprintf(screen + used, sizeof screen - used, "%" PRIu64 " %.*s\n", number, (int)WORD(NEXT_LENGTH),
                  (const char *)datagram->bytes + WORD(NEXT_OFFSET));
@@ -123,14 +126,22 @@ static void deliver(const Bytes *datagram, const uint64_t *answer) {
     CHECK(number == answer[EIDERWAGON_TAKE_FIRST] + answer[EIDERWAGON_TAKE_COUNT]);
 }
 
-/* Gives a receiver one datagram, does what it answers, and returns which answer it was. */
+/* Gives a receiver one datagram, does what it answers, and returns which answer it was. The call that lays places
+ * answers the same, and leaves the same state. */
 static uint64_t take(uint8_t receiver[EIDERWAGON_RECEIVER_SIZE], const Bytes *datagram, Bytes *request) {
     uint64_t answer[EIDERWAGON_TAKE_WORDS];
     uint64_t words[EIDERWAGON_WRITE_WORDS];
+    uint64_t answer_with_places[EIDERWAGON_TAKE_WORDS];
+    uint64_t places[3 * EIDERWAGON_PLACE_WORDS];
+    uint8_t copy[EIDERWAGON_RECEIVER_SIZE];
+    memcpy(copy, receiver, sizeof copy);
+    DONE(eiderwagon_receiver_deliver(LEND(copy), datagram->bytes, datagram->size, LEND(answer_with_places),
+                                     LEND(places)));
     DONE(eiderwagon_receiver_take(receiver, EIDERWAGON_RECEIVER_SIZE, datagram->bytes, datagram->size, LEND(answer)));
+    CHECK(memcmp(answer, answer_with_places, sizeof answer) == 0 && memcmp(receiver, copy, sizeof copy) == 0);
     switch (answer[EIDERWAGON_TAKE_ANSWER]) {
     case EIDERWAGON_RECEIVER_DELIVER:
-        deliver(datagram, answer);
+        deliver(datagram, answer, places);
         break;
     case EIDERWAGON_RECEIVER_ASK:
         CHECK(answer[EIDERWAGON_TAKE_SKIPPED] == 0);
@@ -513,6 +524,7 @@ static struct {
     uint8_t cursor[EIDERWAGON_CURSOR_SIZE];
     uint8_t out[EIDERWAGON_LARGEST_PACKET];
     uint64_t words[EIDERWAGON_SERVER_REPLY_WORDS]; /* no function has more */
+    uint64_t places[4 * EIDERWAGON_PLACE_WORDS];
 } lent, before;
 
 #define LENT(name) lent.words[EIDERWAGON_##name]
@@ -531,6 +543,7 @@ static const uint16_t too_many_lengths[65535];
 /* The first elements of a buffer: fewer than the call needs, or just as many. */
 #define STATE(size) lent.state, (size_t)(size)
 #define OUT(size) lent.out, (size_t)(size)
+#define PLACES(size) lent.places, (size_t)(size)
 #define PART(array, size) (array), (size_t)(size)
 
 /* As many words as a function needs, and one fewer. */
@@ -650,6 +663,47 @@ static void refuse_at_a_receiver(void) {
     DONE(eiderwagon_receiver_take(LEND(lent.state), end_at_five.bytes, end_at_five.size, WORDS(TAKE)));
     REFUSED(SESSION_ENDED,
             eiderwagon_receiver_take(LEND(lent.state), end_at_five.bytes, end_at_five.size, WORDS(TAKE)));
+}
+
+/* The same grounds in the same order at the call that lays places, and last too few of them: what is refused lays none,
+ * and can be called again. */
+static void refuse_to_deliver(void) {
+    const Bytes end_at_five = end_of_session(5);
+    const Bytes end_at_four = end_of_session(4);
+    const Bytes four_to_six = data(4, 3, (const uint16_t[]){4, 0, 3}, "foursix");
+    Bytes other = four_to_six;
+    other.bytes[9] = '2';
+
+    DONE(eiderwagon_receiver_start(LEND(name), 5, 100, LEND(lent.state)));
+    REFUSED(DATAGRAM_SHORT,
+            eiderwagon_receiver_deliver(STATE(EIDERWAGON_RECEIVER_SIZE - 1), zeros, 0, FEWER(TAKE), PLACES(0)));
+    REFUSED(BLOCK_PAST_END, eiderwagon_receiver_deliver(LEND(lent.state), four_to_six.bytes, four_to_six.size - 1,
+                                                        FEWER(TAKE), PLACES(0)));
+    REFUSED(BYTES_AFTER_BLOCKS, eiderwagon_receiver_deliver(LEND(lent.state), four_to_six.bytes, four_to_six.size + 1,
+                                                            WORDS(TAKE), PLACES(4)));
+    REFUSED(OUTPUT_SHORT, eiderwagon_receiver_deliver(STATE(EIDERWAGON_RECEIVER_SIZE - 1), other.bytes, other.size,
+                                                      WORDS(TAKE), PLACES(4)));
+    REFUSED(SESSION_DIFFERS,
+            eiderwagon_receiver_deliver(LEND(lent.state), other.bytes, other.size, FEWER(TAKE), PLACES(0)));
+    REFUSED(END_BELOW_EXPECTED, eiderwagon_receiver_deliver(LEND(lent.state), end_at_four.bytes, end_at_four.size,
+                                                            FEWER(TAKE), PLACES(4)));
+
+    /* Messages 5 and 6 are delivered: four words, and neither one fewer nor none. */
+    REFUSED(OUTPUT_SHORT, eiderwagon_receiver_deliver(LEND(lent.state), four_to_six.bytes, four_to_six.size,
+                                                      FEWER(TAKE), PLACES(4)));
+    for (size_t few = 0; few < 4; few++) {
+        REFUSED(OUTPUT_SHORT, eiderwagon_receiver_deliver(LEND(lent.state), four_to_six.bytes, four_to_six.size,
+                                                          WORDS(TAKE), PLACES(few)));
+    }
+    DONE(eiderwagon_receiver_deliver(LEND(lent.state), four_to_six.bytes, four_to_six.size, WORDS(TAKE), PLACES(4)));
+    CHECK(LENT(TAKE_ANSWER) == EIDERWAGON_RECEIVER_DELIVER && LENT(TAKE_FIRST) == 5);
+    CHECK(LENT(TAKE_COUNT) == 2 && LENT(TAKE_SKIPPED) == 1);
+    CHECK(lent.places[0] == 28 && lent.places[1] == 0 && lent.places[2] == 30 && lent.places[3] == 3);
+
+    DONE(eiderwagon_receiver_start(LEND(name), 5, 100, LEND(lent.state)));
+    DONE(eiderwagon_receiver_deliver(LEND(lent.state), end_at_five.bytes, end_at_five.size, WORDS(TAKE), PLACES(0)));
+    REFUSED(SESSION_ENDED, eiderwagon_receiver_deliver(LEND(lent.state), end_at_five.bytes, end_at_five.size,
+                                                       FEWER(TAKE), PLACES(0)));
 }
 
 /* A store's call with the parts that a test changes: its name, first number, size, request, output and words. */
@@ -1010,6 +1064,8 @@ static void use_no_more_of_a_state_than_its_size(void) {
     CHECK(LENT(TAKE_COUNT) == 0 && LENT(TAKE_SKIPPED) == 0);
     CHECK(untouched(&LENT(TAKE_WORDS), sizeof lent.words - EIDERWAGON_TAKE_WORDS * sizeof lent.words[0]));
 
+    CHECK(untouched(lent.places, sizeof lent.places));
+
     memset(&lent, 0xA5, sizeof lent);
     USES(EIDERWAGON_SERVER_SIZE, eiderwagon_server_start(LEND(name), 0, LEND(lent.state)));
     USES(EIDERWAGON_SERVER_SIZE,
@@ -1034,6 +1090,52 @@ static void use_no_more_of_a_state_than_its_size(void) {
 }
 
 /* Each part of a state stands where the header says. */
+/* Lays so many words of places, of a receiver that expects number 5. */
+static void lays(size_t laid, Bytes datagram, uint64_t answer) {
+    memset(&lent, 0xA5, sizeof lent);
+    DONE(eiderwagon_receiver_start(LEND(name), 5, 100, LEND(lent.state)));
+    USES(EIDERWAGON_RECEIVER_SIZE, eiderwagon_receiver_deliver(LEND(lent.state), datagram.bytes, datagram.size,
+                                                               LEND(lent.words), LEND(lent.places)));
+    CHECK(LENT(TAKE_ANSWER) == answer);
+    CHECK(untouched(&LENT(TAKE_WORDS), sizeof lent.words - EIDERWAGON_TAKE_WORDS * sizeof lent.words[0]));
+    CHECK(untouched(lent.places + laid, sizeof lent.places - laid * sizeof lent.places[0]));
+}
+
+static void lay_no_more_places_than_messages(void) {
+    const uint16_t lengths[] = {4, 0, 3};
+    lays(6, data(5, 3, lengths, "foursix"), EIDERWAGON_RECEIVER_DELIVER);
+    CHECK(lent.places[0] == 22 && lent.places[1] == 4);
+    CHECK(lent.places[2] == 28 && lent.places[3] == 0);
+    CHECK(lent.places[4] == 30 && lent.places[5] == 3);
+    lays(2, data(3, 3, lengths, "foursix"), EIDERWAGON_RECEIVER_DELIVER);
+    CHECK(lent.places[0] == 30 && lent.places[1] == 3);
+    lays(0, data(2, 3, lengths, "foursix"), EIDERWAGON_RECEIVER_OLD);
+    lays(0, data(6, 3, lengths, "foursix"), EIDERWAGON_RECEIVER_ASK);
+    lays(0, heartbeat(5), EIDERWAGON_RECEIVER_QUIET);
+    lays(0, heartbeat(6), EIDERWAGON_RECEIVER_ASK);
+    lays(0, end_of_session(5), EIDERWAGON_RECEIVER_ENDED);
+}
+
+/* The most messages that a datagram has, all of them empty: so many words are needed for their places. */
+static void have_places_for_the_most_messages(void) {
+    static uint8_t datagram[EIDERWAGON_LARGEST_DATAGRAM];
+    static uint64_t places[EIDERWAGON_MOST_PLACES];
+    const size_t most = EIDERWAGON_MOST_PLACES / EIDERWAGON_PLACE_WORDS;
+    const size_t last = EIDERWAGON_MOST_PLACES - EIDERWAGON_PLACE_WORDS;
+    DONE(eiderwagon_mold_write_data(LEND(name), 1, too_many_lengths, most, zeros, 0, LEND(datagram), WORDS(WRITE)));
+    const size_t size = LENT(WRITE_SIZE);
+    CHECK(size == EIDERWAGON_LARGEST_DATAGRAM - 1);
+    REFUSED(DATAGRAM_LONG, eiderwagon_mold_write_data(LEND(name), 1, too_many_lengths, most + 1, zeros, 0,
+                                                      LEND(datagram), WORDS(WRITE)));
+    DONE(eiderwagon_receiver_start(LEND(name), 1, 100, LEND(lent.state)));
+    REFUSED(OUTPUT_SHORT, eiderwagon_receiver_deliver(LEND(lent.state), datagram, size, WORDS(TAKE), places,
+                                                      EIDERWAGON_MOST_PLACES - 1));
+    CHECK(places[0] == 0 && places[last] == 0);
+    DONE(eiderwagon_receiver_deliver(LEND(lent.state), datagram, size, WORDS(TAKE), LEND(places)));
+    CHECK(LENT(TAKE_COUNT) == most && places[EIDERWAGON_PLACE_OFFSET] == 22);
+    CHECK(places[last + EIDERWAGON_PLACE_OFFSET] == size && places[last + EIDERWAGON_PLACE_LENGTH] == 0);
+}
+
 static void keep_parts_in_their_places(void) {
     const Bytes capture = sample_capture();
     memset(&lent, 0xA5, sizeof lent);
@@ -1120,6 +1222,10 @@ static void take_bytes_of_zero_as_states(void) {
     REFUSED(STATE_CLOSED, CLIENT_STEP("\0\1+"));
     REFUSED(SESSION_DIFFERS, eiderwagon_receiver_take(LEND(lent.state), one.bytes, one.size, LEND(lent.words)));
     REFUSED(SESSION_ENDED, eiderwagon_receiver_take(LEND(lent.state), LEND(heartbeat_of_zeros), LEND(lent.words)));
+    REFUSED(SESSION_DIFFERS, eiderwagon_receiver_deliver(LEND(lent.state), one.bytes, one.size, LEND(lent.words),
+                                                         LEND(lent.places)));
+    REFUSED(SESSION_ENDED, eiderwagon_receiver_deliver(LEND(lent.state), LEND(heartbeat_of_zeros), LEND(lent.words),
+                                                       LEND(lent.places)));
 
     DONE(eiderwagon_capture_feed(LEND(lent.state), TEXT("more"), LEND(lent.words)));
     CHECK(LENT(FEED_USED) == 4 && LENT(FEED_OVER) == 1);
@@ -1371,6 +1477,7 @@ static void lend_the_receiver_of_a_reading(void) {
 
 static void lend_no_bytes_to_datagrams(void) {
     const Bytes one = data(1, 1, (const uint16_t[]){3}, "one");
+    const Bytes quiet = heartbeat(1);
     const uint16_t three[] = {3};
     const uint16_t nothing[] = {0};
     memset(&lent, 0xA5, sizeof lent);
@@ -1437,6 +1544,15 @@ static void lend_no_bytes_to_datagrams(void) {
     REFUSED(DATAGRAM_SHORT, eiderwagon_receiver_take(LEND(lent.state), NONE, WORDS(TAKE)));
     REFUSED(OUTPUT_SHORT, eiderwagon_receiver_take(LEND(lent.state), one.bytes, one.size, NONE));
     REFUSED(DATAGRAM_SHORT, eiderwagon_receiver_take(NONE, NONE, NONE));
+
+    REFUSED(OUTPUT_SHORT, eiderwagon_receiver_deliver(NONE, one.bytes, one.size, WORDS(TAKE), LEND(lent.places)));
+    REFUSED(DATAGRAM_SHORT, eiderwagon_receiver_deliver(LEND(lent.state), NONE, WORDS(TAKE), LEND(lent.places)));
+    REFUSED(OUTPUT_SHORT, eiderwagon_receiver_deliver(LEND(lent.state), one.bytes, one.size, NONE, LEND(lent.places)));
+    REFUSED(OUTPUT_SHORT, eiderwagon_receiver_deliver(LEND(lent.state), one.bytes, one.size, WORDS(TAKE), NONE));
+    REFUSED(DATAGRAM_SHORT, eiderwagon_receiver_deliver(NONE, NONE, NONE, NONE));
+    /* What delivers nothing needs no place. */
+    DONE(eiderwagon_receiver_deliver(LEND(lent.state), quiet.bytes, quiet.size, WORDS(TAKE), NONE));
+    CHECK(LENT(TAKE_ANSWER) == EIDERWAGON_RECEIVER_QUIET);
 
     DONE(eiderwagon_receiver_walk(NONE, 2, 1, LEND(lent.cursor)));
     CHECK(number_in(lent.cursor, EIDERWAGON_CURSOR_PLACE_AT, 8) == 20);
@@ -1654,6 +1770,7 @@ int main(void) {
     refuse_written_datagrams();
     refuse_requests();
     refuse_at_a_receiver();
+    refuse_to_deliver();
     refuse_at_a_store();
     refuse_at_a_transmitter();
     refuse_packets();
@@ -1665,6 +1782,8 @@ int main(void) {
 
     write_no_more_than_is_said();
     use_no_more_of_a_state_than_its_size();
+    lay_no_more_places_than_messages();
+    have_places_for_the_most_messages();
     keep_parts_in_their_places();
     take_sizes_as_they_are_said();
     take_bytes_of_zero_as_states();

@@ -9,6 +9,8 @@ pub struct Lent {
     pub out: Vec<u8>,
     /// A state or a cursor.
     pub state: Vec<u8>,
+    /// Of the places of delivered messages.
+    pub places: Vec<u64>,
 }
 
 #[derive(Clone, Copy, Debug)]
@@ -54,6 +56,9 @@ pub enum Call<'a> {
         limit: u16,
     },
     ReceiverTake {
+        datagram: &'a [u8],
+    },
+    ReceiverDeliver {
         datagram: &'a [u8],
     },
     ReceiverWalk {
@@ -183,6 +188,7 @@ impl<'a> Call<'a> {
             MoldWriteRequest { .. } => "mold_write_request",
             ReceiverStart { .. } => "receiver_start",
             ReceiverTake { .. } => "receiver_take",
+            ReceiverDeliver { .. } => "receiver_deliver",
             ReceiverWalk { .. } => "receiver_walk",
             StoreAnswer { .. } => "store_answer",
             TransmitterPacket { .. } => "transmitter_packet",
@@ -222,7 +228,8 @@ impl<'a> Call<'a> {
             MoldRead { datagram }
             | MoldWalk { datagram }
             | MoldNext { datagram }
-            | ReceiverTake { datagram } => vec![("datagram", Bytes(datagram))],
+            | ReceiverTake { datagram }
+            | ReceiverDeliver { datagram } => vec![("datagram", Bytes(datagram))],
             MoldLocate { datagram, place } => vec![
                 ("datagram", Bytes(datagram)),
                 ("place", Number(place.into())),
@@ -405,6 +412,12 @@ impl Display for Lent {
     fn fmt(&self, formatter: &mut Formatter) -> fmt::Result {
         writeln!(formatter, "  words = {:x?}", self.words)?;
         writeln!(formatter, "  out = {}", hex(&self.out))?;
-        writeln!(formatter, "  state = {}", hex(&self.state))
+        writeln!(formatter, "  state = {}", hex(&self.state))?;
+        let shown = &self.places[..self.places.len().min(PRINTED / 4)];
+        writeln!(
+            formatter,
+            "  places = ({} words) {shown:?}",
+            self.places.len()
+        )
     }
 }

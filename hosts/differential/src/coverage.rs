@@ -21,6 +21,9 @@ receiver_start: started | 19 size | 19 | 41 state
 receiver_take: deliver all | deliver the rest | old data | old heartbeat | quiet | ask for all, data |
     ask for all, heartbeat | ask for all, end | ask to the limit, data | ask to the limit, heartbeat |
     ask to the limit, end | ended | 11 | 12 | 13 | 14 | 15 | 16 | 41 state | 17 | 18 | 20 | 41 words
+receiver_deliver: deliver all | deliver the rest | old data | old heartbeat | quiet | ask for all, data |
+    ask for all, heartbeat | ask for all, end | ask to the limit, data | ask to the limit, heartbeat |
+    ask to the limit, end | ended | 11 | 12 | 13 | 14 | 15 | 16 | 41 state | 17 | 18 | 20 | 41 places | 41 words
 receiver_walk: delivered messages | not of this datagram | 41 state
 store_answer: all that is wanted | to the store's end | as many as fit | 19 packet | 19 numbers | 44 | 47 | 13 | 48 |
     41 session | 53 | 51 | 52 | 41 output | 41 words
@@ -80,8 +83,9 @@ write_back: data | heartbeat | end of session | request | + of the server | + of
     J | S | H | Z | L | L, leading zeros | L, unsound | U | R | O
 ";
 
-/// Both sides of each bound of the store and of the transmitter.
+/// Both sides of each bound of the places, of the store and of the transmitter.
 const BOUNDS: &str = "
+places: as many as are laid | one word less | none for no message | of the most messages
 packet_size: 21 | 22 | 65,507 | 65,508
 store_first: 0 | 1 | the last number is 2^64 - 2 | the last number is 2^64 - 1
 store_data: one byte short | as the lengths say | one byte more
@@ -207,6 +211,8 @@ fn are_apart(function: &str, (first, second): &Pair) -> bool {
         // Only a letter of the other end is looked up in the table of states, and only a good packet compared with what
         // was asked.
         (23, 31) | (21..=25 | 31 | 32, 33 | 34) | (33, 34) => true,
+        // What delivers is refused for nothing else, but for too few words.
+        (_, 41) if *second == "41 places" => true,
         // A login that is accepted was good, and so was the state.
         (21..=25 | 31 | 32, 46) => true,
         (21..=25 | 31 | 32, 41) if *second == "41 output" => function == "server_reply",

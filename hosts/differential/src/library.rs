@@ -58,10 +58,17 @@ impl Library for Archive {
         let mut words = Guarded::new(&lent.words, WORD);
         let mut out = Guarded::new(&lent.out, BYTE);
         let mut state = Guarded::new(&lent.state, BYTE);
-        let code = exported(call, words.lent(), out.lent(), state.lent());
+        let mut places = Guarded::new(&lent.places, WORD);
+        let code = match *call {
+            Call::ReceiverDeliver { datagram } => {
+                raw::receiver_deliver(state.lent(), datagram, words.lent(), places.lent())
+            }
+            _ => exported(call, words.lent(), out.lent(), state.lent()),
+        };
         words.back(&mut lent.words, WORD);
         out.back(&mut lent.out, BYTE);
         state.back(&mut lent.state, BYTE);
+        places.back(&mut lent.places, WORD);
         code
     }
 
@@ -77,6 +84,7 @@ impl Library for Archive {
 const WORD: u64 = 0xA5A5_A5A5_A5A5_A5A5;
 const BYTE: u8 = 0xA5;
 
+/// Every function but the one that lays places.
 fn exported(call: &Call, words: &mut [u64], out: &mut [u8], state: &mut [u8]) -> u32 {
     match *call {
         Call::MoldRead { datagram } => raw::mold_read(datagram, words),
@@ -105,6 +113,7 @@ fn exported(call: &Call, words: &mut [u64], out: &mut [u8], state: &mut [u8]) ->
             limit,
         } => raw::receiver_start(session, next, limit, state),
         Call::ReceiverTake { datagram } => raw::receiver_take(state, datagram, words),
+        Call::ReceiverDeliver { .. } => unreachable!("it is lent places too"),
         Call::ReceiverWalk {
             datagram,
             count,

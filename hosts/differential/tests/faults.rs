@@ -110,12 +110,50 @@ const HANDLING: &[(&str, Fault)] = &[
             touch(after.out.get_mut(size));
         }
     }),
+    ("a refusal lays a place", |_, _, code, after| {
+        if *code == 41 {
+            touch(after.places.first_mut());
+        }
+    }),
+    (
+        "a word behind the last place is set",
+        |call, _, code, after| {
+            if laid(call, *code, after) {
+                touch(after.places.get_mut(2 * after.words[2] as usize));
+            }
+        },
+    ),
+    (
+        "an answer that delivers nothing clears the places",
+        |call, _, code, after| {
+            if *code == 0 && !laid(call, *code, after) {
+                after.places.fill(0);
+            }
+        },
+    ),
+    (
+        "too few places move the receiver on",
+        |call, before, code, after| {
+            if let Call::ReceiverDeliver { datagram } = *call {
+                if *code == 41 && before.state.len() >= 21 {
+                    let mut taken = before.clone();
+                    StandIn.call(&Call::ReceiverTake { datagram }, &mut taken);
+                    after.state = taken.state;
+                }
+            }
+        },
+    ),
     ("a short output is filled", |call, _, code, after| {
         if *code == 41 && call.function() == "capture_report" {
             after.out.fill(b'=');
         }
     }),
 ];
+
+/// Whether a call delivered with places.
+fn laid(call: &Call, code: u32, after: &Lent) -> bool {
+    matches!(call, Call::ReceiverDeliver { .. }) && code == 0 && after.words[0] == 1
+}
 
 /// How far a datagram lies ahead of a receiver.
 fn ahead(datagram: &[u8], state: &[u8]) -> u64 {
@@ -316,6 +354,45 @@ const RULES: &[(&str, Fault)] = &[
             }
         },
     ),
+    (
+        "places begin with the skipped messages",
+        |call, _, code, after| {
+            if laid(call, *code, after) && after.words[3] > 0 {
+                after.places[0] = 22;
+            }
+        },
+    ),
+    ("a place is that of its length", |call, _, code, after| {
+        if laid(call, *code, after) {
+            after.places[0] -= 2;
+        }
+    }),
+    ("an empty message has no place", |call, _, code, after| {
+        if laid(call, *code, after) {
+            let all = 2 * after.words[2] as usize;
+            let kept: Vec<u64> = { after.places[..all].chunks_exact(2) }
+                .filter(|place| place[1] > 0)
+                .flatten()
+                .copied()
+                .collect();
+            after.places[..kept.len()].copy_from_slice(&kept);
+        }
+    }),
+    (
+        "places are needed for all of the datagram",
+        |call, before, code, after| {
+            let needed = 2 * (after.words.get(2..4)).map_or(0, |w| w[0].wrapping_add(w[1]));
+            if laid(call, *code, after) && (before.places.len() as u64) < needed {
+                refuse(41, before, code, after);
+            }
+        },
+    ),
+    ("an ask needs places too", |call, before, code, after| {
+        let asked = matches!(call, Call::ReceiverDeliver { .. }) && *code == 0;
+        if asked && after.words[0] == 4 && before.places.is_empty() {
+            refuse(41, before, code, after);
+        }
+    }),
     (
         "a request past the store's end is refused",
         |call, before, code, after| {

@@ -350,7 +350,7 @@ constants! {
     /// How many words [`mold_read_request`] has.
     READ_REQUEST_WORDS: usize = 2;
 
-    /// A receiver answers: deliver messages of this datagram; [`receiver_walk`] finds them.
+    /// A receiver answers: deliver messages of this datagram.
     RECEIVER_DELIVER: u64 = 1;
     /// A receiver answers: nothing new.
     RECEIVER_OLD: u64 = 2;
@@ -361,17 +361,27 @@ constants! {
     /// A receiver answers: the session is over, and nothing is missing.
     RECEIVER_ENDED: u64 = 5;
 
-    /// Word of [`receiver_take`]: what to do.
+    /// Word of [`receiver_take`] and [`receiver_deliver`]: what to do.
     TAKE_ANSWER: usize = 0;
-    /// Word of [`receiver_take`]: number of the first message delivered, or to ask for.
+    /// Word of [`receiver_take`] and [`receiver_deliver`]: number of the first message delivered, or
+    /// to ask for.
     TAKE_FIRST: usize = 1;
-    /// Word of [`receiver_take`]: how many are delivered, or to ask for.
+    /// Word of [`receiver_take`] and [`receiver_deliver`]: how many are delivered, or to ask for.
     TAKE_COUNT: usize = 2;
-    /// Word of [`receiver_take`]: how many of the datagram's messages are skipped before those
-    /// delivered.
+    /// Word of [`receiver_take`] and [`receiver_deliver`]: how many of the datagram's messages are
+    /// skipped before those delivered.
     TAKE_SKIPPED: usize = 3;
-    /// How many words [`receiver_take`] has.
+    /// How many words [`receiver_take`] and [`receiver_deliver`] have.
     TAKE_WORDS: usize = 4;
+
+    /// Word of a place: the offset of the message's first byte in the datagram.
+    PLACE_OFFSET: usize = 0;
+    /// Word of a place: the message's length, perhaps 0.
+    PLACE_LENGTH: usize = 1;
+    /// How many words a place has.
+    PLACE_WORDS: usize = 2;
+    /// How many words are enough for the places of every datagram.
+    MOST_PLACES: usize = 65486;
 
     /// Of a stream: the server sends it.
     SOUP_FROM_SERVER: u8 = 0;
@@ -510,6 +520,9 @@ exported! {
     receiver_start(session: &[u8], next: u64, limit: u16, state: &mut [u8]);
     /// Takes a datagram. Words: what to do, a first number, how many, how many skipped.
     receiver_take(state: &mut [u8], datagram: &[u8], words: &mut [u64]);
+    /// Takes a datagram, and lays the place of each delivered message: its offset and its length.
+    /// Words: those of [`receiver_take`].
+    receiver_deliver(state: &mut [u8], datagram: &[u8], words: &mut [u64], places: &mut [u64]);
     /// Sets a cursor to the first message delivered.
     receiver_walk(datagram: &[u8], count: u16, skipped: u16, cursor: &mut [u8]);
 

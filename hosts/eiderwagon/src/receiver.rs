@@ -40,8 +40,10 @@
 //! which one in thirty was lost, it spared nine requests in ten, and most of what was sent again for
 //! them, and the receiver ended as soon (`a_pause_spares_requests` in the differential tests).
 
+mod places;
 mod requests;
 
+pub use places::{Delivered, Places};
 pub use requests::Requests;
 
 use crate::call::{check, count, field, number, received, small_number, unknown};
@@ -55,16 +57,18 @@ pub struct Receiver {
     state: [u8; raw::RECEIVER_SIZE],
 }
 
-/// What a receiver makes of a datagram.
+/// What a receiver makes of a datagram, with the messages that it delivers as `M`: of
+/// [`take`](Receiver::take) they are [`Messages`], and of [`take_all`](Receiver::take_all)
+/// [`Delivered`].
 #[derive(Clone, Debug, PartialEq, Eq)]
 #[non_exhaustive]
-pub enum Answer<'a> {
+pub enum Answer<M> {
     /// These messages are new, and none before them is missing.
     Deliver {
         /// The number of the first one; the others follow by one.
         first: u64,
         /// The messages, as parts of the datagram.
-        messages: Messages<'a>,
+        messages: M,
     },
     /// Nothing new.
     Old,
@@ -86,15 +90,57 @@ impl Receiver {
         Ok(Receiver { state })
     }
 
-    /// Takes one datagram as it came, whatever its bytes are.
-    pub fn take<'a>(&mut self, datagram: &'a [u8]) -> Result<Answer<'a>, Refusal> {
+    /// Takes one datagram as it came, whatever its bytes are. The messages are found one by one, as
+    /// the iterator is asked for them.
+    pub fn take<'a>(&mut self, datagram: &'a [u8]) -> Result<Answer<Messages<'a>>, Refusal> {
         let state = &mut self.state;
-        let [what, first, many, skipped] =
-            received(|words| raw::receiver_take(state, datagram, words))?;
-        Ok(match what {
+        let words = received(|words| raw::receiver_take(state, datagram, words))?;
+        Ok(self.answer(words, |count, skipped| Messages::delivered(datagram, count, skipped)))
+    }
+
+    /// Takes one datagram as [`take`](Self::take) does, and finds all messages that it delivers in
+    /// the same call: the fastest way to all of them.
+    ///
+    /// ```
+    /// use eiderwagon::mold;
+    /// use eiderwagon::receiver::{Answer, Places, Receiver};
+    ///
+    /// let mut receiver = Receiver::start(b"READROOM01", 3, 100)?;
+    /// let mut places = Places::new();
+    /// let mut out = [0; 64];
+    ///
+    /// // Messages 2 to 4: the receiver has 2 already.
+    /// let datagram = mold::write_data(b"READROOM01", 2, &[b"two", b"three", b""], &mut out)?;
+    /// match receiver.take_all(datagram, &mut places)? {
+    ///     Answer::Deliver { first, messages } => {
+    ///         assert_eq!((first, messages.len()), (3, 2));
+    ///         assert!(messages.eq([b"three".as_slice(), b""]));
+    ///     }
+    ///     other => panic!("{other:?}"),
+    /// }
+    /// assert_eq!(receiver.take_all(datagram, &mut places), Ok(Answer::Old));
+    /// # Ok::<(), eiderwagon::Refusal>(())
+    /// ```
+    pub fn take_all<'a, 'p>(
+        &mut self,
+        datagram: &'a [u8],
+        places: &'p mut Places,
+    ) -> Result<Answer<Delivered<'a, 'p>>, Refusal> {
+        let state = &mut self.state;
+        let room = places.room_for(datagram);
+        let words = received(|words| raw::receiver_deliver(state, datagram, words, room))?;
+        Ok(self.answer(words, |count, _| Delivered::new(datagram, room, count)))
+    }
+
+    /// The answer that words tell, with the messages by their count and by how many are skipped.
+    fn answer<M>(
+        &self,
+        [what, first, many, skipped]: [u64; raw::TAKE_WORDS],
+        messages: impl FnOnce(u16, u16) -> M,
+    ) -> Answer<M> {
+        match what {
             raw::RECEIVER_DELIVER => {
-                let messages = Messages::delivered(datagram, count(many), count(skipped));
-                Answer::Deliver { first, messages }
+                Answer::Deliver { first, messages: messages(count(many), count(skipped)) }
             }
             raw::RECEIVER_OLD => Answer::Old,
             raw::RECEIVER_QUIET => Answer::Quiet,
@@ -103,7 +149,7 @@ impl Receiver {
             }
             raw::RECEIVER_ENDED => Answer::Ended,
             other => unknown(other),
-        })
+        }
     }
 
     /// The session.

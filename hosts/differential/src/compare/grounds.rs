@@ -4,6 +4,7 @@
 //! A ground's name begins with its number. 25, 31 and 32 stand here without the finer names of their outcomes.
 
 use super::fixed_sizes;
+use super::receiver;
 use super::store::store_of;
 use super::transmitter::run_of;
 use crate::call::{Call, Lent};
@@ -19,6 +20,7 @@ use crate::reference::text;
 pub const SHORT_STATE: &str = "41 state";
 pub const OTHER_SESSION_SIZE: &str = "41 session";
 pub const SHORT_OUTPUT: &str = "41 output";
+pub const FEW_PLACES: &str = "41 places";
 pub const FEW_WORDS: &str = "41 words";
 pub const SETTING_SIZE: &str = "19 size";
 pub const FIELD_SIZE: &str = "46 size";
@@ -72,15 +74,17 @@ pub fn of(call: &Call, lent: &Lent) -> Vec<&'static str> {
     }
     let needed = output_needed(call, &lent.state);
     ladder.rung(lent.out.len() < needed, SHORT_OUTPUT);
+    let places = places_needed(call, &lent.state);
+    ladder.rung(lent.places.len() < places, FEW_PLACES);
     ladder.rung(lent.words.len() < words, FEW_WORDS);
     ladder.0
 }
 
 fn without_state(call: &Call, ladder: &mut Ladder) {
     match *call {
-        Call::MoldRead { datagram } | Call::ReceiverTake { datagram } => {
-            of_datagram(datagram, ladder)
-        }
+        Call::MoldRead { datagram }
+        | Call::ReceiverTake { datagram }
+        | Call::ReceiverDeliver { datagram } => of_datagram(datagram, ladder),
         Call::MoldWriteData {
             session,
             first,
@@ -266,7 +270,7 @@ fn is_decided(stream: &[u8], sender: Sender) -> bool {
 
 fn of_state(call: &Call, state: &[u8], ladder: &mut Ladder) {
     match *call {
-        Call::ReceiverTake { datagram } => {
+        Call::ReceiverTake { datagram } | Call::ReceiverDeliver { datagram } => {
             let receiver = layout::receiver(state);
             let fields = (datagram.len() >= HEADER).then(|| mold::header(datagram));
             ladder.rung(
@@ -383,6 +387,14 @@ fn stored_packet(call: &Call, size: u64, request: &[u8]) -> usize {
     match chosen {
         None | Some([]) => 0,
         Some(lengths) => HEADER + blocks(lengths) as usize,
+    }
+}
+
+/// How many words of places the call lays, where nothing else refuses it: what isn't taken delivers nothing.
+pub fn places_needed(call: &Call, state: &[u8]) -> usize {
+    match *call {
+        Call::ReceiverDeliver { datagram } => receiver::places(state, datagram).len(),
+        _ => 0,
     }
 }
 

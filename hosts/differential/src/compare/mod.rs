@@ -25,6 +25,8 @@ pub struct Expected {
     pub words: Vec<u64>,
     /// The bytes that are written to the output, from the first on.
     pub out: Vec<u8>,
+    /// The words of places that are laid, from the first on.
+    pub places: Vec<u64>,
     /// The state or cursor afterwards; none where it stays.
     pub state: Option<Vec<u8>>,
     /// Whether it is left open where the cursor stands: then its code and what stands behind it are compared.
@@ -38,6 +40,7 @@ impl Expected {
             outcome,
             words: vec![],
             out: vec![],
+            places: vec![],
             state: None,
             cursor_anywhere: false,
         }
@@ -74,6 +77,7 @@ impl Expected {
     pub fn apply(&self, lent: &mut Lent) -> u32 {
         lent.words[..self.words.len()].copy_from_slice(&self.words);
         lent.out[..self.out.len()].copy_from_slice(&self.out);
+        lent.places[..self.places.len()].copy_from_slice(&self.places);
         if let Some(state) = &self.state {
             lent.state[..state.len()].copy_from_slice(state);
         }
@@ -127,7 +131,7 @@ pub fn fixed_sizes(call: &Call) -> (usize, usize) {
         MoldWalk { .. } | ReceiverWalk { .. } => (0, CURSOR),
         MoldNext { .. } => (3, CURSOR),
         ReceiverStart { .. } => (0, RECEIVER),
-        ReceiverTake { .. } => (4, RECEIVER),
+        ReceiverTake { .. } | ReceiverDeliver { .. } => (4, RECEIVER),
         TransmitterStart { .. } => (0, TRANSMITTER),
         TransmitterNext { .. } => (1, TRANSMITTER),
         ServerStart { .. } | ServerSetLast { .. } => (0, SERVER),

@@ -14,6 +14,7 @@ pub fn answer(call: &Call, state: &[u8]) -> Option<Expected> {
             limit,
         } => start(Receiver::start(name(session), next, limit)),
         Call::ReceiverTake { datagram } => take(state, datagram),
+        Call::ReceiverDeliver { datagram } => deliver(state, datagram),
         Call::ReceiverWalk {
             datagram,
             count,
@@ -50,6 +51,26 @@ fn take(state: &[u8], datagram: &[u8]) -> Expected {
     Expected::answer(outcome(&answer, &receiver, datagram))
         .words(&words)
         .state(layout::receiver_bytes(&receiver))
+}
+
+/// As a take, with the places of what is delivered.
+fn deliver(state: &[u8], datagram: &[u8]) -> Expected {
+    let mut taken = take(state, datagram);
+    taken.places = places(state, datagram);
+    taken
+}
+
+/// Two words for each message that is delivered, in order: the offset of its first byte, and its length. Every other
+/// answer, and a refusal, has none.
+pub fn places(state: &[u8], datagram: &[u8]) -> Vec<u64> {
+    let Ok(Answer::Deliver { skipped, .. }) = layout::receiver(state).take(datagram) else {
+        return vec![];
+    };
+    let messages = mold::read(datagram).expect("it was taken").messages;
+    let delivered = messages.iter().skip(skipped as usize);
+    delivered
+        .flat_map(|message| [message.offset as u64, message.length as u64])
+        .collect()
 }
 
 /// The table's answers by the kind of datagram, so that each of its lines is drawn in each of its ways.

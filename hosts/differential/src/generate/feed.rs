@@ -146,15 +146,28 @@ impl Line<'_> {
     }
 
     fn take(&mut self, run: &mut Run, random: &mut Random, datagram: Vec<u8>) {
-        let call = Call::ReceiverTake {
-            datagram: &datagram,
+        let at_once = random.one_in(2);
+        let bytes = datagram.as_slice();
+        let call = match at_once {
+            true => Call::ReceiverDeliver { datagram: bytes },
+            false => Call::ReceiverTake { datagram: bytes },
         };
         let (code, lent) = lend::chained(run, random, &call, &mut self.state);
         self.taken.push(datagram.clone());
         match (code, lent.words[0]) {
+            (0, 1) if at_once => self.deliver_at(&datagram, lent.words[2], &lent.places),
             (0, 1) => self.deliver(run, random, &datagram, lent.words[2], lent.words[3]),
             (0, 4) => self.ask(run, random, lent.words[1], lent.words[2]),
             _ => {}
+        }
+    }
+
+    /// The messages at their places.
+    fn deliver_at(&mut self, datagram: &[u8], count: u64, places: &[u64]) {
+        let places = places.chunks_exact(2).map(|place| (place[0], place[1]));
+        for (offset, length) in places.take(count.min(WALKED) as usize) {
+            let message = &datagram[offset as usize..][..length as usize];
+            self.delivered.push(message.to_vec());
         }
     }
 

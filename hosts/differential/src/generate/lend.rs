@@ -39,6 +39,19 @@ fn state_of_size(random: &mut Random, state: Option<&[u8]>, size: usize) -> Vec<
     lent
 }
 
+/// Places of a size near the one that is needed, for the one function that lays some.
+fn lend_places(
+    random: &mut Random,
+    call: &Call,
+    lent: &mut Lent,
+    size: fn(&mut Random, usize) -> usize,
+) {
+    if let Call::ReceiverDeliver { .. } = call {
+        let size = size(random, grounds::places_needed(call, &lent.state));
+        lent.places = words(random, size);
+    }
+}
+
 /// Buffers of any size. Without a state, random bytes are one.
 pub fn any(random: &mut Random, call: &Call, state: Option<&[u8]>) -> Lent {
     let (words_size, state_size) = compare::fixed_sizes(call);
@@ -48,10 +61,12 @@ pub fn any(random: &mut Random, call: &Call, state: Option<&[u8]>) -> Lent {
         words: words(random, words_size),
         out: vec![],
         state: state_of_size(random, state, state_size),
+        places: vec![],
     };
     let needed = grounds::output_needed(call, &lent.state).min(MOST_ROOM);
     let out_size = bytes::size_near(random, needed);
     lent.out = random.bytes(out_size);
+    lend_places(random, call, &mut lent, bytes::size_near);
     lent
 }
 
@@ -64,10 +79,12 @@ pub fn lacking(random: &mut Random, call: &Call, state: Option<&[u8]>) -> Lent {
         words: words(random, words_size),
         out: vec![],
         state: state_of_size(random, state, state_size),
+        places: vec![],
     };
     let needed = grounds::output_needed(call, &lent.state).min(MOST_ROOM);
     let out_size = lacking_size(random, needed);
     lent.out = random.bytes(out_size);
+    lend_places(random, call, &mut lent, lacking_size);
     lent
 }
 
@@ -89,10 +106,12 @@ pub fn roomy(random: &mut Random, call: &Call, state: &[u8]) -> Lent {
         words: words(random, words_size),
         out: vec![],
         state: state_of_size(random, Some(state), state_size),
+        places: vec![],
     };
     let needed = grounds::output_needed(call, &lent.state).min(MOST_ROOM);
     let out_size = roomy_size(random, needed);
     lent.out = random.bytes(out_size);
+    lend_places(random, call, &mut lent, roomy_size);
     lent
 }
 

@@ -6,6 +6,7 @@ use crate::layout::{self, Cursor};
 use crate::random::Random;
 use crate::reference::mold::{HEADER, LARGEST};
 use crate::reference::receiver::Receiver;
+use crate::reference::Name;
 use crate::run::Run;
 
 /// One datagram: read, looked into by place, and walked.
@@ -212,7 +213,52 @@ pub fn receive(run: &mut Run, random: &mut Random) {
         bytes::by_hand(random, &mut state, None);
         let state = (!random.one_in(20)).then_some(state.as_slice());
         lend::single(run, random, &Call::ReceiverTake { datagram }, state);
+        lend::single(run, random, &Call::ReceiverDeliver { datagram }, state);
     }
+    deliver(run, random, &session, next.max(1));
+}
+
+/// A datagram that delivers, with exactly the places that it needs, and with one word less.
+fn deliver(run: &mut Run, random: &mut Random, session: &Name, next: u64) {
+    let many = match random.below(200) {
+        0 => (LARGEST - HEADER) / 2,
+        _ => random.between(1, 6),
+    };
+    let next = next.min(u64::MAX - many as u64);
+    let old = random.below(many.min(next as usize));
+    let length = if many > 6 { 0 } else { random.below(4) };
+    let number = next - old as u64;
+    let datagram = mold::raw(session, number, many as u16, &vec![vec![7; length]; many]);
+    let call = Call::ReceiverDeliver {
+        datagram: &datagram,
+    };
+    let state = layout::receiver_bytes(&Receiver {
+        session: *session,
+        next,
+        limit: 1,
+        ended: false,
+    });
+    let mut lent = lend::roomy(random, &call, &state);
+    let needed = 2 * (many - old);
+    lent.places.resize(needed - 1, 7);
+    if run.check(&call, &mut lent) != 41 {
+        run.fail("a word less than the places need is enough");
+    }
+    run.note("places", "one word less");
+    lent.places.resize(needed, 7);
+    if run.check(&call, &mut lent) != 0 {
+        run.fail("as many words as the places need aren't enough");
+    }
+    run.note("places", "as many as are laid");
+    if many > 6 {
+        run.note("places", "of the most messages");
+    }
+    // It is old now, and needs no place.
+    lent.places.clear();
+    if run.check(&call, &mut lent) != 0 {
+        run.fail("no message needs a place");
+    }
+    run.note("places", "none for no message");
 }
 
 fn start(run: &mut Run, random: &mut Random, session: &[u8], next: u64, limit: u16) {

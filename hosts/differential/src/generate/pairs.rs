@@ -89,6 +89,8 @@ fn datagrams(run: &mut Run, random: &mut Random) {
     let mut state = layout::receiver_bytes(&receiver);
     bytes::by_hand(random, &mut state, None);
     check(run, random, &Call::ReceiverTake { datagram }, Some(&state));
+    let deliver = Call::ReceiverDeliver { datagram };
+    check(run, random, &deliver, Some(&state));
     check(run, random, &Call::MoldLocate { datagram, place: 0 }, None);
     check(run, random, &Call::MoldNext { datagram }, None);
 

@@ -20,6 +20,7 @@ struct Answer {
     words: [u64; 6],
     out: Vec<u8>,
     state: Vec<u8>,
+    places: Vec<u64>,
 }
 
 fn lent(state: &[u8]) -> Lent {
@@ -27,6 +28,7 @@ fn lent(state: &[u8]) -> Lent {
         words: vec![0; 6],
         out: vec![0; 70_000],
         state: state.to_vec(),
+        places: vec![7; 8],
     }
 }
 
@@ -51,6 +53,7 @@ fn ask_with(call: &Call, lent: Lent) -> Answer {
         words: std::array::from_fn(|at| by_library.words.get(at).copied().unwrap_or(0)),
         out: by_library.out,
         state: by_library.state,
+        places: by_library.places,
     }
 }
 

@@ -68,6 +68,37 @@ fn receiver_refusals() {
     assert_eq!(next_of(&receiver(TOP, 65_534)), TOP);
 }
 
+/// The same answers by the call that lays places: two words for each delivered message, and those behind them stay.
+#[test]
+fn delivered_places() {
+    let three = &data(2, &[b"a", b"", b"ccc"]) as &[u8];
+    let deliver = |next: u64, datagram: &[u8]| {
+        let state = receiver(next, 9);
+        let answer = ask(&Call::ReceiverDeliver { datagram }, &state);
+        let (code, words) = words(&answer);
+        assert_eq!(
+            (code, words, next_of(&answer.state)),
+            take(&state, datagram)
+        );
+        answer.places
+    };
+    assert_eq!(deliver(2, three), [22, 1, 25, 0, 27, 3, 7, 7]);
+    assert_eq!(deliver(3, three), [25, 0, 27, 3, 7, 7, 7, 7]);
+    assert_eq!(deliver(4, three), [27, 3, 7, 7, 7, 7, 7, 7]);
+    for (next, datagram) in [
+        (5, three),
+        (1, three),
+        (5, &heartbeat(4)),
+        (5, &heartbeat(5)),
+        (5, &heartbeat(6)),
+        (5, &end(5)),
+        (5, &end(4)),
+        (5, &three[..29]),
+    ] {
+        assert_eq!(deliver(next, datagram), [7; 8]);
+    }
+}
+
 /// A message of no bytes is delivered, and counted.
 #[test]
 fn empty_messages_are_delivered() {

@@ -80,6 +80,7 @@ fn no_kind_is_changed_as_another() {
     let calls = [
         ("cursor", Call::MoldNext { datagram }),
         ("receiver", Call::ReceiverTake { datagram }),
+        ("receiver", Call::ReceiverDeliver { datagram }),
         ("server", Call::ServerStep { accounts, stream }),
         ("server", Call::ServerReply { accounts, stream }),
         ("client", Call::ClientStep { stream }),
@@ -150,6 +151,7 @@ fn lend(words: usize, out: usize, state: &[u8]) -> Lent {
         words: vec![7; words],
         out: vec![7; out],
         state: state.to_vec(),
+        places: vec![7; 8],
     }
 }
 
@@ -159,6 +161,7 @@ fn lacking(call: &Call, state: &[u8]) -> (u32, u32) {
     let code = |lent: Lent| {
         let answer = ask_with(call, lent.clone());
         assert!(answer.code != 0 && answer.state == lent.state && answer.out == lent.out);
+        assert_eq!(answer.places, lent.places);
         answer.code
     };
     let short = code(lend(words, 64, &state[..size - 1]));
@@ -168,7 +171,12 @@ fn lacking(call: &Call, state: &[u8]) -> (u32, u32) {
 #[test]
 fn other_grounds_come_before_41() {
     let receiver = &open_states()[1].1;
-    let take = |datagram: &[u8]| lacking(&Call::ReceiverTake { datagram }, receiver);
+    let take = |datagram: &[u8]| {
+        let take = lacking(&Call::ReceiverTake { datagram }, receiver);
+        let deliver = lacking(&Call::ReceiverDeliver { datagram }, receiver);
+        assert_eq!(take, deliver);
+        take
+    };
     assert_eq!(take(&heartbeat(1)[..19]), (11, 11));
     assert_eq!(take(&heartbeat(0)), (13, 13));
     assert_eq!(take(&heartbeat(1)), (41, 41));

@@ -8,6 +8,7 @@ use crate::reference::mold as reference;
 use crate::reference::receiver::{self, Receiver};
 use eiderwagon::mold::{self, Datagram, Kind, Request};
 use eiderwagon::receiver as typed;
+use eiderwagon::Refusal;
 
 pub fn difference(
     call: &Call,
@@ -68,7 +69,15 @@ pub fn difference(
             next,
             limit,
         } => start(&front(session), next, limit),
-        Call::ReceiverTake { datagram } => take(&front(state), datagram, expected),
+        Call::ReceiverTake { datagram } => {
+            let take = |typed: &mut typed::Receiver| typed.take(datagram).map(gathered);
+            taken(&front(state), datagram, expected, take)
+        }
+        Call::ReceiverDeliver { datagram } => {
+            let places = &mut typed::Places::new();
+            let take = |typed: &mut typed::Receiver| typed.take_all(datagram, places).map(gathered);
+            taken(&front(state), datagram, expected, take)
+        }
         _ => None,
     }
 }
@@ -136,7 +145,31 @@ fn start(session: &[u8; 10], next: u64, limit: u16) -> Option<String> {
     same("receiver", typed, Receiver::start(*session, next, limit))
 }
 
-fn take(state: &[u8; layout::RECEIVER], datagram: &[u8], expected: &Expected) -> Option<String> {
+/// An answer's number, its first number and messages if it delivers, and its request if it asks.
+type Taken<'a> = (u8, Option<u64>, Vec<&'a [u8]>, Option<Request>);
+
+fn gathered<'a>(answer: typed::Answer<impl ExactSizeIterator<Item = &'a [u8]>>) -> Taken<'a> {
+    match answer {
+        typed::Answer::Deliver { first, messages } => {
+            let left = messages.len();
+            let all: Vec<&[u8]> = messages.collect();
+            assert_eq!(all.len(), left, "as many as they say");
+            (1, Some(first), all, None)
+        }
+        typed::Answer::Old => (2, None, vec![], None),
+        typed::Answer::Quiet => (3, None, vec![], None),
+        typed::Answer::Ask(request) => (4, None, vec![], Some(request)),
+        typed::Answer::Ended => (5, None, vec![], None),
+        _ => unreachable!("the table has no other answer"),
+    }
+}
+
+fn taken<'a>(
+    state: &[u8; layout::RECEIVER],
+    datagram: &'a [u8],
+    expected: &Expected,
+    take: impl FnOnce(&mut typed::Receiver) -> Result<Taken<'a>, Refusal>,
+) -> Option<String> {
     let mut typed = reach::receiver(state)?;
     let mut receiver = layout::receiver(state);
     let session = receiver.session;
@@ -159,14 +192,7 @@ fn take(state: &[u8; layout::RECEIVER], datagram: &[u8], expected: &Expected) ->
         }
         receiver::Answer::Ended => (5, None, vec![], None),
     });
-    let answer = typed.take(datagram).map(|answer| match answer {
-        typed::Answer::Deliver { first, messages } => (1, Some(first), messages.collect(), None),
-        typed::Answer::Old => (2, None, vec![], None),
-        typed::Answer::Quiet => (3, None, vec![], None),
-        typed::Answer::Ask(request) => (4, None, vec![], Some(request)),
-        typed::Answer::Ended => (5, None, vec![], None),
-        other => unreachable!("the table has no {other:?}"),
-    });
+    let answer = take(&mut typed);
     same("answer", numbered(answer), wanted)
         .or_else(|| same("receiver", as_reference(&typed), receiver))
         .or_else(|| same_state(expected, state, typed.as_bytes()))
