@@ -1,32 +1,26 @@
 -- A datagram d taken by the receiver in the bytes l, with the words ws and the places ps lent.
-use Prim.Native.Nat.{ℕ, _+_, _-_, _*_, _≤_, _<_}
+use Prim.Native.Nat.{ℕ, _-_, _≤_, _<_}
 use mathlib.Core.List.{List}
-use mathlib.Core.Bool.{Bool, true}
-use mathlib.Core.Path.{_≡_, refl, ap, sym, _∙_}
+use mathlib.Core.Path.{_≡_, refl, sym, _∙_}
 use native.Mathlib.Omega.{arith}
-use lib.ListN.{length, drop}
+use lib.ListN.{length}
 use lib.Dec.{ltb}
 use borrow.Author.Tests.{lt-ltb, le-ltb}
 use Rattle.wire.proofs.Words.{refusal-of}
 use Rattle.moldudp64.specs.declared.downstream.Downstream.{Downstream}
-use Rattle.moldudp64.specs.Blocks.{allFit, afterBlocks}
 use Rattle.moldudp64.specs.Downstream.{refusalOf, downstreamOf, downstreamWords}
 use Rattle.moldudp64.proofs.DownstreamLaws.{refusal-found, sound}
 use Rattle.receiver.specs.declared.receiver.Receiver.{Receiver}
 use Rattle.receiver.specs.declared.receiver.Taken.{Taken}
 use Rattle.receiver.specs.Table.{answerWords}
 use Rattle.receiver.specs.Receiver.{receiver, answerOf, answerRead, afterRead}
-use Rattle.host_answers.specs.Answers.{orElse, short, stateLadder, wordsOf, AnswersWith}
-use Rattle.host_answers.proofs.AnswerLaws.{or-first, or-next, or-short-no, short-yes, success, no-success, has-room}
-use Rattle.host_answers.proofs.LadderLaws.{first-zero}
+use Rattle.host_answers.specs.Answers.{orElse, short, stateLadder}
+use Rattle.host_answers.proofs.AnswerLaws.{or-first, or-next, or-short-no, short-yes, no-success}
 use Rattle.host_states.specs.States.{onCode, nameIn}
 use Rattle.host_receiver.specs.Receiver.{receiverSize, receiverIn, KeepsReceiver}
-use Rattle.host_receiver.specs.Replies.{answerNumber}
 use Rattle.host_receiver.proofs.TakenLaws.{not-taken, taken-answer, taken-there, taken-ladder}
-use Rattle.exports_deliver.specs.Places.{placesAt, placesDelivered, Finds}
 use Rattle.exports_deliver.specs.Calls.{DeliversDatagram, BlocksThere, LaysAnswer}
-use Rattle.exports_deliver.proofs.PlaceLaws.{length-places, fit-first, fit-behind, left-at}
-use Rattle.exports_deliver.proofs.FindLaws.{found-places, found-there}
+use Rattle.exports_deliver.proofs.FindLaws.{found-there}
 
 -- a ground comes before those behind it
 before-both : (r g h k : ℕ) → (r ≡ 0 → ⊥) → r ≡ g → r ≡ orElse (orElse g h) k

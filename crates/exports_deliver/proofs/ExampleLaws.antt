@@ -16,7 +16,6 @@ use Rattle.moldudp64.specs.Blocks.{blockLength, fits, allFit, afterBlocks, bloc
 use Rattle.moldudp64.specs.Downstream.{kindOfCount, blockCount, refusalOf}
 use Rattle.receiver.specs.Table.{table}
 use Rattle.receiver.specs.Receiver.{otherSession, endBelow, ownRefusal, refusalFor, answerOf, receiverAfter}
-use Rattle.receiver.specs.Feed.{Datagram, Message}
 use Rattle.host_answers.specs.Answers.{orElse, short, onSuccess, padded, wordsAt}
 use Rattle.host_states.specs.Little.{little, littleBytes}
 use Rattle.host_states.specs.States.{isOpen, openByte, frontBytes}

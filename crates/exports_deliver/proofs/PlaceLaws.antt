@@ -1,7 +1,7 @@
 -- Places of blocks: the parts of a datagram d there are its messages, and how many words they are.
-use Prim.Native.Nat.{ℕ, zero, suc, _+_, _-_, _*_, _≤_, _<_}
-use mathlib.Core.List.{List, [], _∷_}
-use mathlib.Core.Bool.{Bool, true}
+use Prim.Native.Nat.{ℕ, zero, suc, _+_, _-_, _*_, _≤_}
+use mathlib.Core.List.{List}
+use mathlib.Core.Bool.{true}
 use mathlib.Core.Path.{_≡_, refl, ap, sym, _∙_}
 use native.Mathlib.Omega.{arith}
 use native.Mathlib.Nat.{zero-add, suc-add}
@@ -10,7 +10,6 @@ use lib.Seq.{drop-drop}
 use Rattle.wire.proofs.Cases.{below-or-not}
 use Rattle.moldudp64.specs.Blocks.{blockLength, blockSize, afterBlock, allFit, afterBlocks, messages}
 use Rattle.moldudp64.proofs.BlockLaws.{fits-so, first-fits, rest-fit}
-use Rattle.receiver.specs.Feed.{Message}
 use Rattle.exports_deliver.specs.Places.{placesAt, partsAt}
 
 pub length-places : (n at : ℕ) (l : List ℕ) → length (placesAt n at l) ≡ 2 * n

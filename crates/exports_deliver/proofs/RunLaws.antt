@@ -1,6 +1,6 @@
 -- A run of calls is the run of the receiver, and gives what it delivers.
 use Prim.Native.Nat.{ℕ, _+_, _*_, _<_, _≤_}
-use mathlib.Core.List.{List, [], _∷_, _++_}
+use mathlib.Core.List.{List, [], _∷_}
 use mathlib.Core.Path.{_≡_, refl, ap, sym, _∙_}
 use native.Mathlib.Omega.{arith}
 use lib.ListN.{length, getD, take, drop}
@@ -22,7 +22,7 @@ use Rattle.host_receiver.specs.Replies.{answerNumber}
 use Rattle.host_receiver.proofs.RefusalLaws.{said-refusal, whole-ladder}
 use Rattle.host_receiver.proofs.SaidLaws.{Says, delivers, gives-none, said, nothing, length-words, word-laid, deliver-word}
 use Rattle.host_receiver.proofs.TakenLaws.{same-size, takes-on}
-use Rattle.exports_deliver.specs.Places.{placesDeliveredAt, placesDelivered, partsAt, mostPlaces, PlacesAreMessages, EnoughPlaces}
+use Rattle.exports_deliver.specs.Places.{placesDeliveredAt, placesDelivered, partsAt, PlacesAreMessages, EnoughPlaces}
 use Rattle.exports_deliver.specs.Run.{Gets, by-refusal, by-another, by-deliver, DeliverCall, Handed, none, one, Hands, HandsOn}
 use Rattle.exports_deliver.proofs.PlaceLaws.{length-places}
 use Rattle.exports_deliver.proofs.MessageLaws.{places-are-messages, enough-places}

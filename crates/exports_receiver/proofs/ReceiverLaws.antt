@@ -8,17 +8,16 @@ use lib.Dec.{ltb}
 use borrow.Author.Tests.{ne-eqb, lt-ltb, le-ltb}
 use Rattle.wire.specs.Bounds.{sessionSize}
 use Rattle.wire.specs.Refusals.{badSetting}
-use Rattle.wire.specs.Words.{Words}
 use Rattle.wire.specs.Parts.{firstBytes}
 use Rattle.moldudp64.specs.declared.downstream.Downstream.{Downstream}
 use Rattle.moldudp64.specs.Downstream.{refusalOf, downstreamOf, downstreamWords}
 use Rattle.moldudp64.proofs.DownstreamLaws.{refusal-found}
 use Rattle.receiver.specs.declared.receiver.Receiver.{Receiver}
 use Rattle.receiver.specs.declared.receiver.Taken.{Taken}
-use Rattle.receiver.specs.Table.{AnswerKind, answerWords}
+use Rattle.receiver.specs.Table.{answerWords}
 use Rattle.receiver.specs.Receiver.{receiver, receiverStartRefusal, startReceiver, answerOf, answerRead, afterRead}
 use Rattle.host_answers.specs.Answers.{orElse, short, onSuccess, unlessSized, stateLadder, wordsOf, AnswersWith}
-use Rattle.host_answers.proofs.AnswerLaws.{or-first, or-next, or-short-no}
+use Rattle.host_answers.proofs.AnswerLaws.{or-first, or-short-no}
 use Rattle.host_states.specs.States.{onCode, nameIn}
 use Rattle.host_receiver.proofs.TakenLaws.{not-taken, taken-answer, taken-there, taken-ladder}
 use Rattle.host_receiver.specs.Receiver.{receiverSize, receiverIn, KeepsReceiver}
