@@ -2,7 +2,7 @@
 from boundary import lengths_bytes
 from datagrams import ROOM, packet
 from lines import room
-from mold_rules import TOP, header, packet_of, receiver_take, Receiver
+from mold_rules import TOP, Receiver, header, packet_of, receiver_take
 from store_rules import answer_packet
 
 OTHER = b"READROOM02"
@@ -101,7 +101,7 @@ def requests(v):
 
 
 def rounds(v):
-    """A heartbeat at a receiver that misses everything, its request, and the store's answer, until nothing is missing."""
+    """A heartbeat at a receiver that misses everything, its request and an answer, until nothing is missing."""
     v.section("rounds of heartbeat, request and answer: a receiver that misses four messages")
     receiver, heard = Receiver(ROOM, 6, 100, False), packet(10)
     taken = []

@@ -40,8 +40,8 @@ def packet_at(session, first, lengths, data, size, place):
 
 
 def next_packet(session, first, lengths, data, size, sent):
-    """The next packet, and what was sent then: how many messages, and the bytes of their data. What was sent may be made
-    up, so the grounds are about this packet alone. Refused: 19, 54, 44, 13, 14, 52."""
+    """The next packet, and what was sent then: how many messages, and the bytes of their data. What was sent may be
+    made up, so the grounds are about this packet alone. Refused: 19, 54, 44, 13, 14, 52."""
     check_size(size)
     messages, start = sent
     if messages >= len(lengths):

@@ -23,7 +23,7 @@ use Rattle.host_states.specs.Little.{little, littleBytes}
 use Rattle.host_states.specs.States.{isOpen, openByte, onStep, frontBytes}
 use Rattle.host_cursor.specs.Cursor.{cursorBytes, cursorIn}
 use Rattle.host_receiver.specs.Receiver.{receiverBytes, receiverIn}
-use Rattle.exports_receiver.specs.Replies.{answerNumber}
+use Rattle.host_receiver.specs.Replies.{answerNumber}
 use Rattle.exports_receiver.specs.Run.{Walked, stop, next, by-refusal, by-another, by-deliver, TakeCall, none, one}
 use Rattle.exports_receiver.specs.Example.{atOne, atThree, twoMessages, HandedExample}
 

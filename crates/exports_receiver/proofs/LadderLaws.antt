@@ -1,82 +1,36 @@
--- The receiver's refusals by their ladder: those of the datagram, 11 to 16, come before 41 for a state that is too short.
+-- Which refusals the functions have.
 use Prim.Native.Nat.{ℕ}
 use mathlib.Core.List.{List, [], _∷_}
-use mathlib.Core.Bool.{Bool, false}
-use mathlib.Core.Path.{_≡_, refl, ap, sym, _∙_}
+use mathlib.Core.Bool.{Bool}
+use mathlib.Core.Path.{_≡_, refl, _∙_}
 use lib.Dec.{ltb}
-use borrow.Author.Tests.{ne-eqb}
 use Rattle.wire.specs.Bounds.{sessionSize, leastNumber, largestNumber, leastLimit, largestLimit}
 use Rattle.wire.specs.Refusals.{badSetting}
-use Rattle.wire.specs.Words.{Words}
-use Rattle.wire.proofs.Cases.{zero-or-not}
+use Rattle.wire.proofs.Words.{refusal-of}
 use Rattle.moldudp64.specs.declared.downstream.Downstream.{Downstream}
-use Rattle.moldudp64.specs.Downstream.{DownstreamKind, kindOf, refusalOf, wellFormed, downstreamOf, downstreamWords}
+use Rattle.moldudp64.specs.Downstream.{refusalOf, downstreamOf, downstreamWords}
 use Rattle.moldudp64.proofs.DownstreamLaws.{refusal-found}
-use Rattle.moldudp64.specs.Header.{numberOf}
 use Rattle.receiver.specs.declared.receiver.Receiver.{Receiver}
 use Rattle.receiver.specs.declared.receiver.Answer.{Answer}
-use Rattle.receiver.specs.Table.{AnswerKind, answerWords, Outcome, Row, data-reaches, data-below, heartbeat-below, heartbeat-at, any-above, end-at}
-use Rattle.receiver.specs.Receiver.{receiverStartRefusal, otherSession, endBelow, ownRefusal, refusalFor, answerOf, answerRead}
+use Rattle.receiver.specs.Table.{answerWords}
+use Rattle.receiver.specs.Receiver.{receiverStartRefusal, refusalFor, answerOf, answerRead}
 use Rattle.receiver.proofs.ReadLaws.{read-as-whole}
-use Rattle.receiver.proofs.Promises.{row-of, refused-answers}
-use Rattle.receiver.proofs.TableLaws.{row-answer}
-use Rattle.host_answers.specs.Answers.{orElse, short, unlessSized, stateLadder, isOneOf, RefusesOnly, AnswersWith}
-use Rattle.host_answers.proofs.AnswerLaws.{or-first, or-next}
+use Rattle.host_answers.specs.Answers.{orElse, short, unlessSized, isOneOf, RefusesOnly, AnswersWith}
 use Rattle.host_answers.proofs.OnlyLaws.{only-if, only-sized, only-ending, answers-only, only-within, within}
+use Rattle.host_receiver.proofs.RefusalLaws.{said-refusal, receiver-only}
 use Rattle.host_cursor.proofs.DatagramLaws.{datagramGrounds, datagram-only}
-
--- no row of the table refuses
-pub no-refusal : (limit n f c : ℕ) (k : DownstreamKind) (o : Outcome) → Row limit n k f c o → o .reply .refusal ≡ 0
-no-refusal limit n f c k o (data-reaches a b d e) = ap (λ (x : Outcome). x .reply .refusal) e
-no-refusal limit n f c k o (data-below a b e) = ap (λ (x : Outcome). x .reply .refusal) e
-no-refusal limit n f c k o (heartbeat-below a b e) = ap (λ (x : Outcome). x .reply .refusal) e
-no-refusal limit n f c k o (heartbeat-at a b e) = ap (λ (x : Outcome). x .reply .refusal) e
-no-refusal limit n f c k o (any-above a e) = ap (λ (x : Outcome). x .reply .refusal) e
-no-refusal limit n f c k o (end-at a b e) = ap (λ (x : Outcome). x .reply .refusal) e
-
-refusal-so : {v w : Words AnswerKind} → v ≡ w → v .refusal ≡ w .refusal
-refusal-so e = ap (λ (x : Words AnswerKind). x .refusal) e
-
--- the answer's refusal is the ladder's
-pub said-refusal : (r : Receiver) (d : List ℕ) → answerOf r d .refusal ≡ refusalFor r d
-said-refusal r d =
-    zero-or-not _ (refusalFor r d)
-    (λ e. refusal-so (row-answer r d e) ∙ no-refusal _ _ _ _ _ _ (row-of r d e) ∙ sym e)
-    (λ e. refusal-so (refused-answers r d e))
-
--- a datagram that isn't well-formed has its own refusal, at every receiver
-ill-formed : (r : Receiver) (d : List ℕ) → (refusalOf d ≡ 0 → ⊥) → refusalFor r d ≡ refusalOf d
-unfolding refusalFor
-ill-formed r d e = rw (ne-eqb (refusalOf d) 0 e)
-
--- ---- the ladder
-
--- with a state that is long enough it is the receiver's
-pub whole-ladder : (r : Receiver) (d : List ℕ) → refusalFor r d ≡ stateLadder (refusalOf d) false (refusalFor r d)
-unfolding short
-whole-ladder r d =
-    zero-or-not _ (refusalOf d) (λ z. or-next 0 (refusalFor r d) refl ∙ or-next (refusalOf d) _ z) (λ z. ill-formed r d z ∙ or-first (refusalOf d) _ z)
-
--- ---- which refusals there are
 
 abbrev takeList : List ℕ
 takeList = 11 ∷ 12 ∷ 13 ∷ 14 ∷ 15 ∷ 16 ∷ 17 ∷ 18 ∷ 20 ∷ 41 ∷ []
 
-own-only : (r : Receiver) (d : List ℕ) (b : Bool) → RefusesOnly (ownRefusal r d b) takeList
-unfolding ownRefusal isOneOf
-own-only r d b = only-if (otherSession r d) 17 _ takeList refl (only-if (r .ended) 18 _ takeList refl (only-if b 20 0 takeList refl refl))
-
-for-only : (r : Receiver) (d : List ℕ) → RefusesOnly (refusalFor r d) takeList
-unfolding refusalFor isOneOf within
-for-only r d =
-    only-if (wellFormed d) _ (refusalOf d) takeList (own-only r d (endBelow (kindOf d) (numberOf d) (r .next .0)))
-    (only-within (refusalOf d) datagramGrounds takeList (datagram-only d) refl)
+read-only : (d : List ℕ) → RefusesOnly (refusalOf d) takeList
+unfolding within isOneOf
+read-only d = only-within (refusalOf d) datagramGrounds takeList (datagram-only d) refl
 
 -- of a datagram d, which the reader read as p
 module _ (d : List ℕ) (p : Downstream) (e : downstreamWords p ≡ downstreamOf d) where
   pub unread-only : (k : ℕ) → k ≡ downstreamWords p .refusal → RefusesOnly k (11 ∷ 12 ∷ 13 ∷ 14 ∷ 15 ∷ 16 ∷ 17 ∷ 18 ∷ 20 ∷ 41 ∷ [])
-  unfolding within isOneOf
-  unread-only k f = rw (refusal-found d p k f e) (only-within (refusalOf d) datagramGrounds takeList (datagram-only d) refl)
+  unread-only k f = rw (refusal-found d p k f e) (read-only d)
 
   pub take-only : (r code h : ℕ) (c : Bool) (x : Receiver) (ws ws′ vs : List ℕ) (k : Answer) → answerWords k ≡ answerRead x d (downstreamWords p)
       → h ≡ answerWords k .refusal → AnswersWith code ws ws′ h vs → r ≡ orElse code (short c)
@@ -84,8 +38,8 @@ module _ (d : List ℕ) (p : Downstream) (e : downstreamWords p ≡ downstreamOf
   unfolding isOneOf
   take-only r code h c x ws ws′ vs k g f t q =
       let said : answerWords k ≡ answerOf x d = g ∙ rw e (read-as-whole .answers x d) in
-      let same : h ≡ refusalFor x d = f ∙ refusal-so said ∙ said-refusal x d in
-      only-ending r code c takeList q (answers-only code h ws ws′ vs takeList t (rw same (for-only x d)) refl) refl
+      let same : h ≡ refusalFor x d = f ∙ refusal-of said ∙ said-refusal x d in
+      only-ending r code c takeList q (answers-only code h ws ws′ vs takeList t (rw same (receiver-only x d (read-only d))) refl) refl
 
 pub short-only : RefusesOnly 41 (11 ∷ 12 ∷ 13 ∷ 14 ∷ 15 ∷ 16 ∷ 17 ∷ 18 ∷ 20 ∷ 41 ∷ [])
 unfolding isOneOf

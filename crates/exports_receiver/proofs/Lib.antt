@@ -1,4 +1,3 @@
-pub mod ReplyLaws
 pub mod LadderLaws
 pub mod ReceiverLaws
 pub mod WalkLaws

@@ -8,23 +8,20 @@ use lib.Dec.{ltb}
 use borrow.Author.Tests.{ne-eqb, lt-ltb, le-ltb}
 use Rattle.wire.specs.Bounds.{sessionSize}
 use Rattle.wire.specs.Refusals.{badSetting}
-use Rattle.wire.specs.Words.{Words}
 use Rattle.wire.specs.Parts.{firstBytes}
 use Rattle.moldudp64.specs.declared.downstream.Downstream.{Downstream}
 use Rattle.moldudp64.specs.Downstream.{refusalOf, downstreamOf, downstreamWords}
 use Rattle.moldudp64.proofs.DownstreamLaws.{refusal-found}
 use Rattle.receiver.specs.declared.receiver.Receiver.{Receiver}
 use Rattle.receiver.specs.declared.receiver.Taken.{Taken}
-use Rattle.receiver.specs.Table.{AnswerKind, answerWords}
-use Rattle.receiver.specs.Receiver.{receiver, receiverStartRefusal, startReceiver, answerOf, receiverAfter, answerRead, afterRead}
-use Rattle.receiver.proofs.ReadLaws.{read-as-whole}
-use Rattle.receiver.proofs.Promises.{receiver-promises}
+use Rattle.receiver.specs.Table.{answerWords}
+use Rattle.receiver.specs.Receiver.{receiver, receiverStartRefusal, startReceiver, answerOf, answerRead, afterRead}
 use Rattle.host_answers.specs.Answers.{orElse, short, onSuccess, unlessSized, stateLadder, wordsOf, AnswersWith}
-use Rattle.host_answers.proofs.AnswerLaws.{or-first, or-next, or-short-no}
+use Rattle.host_answers.proofs.AnswerLaws.{or-first, or-short-no}
 use Rattle.host_states.specs.States.{onCode, nameIn}
-use Rattle.host_receiver.proofs.ReceiverLaws.{receiver-not, receiver-ten, name-there}
+use Rattle.host_receiver.proofs.TakenLaws.{not-taken, taken-answer, taken-there, taken-ladder}
 use Rattle.host_receiver.specs.Receiver.{receiverSize, receiverIn, KeepsReceiver}
-use Rattle.exports_receiver.specs.Replies.{answerNumber}
+use Rattle.host_receiver.specs.Replies.{answerNumber}
 use Rattle.exports_receiver.specs.Calls.{StartsReceiver, TakesDatagram}
 
 pub starts-receiver : (s name : List ℕ) (n limit g h : ℕ) (x : Receiver) (r : ℕ) (l m : List ℕ) → name ≡ firstBytes sessionSize s → h ≡ receiverStartRefusal n limit
@@ -33,10 +30,6 @@ pub starts-receiver : (s name : List ℕ) (n limit g h : ℕ) (x : Receiver) (r 
 starts-receiver s name n limit g h x r l m a b c e f k = record { returns = f ∙ rw (e, b); keeps = rw (← a, ← c) k }
 
 -- ---- a datagram d, which the reader read as p, with the refusal k
-
--- the receiver after it has the name that it had
-ten-after : (d l : List ℕ) → length (receiverAfter (receiverIn l) d .session) ≡ sessionSize
-ten-after d l = ap length (receiver-promises .keeps-settings (receiverIn l) d .0) ∙ receiver-ten l
 
 module _ (d l ws : List ℕ) (p : Downstream) (k : ℕ) (e : downstreamWords p ≡ downstreamOf d) (f : k ≡ downstreamWords p .refusal) where
   unread : k ≡ refusalOf d
@@ -49,7 +42,7 @@ module _ (d l ws : List ℕ) (p : Downstream) (k : ℕ) (e : downstreamWords p �
       let first : refusalOf d ≡ stateLadder (refusalOf d) (ltb (length l) receiverSize) (answerOf (receiverIn l) d .refusal) = or-first (refusalOf d) _ n in
       record {
         answers = record { returns = unread ∙ or-first (refusalOf d) (short (ltb (length ws) (length (wordsOf answerNumber 4 (answerOf (receiverIn l) d))))) n ∙ ap (λ (g : ℕ). orElse g (short (ltb (length ws) (length (wordsOf answerNumber 4 (answerOf (receiverIn l) d)))))) first; words = rw (ne-eqb _ _ z) };
-        keeps = receiver-not (receiverAfter (receiverIn l) d) l k (ten-after d l) z;
+        keeps = not-taken d l k z;
       }
 
   pub takes-short : k ≡ 0 → length l < receiverSize → TakesDatagram 41 l l d ws ws
@@ -57,7 +50,7 @@ module _ (d l ws : List ℕ) (p : Downstream) (k : ℕ) (e : downstreamWords p �
   takes-short z h =
       record {
         answers = record { returns = rw (← unread, z, lt-ltb (length l) receiverSize h); words = refl };
-        keeps = receiver-not (receiverAfter (receiverIn l) d) l 41 (ten-after d l) (λ n. omega arith);
+        keeps = not-taken d l 41 (λ n. omega arith);
       }
 
 module _ (d l ws : List ℕ) (p : Downstream) (e : downstreamWords p ≡ downstreamOf d) (none : downstreamWords p .refusal ≡ 0) where
@@ -67,16 +60,7 @@ module _ (d l ws : List ℕ) (p : Downstream) (e : downstreamWords p ≡ downstr
   module _ (x : Receiver) (is : x ≡ receiverIn l) (t : Taken) (room : receiverSize ≤ length l)
       (g : answerWords (t .answer) ≡ answerRead x d (downstreamWords p)) (h : t .receiver ≡ afterRead x d (downstreamWords p)) where
     answered : answerWords (t .answer) ≡ answerOf (receiverIn l) d
-    answered = rw (← is) (g ∙ rw e (read-as-whole .answers x d))
-
-    left : t .receiver ≡ receiverAfter (receiverIn l) d
-    left = rw (← is) (h ∙ rw e (read-as-whole .leaves x d))
-
-    -- the name that stands there is its own
-    named-there : receiver (nameIn l) (t .receiver .next .0) (t .receiver .limit .0) (t .receiver .ended) ≡ receiverAfter (receiverIn l) d
-    named-there =
-        let n : receiverAfter (receiverIn l) d .session ≡ nameIn l = receiver-promises .keeps-settings (receiverIn l) d .0 ∙ name-there l room in
-        rw (left, ← n)
+    answered = taken-answer d l p e x is t g
 
     pub takes-datagram : (r : ℕ) (m ws′ vs : List ℕ) (code q : ℕ) → q ≡ answerWords (t .answer) .refusal
         → vs ≡ wordsOf answerNumber 4 (answerWords (t .answer))
@@ -87,11 +71,8 @@ module _ (d l ws : List ℕ) (p : Downstream) (e : downstreamWords p ≡ downstr
     unfolding short
     takes-datagram r m ws′ vs code q a v y b kept =
         let one : r ≡ code = b ∙ rw (le-ltb (length l) receiverSize room) (sym (or-short-no code)) in
-        let ladder : q ≡ stateLadder (refusalOf d) (ltb (length l) receiverSize) (answerOf (receiverIn l) d .refusal) =
-        a ∙ ap (λ (w : Words AnswerKind). w .refusal) answered
-        ∙ rw (le-ltb (length l) receiverSize room) (or-next 0 _ refl ∙ or-next (refusalOf d) _ well)
-        in
+        let ladder = taken-ladder d l p e x is t q well room g a in
         record {
           answers = rw (one, ← ladder, ← answered, ← v) y;
-          keeps = rw named-there at kept;
+          keeps = rw (taken-there d l p e x is t room h) at kept;
         }

@@ -18,9 +18,10 @@ use Rattle.receiver.specs.Feed.{Datagram, Message}
 use Rattle.host_answers.specs.Answers.{orElse, short, flag}
 use Rattle.host_answers.proofs.AnswerLaws.{or-next}
 use Rattle.host_answers.proofs.PromiseLaws.{host-promises}
-use Rattle.host_states.specs.States.{Keeps, onCode, onStep}
+use Rattle.host_states.specs.States.{onStep}
 use Rattle.host_cursor.specs.Cursor.{cursorSize, cursorIn}
 use Rattle.host_cursor.specs.Calls.{locatedWords, SetsCursor, NextMessage}
+use Rattle.host_receiver.proofs.TakenLaws.{kept-size}
 use Rattle.exports_receiver.specs.Run.{Walked, stop, next}
 
 -- a code without a ground is 0 where there are words enough
@@ -44,12 +45,6 @@ moves-one : (i : ℕ) (l : List ℕ) (c : Cursor) → advanced l (advancedBy i l
 unfolding advancedBy
 moves-one zero l c = refl
 moves-one (suc i) l c = moves-one i l (advanced l c)
-
--- a state that is kept has as many bytes
-pub kept-size : {S : Type 0} {r : ℕ} {l m bs : List ℕ} {size : ℕ} {reads : List ℕ → S} {x : S} → Keeps (onCode r) l m size reads bs x → r ≡ 0 → length m ≡ length l
-kept-size {S} {r} {l} {m} {bs} k z =
-    let laid : m ≡ put l 0 bs = rw (eq-eqb r 0 z) at (k .leaves) in
-    rw laid (length-put l 0 bs)
 
 -- ---- one call
 

@@ -12,7 +12,7 @@ use Rattle.receiver.specs.Receiver.{receiverStartRefusal, startReceiver, answer
 use Rattle.host_answers.specs.Answers.{orElse, short, unlessSized, StateAnswers}
 use Rattle.host_states.specs.States.{onCode}
 use Rattle.host_receiver.specs.Receiver.{receiverSize, receiverIn, KeepsReceiver}
-use Rattle.exports_receiver.specs.Replies.{answerNumber}
+use Rattle.host_receiver.specs.Replies.{answerNumber}
 
 -- a receiver is started on a session's name; 19 where that isn't ten bytes too
 pub record StartsReceiver (r : ℕ) (name : List ℕ) (n limit : ℕ) (l m : List ℕ) : Type 0 where

@@ -1,4 +1,3 @@
-pub mod Replies
 pub mod Calls
 pub mod Run
 pub mod Example

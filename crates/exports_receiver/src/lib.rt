@@ -1,10 +1,10 @@
 // The receiver for hosts in other languages: started, given datagrams, and what it delivers of them.
 // `include/eiderwagon.h` says what each function takes and answers.
+use host_receiver::answers;
 use moldudp64::downstream;
 use moldudp64::downstream::Downstream;
 use moldudp64_messages::cursor::Cursor;
 use receiver::delivery;
-use receiver::receiver::Answer;
 use receiver::receiver::Receiver;
 use wire::kinds::MessageCount;
 use wire::kinds::MessagePlace;
@@ -12,77 +12,19 @@ use wire::kinds::SESSION_SIZE;
 use wire::kinds::SequenceNumber;
 use wire::parts;
 use wire::refusal;
-use wire::refusal::Refusal;
 ghost use mathlib.Core.Path.{_≡_};
 ghost use mathlib.Core.List.{[], _∷_};
 ghost use Prim.Native.Nat.{_≤_};
 ghost use lib.ListN.{length};
 ghost use Rattle.moldudp64.specs.Downstream.{downstreamOf, downstreamWords};
-ghost use Rattle.receiver.specs.Table.{answerWords};
 ghost use Rattle.receiver.specs.Delivery.{deliveryCursor};
-ghost use Rattle.host_answers.specs.Answers.{wordsOf, RefusesOnly};
+ghost use Rattle.host_answers.specs.Answers.{RefusesOnly};
 ghost use Rattle.host_cursor.specs.Calls.{SetsCursor};
 ghost use Rattle.host_receiver.specs.Receiver.{receiverSize};
-ghost use Rattle.exports_receiver.specs.Replies.{answerNumber, AnswerNumbersApart};
+ghost use Rattle.host_receiver.specs.Replies.{AnswerNumbersApart};
 ghost use Rattle.exports_receiver.specs.Calls.{StartsReceiver, TakesDatagram};
 ghost use Rattle.exports_receiver.specs.Run.{HandsOn, HostGetsTrue};
 ghost use Rattle.exports_receiver.specs.Example.{HandedExample};
-
-// What a receiver answers, by number.
-const DELIVER: u64 = 1;
-
-const OLD: u64 = 2;
-
-const QUIET: u64 = 3;
-
-const ASK: u64 = 4;
-
-const ENDED: u64 = 5;
-
-// The words of an answer: which it is, and its three values.
-const ANSWER_WORDS: usize = 4;
-
-// An answer as a host gets it: its refusal, or its words.
-struct SaidAnswer {
-    refusal: Refusal,
-    words: [u64; ANSWER_WORDS],
-}
-
-fn answer_words(answer: Answer) -> SaidAnswer
-    ensures { λ r. ⌜ (r .refusal .number ≡ answerWords answer .refusal)
-        × (r .words ≡ wordsOf answerNumber 4 (answerWords answer)) ⌝ }
-{
-    match answer {
-        Answer::Deliver {
-            first,
-            count,
-            skipped,
-        } => SaidAnswer {
-            refusal: refusal::NONE,
-            words: [DELIVER, first.0, count.0 as u64, skipped.0 as u64],
-        },
-        Answer::Old => SaidAnswer {
-            refusal: refusal::NONE,
-            words: [OLD, 0, 0, 0],
-        },
-        Answer::Quiet => SaidAnswer {
-            refusal: refusal::NONE,
-            words: [QUIET, 0, 0, 0],
-        },
-        Answer::Ask { from, count } => SaidAnswer {
-            refusal: refusal::NONE,
-            words: [ASK, from.0, count.0 as u64, 0],
-        },
-        Answer::Ended => SaidAnswer {
-            refusal: refusal::NONE,
-            words: [ENDED, 0, 0, 0],
-        },
-        Answer::Refused(r) => SaidAnswer {
-            refusal: r,
-            words: [0; ANSWER_WORDS],
-        },
-    }
-}
 
 // Starts a receiver.
 #[no_mangle]
@@ -124,7 +66,7 @@ fn take_read(state: &mut [u8], packet: Downstream, datagram: &[u8], words: &mut 
     let taken = host_receiver::read(state).take_read(packet, datagram);
     let answer = taken.answer;
     let after = taken.receiver;
-    let said = answer_words(answer);
+    let said = answers::answer_words(answer);
     let values = said.words;
     let code = host_answers::answer(words, said.refusal, &values);
     host_receiver::keep(state, code, after)

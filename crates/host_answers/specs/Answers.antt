@@ -21,8 +21,8 @@ orElse g h = if eqb g 0 then h else g
 unfoldable pub short : Bool → ℕ
 short lacks = if lacks then outputShort else 0
 
--- a writer that is given a session's name: the documents have no ground for one that isn't ten bytes, so it is 41, behind
--- the writer's own
+-- a writer that is given a session's name: the documents have no ground for one that isn't ten bytes, so it is 41,
+-- behind the writer's own
 abbrev pub named : List ℕ → ℕ → ℕ
 named name g = orElse g (short (not (eqb (length name) sessionSize)))
 

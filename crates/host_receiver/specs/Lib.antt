@@ -1,1 +1,2 @@
 pub mod Receiver
+pub mod Replies

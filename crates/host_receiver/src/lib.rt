@@ -1,4 +1,6 @@
-// A receiver, as a host keeps it.
+// A receiver, as a host keeps it; what it answers a host is in `answers`.
+pub mod answers;
+
 use host_states::FRONT_SIZE;
 use host_states::NAME_AT;
 use host_states::NUMBER_AT;

@@ -1,4 +1,4 @@
--- What the exported receiver answers, by number.
+-- What a receiver answers a host, by number.
 use Prim.Native.Nat.{ℕ, _<_}
 use lib.ListN.{length}
 use Rattle.wire.specs.Words.{Injective}

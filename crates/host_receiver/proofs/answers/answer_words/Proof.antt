@@ -1,10 +1,10 @@
 -- Each case by its number and values.
 use Rattle.receiver.specs.Table.{answerWords}
 use Rattle.host_answers.specs.Answers.{padded, wordsAt}
-use Rattle.exports_receiver.specs.Replies.{answerNumber}
-use Rattle.exports_receiver.proofs.Rules.{words}
-use Rattle.exports_receiver.proofs.answer_words.Statement.{statement}
-use Rattle.exports_receiver.proofs.answer_words.Tie as tie
+use Rattle.host_receiver.specs.Replies.{answerNumber}
+use Rattle.host_receiver.proofs.Rules.{words}
+use Rattle.host_receiver.proofs.answers.answer_words.Statement.{statement}
+use Rattle.host_receiver.proofs.answers.answer_words.Tie as tie
 
 returns : tie.Need-returns
 unfolding answerWords wordsAt answerNumber padded

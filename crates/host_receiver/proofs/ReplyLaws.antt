@@ -11,7 +11,7 @@ use Rattle.receiver.specs.declared.receiver.Answer.{Answer}
 use Rattle.receiver.specs.declared.receiver.Answer.the-variants as reply
 use Rattle.receiver.specs.Table.{AnswerKind, deliver, old, quiet, ask, ended, answerWords}
 use Rattle.host_answers.specs.Answers.{wordsOf}
-use Rattle.exports_receiver.specs.Replies.{answerNumber, AnswerNumbersApart}
+use Rattle.host_receiver.specs.Replies.{answerNumber, AnswerNumbersApart}
 
 -- an answer of a known case y
 pub answer-refusal : {x y : Answer} {g : ℕ} → x ≡ y → g ≡ answerWords y .refusal → g ≡ answerWords x .refusal

@@ -1,0 +1,10 @@
+pub mod PlaceLaws
+pub mod LayLaws
+pub mod FindLaws
+pub mod AnswerLaws
+pub mod MessageLaws
+pub mod OnlyLaws
+pub mod DeliverLaws
+pub mod RunLaws
+pub mod ExampleLaws
+pub mod Rules
