@@ -1,10 +1,12 @@
 -- Laws of account records: letters without case, two fields compared byte for byte, and what a record says of an entry.
 use mathlib.Core.Path.{_≡_, refl, ap, sym, _∙_}
 use mathlib.Core.List.{List, [], _∷_}
-use mathlib.Core.Bool.{Bool, true, false, _&&_}
+use mathlib.Core.Bool.{Bool, true, false, _&&_, not}
 use Prim.Native.Nat.{ℕ, suc, _+_, _≤_, _<_}
 use native.Mathlib.Omega.{arith}
-use native.Mathlib.Numerals.{add-one}
+use native.Mathlib.Numerals.{add-one, unary-clauses}
+use mir.Val.{boolByte, Fits}
+use mir.Syntax.{w64}
 use lib.ListN.{length, drop, getD, drop-of-length-le}
 use lib.Seq.{drop-cons}
 use lib.Dec.{eqb}
@@ -37,9 +39,23 @@ pub record SameOn (a b : List ℕ) (same : Bool) (i : ℕ) : Type 0 where
   pub lengths : length a ≡ length b
   pub rest : (same && sameText (drop i a) (drop i b)) ≡ sameText a b
 
+-- the same by a count of the bytes that differ
+pub record DifferOn (a b : List ℕ) (differ i : ℕ) : Type 0 where
+  pub within : differ ≤ i
+  pub same : SameOn a b (eqb differ 0) i
+
 and-true : (x : Bool) → (x && true) ≡ x
 and-true true = refl
 and-true false = refl
+
+and-false : (x : Bool) → (x && false) ≡ false
+and-false true = refl
+and-false false = refl
+
+-- none differs where none did and the next does not
+none-differs : (d : ℕ) (x : Bool) → eqb (d + boolByte (not x)) 0 ≡ (eqb d 0 && x)
+none-differs d true = simp unary-clauses (sym (and-true (eqb d 0)))
+none-differs d false = ne-eqb (d + 1) 0 (λ e. omega (arith, e)) ∙ sym (and-false (eqb d 0))
 
 and-first : (x t s w : Bool) → (x && (if t then s else false)) ≡ w → ((x && t) && s) ≡ w
 and-first true true s w e = e
@@ -92,6 +108,30 @@ module _ (a b : List ℕ) where
       let d : drop i a ≡ [] = drop-of-length-le a h in
       let e : drop i b ≡ [] = drop-of-length-le b {i = i} (omega (arith, s .lengths)) in
       rw (d, e, and-true same) at (s .rest)
+
+module _ (a b : List ℕ) where
+  pub differ-start : length a ≡ length b → DifferOn a b 0 0
+  differ-start h = record { within = omega arith; same = same-start a b h }
+
+  module _ (differ i : ℕ) (d : DifferOn a b differ i) where
+    pub differ-fits : (y : Bool) → i < length a → Fits w64 (length a) → Fits w64 (differ + boolByte y)
+    differ-fits true h f = record { fits = omega (arith, d .within, f .fits) }
+    differ-fits false h f = record { fits = omega (arith, d .within, f .fits) }
+
+    pub differ-next : (p q : ℕ) → i < length a → p ≡ lower (getD a i 0) → q ≡ lower (getD b i 0)
+        → DifferOn a b (differ + boolByte (not (eqb p q))) (i + 1)
+    differ-next p q h e f =
+        record {
+          within = at-most (not (eqb p q));
+          same = rw (none-differs differ (eqb p q)) (same-next a b (eqb differ 0) i p q (d .same) h e f);
+        }
+      where
+        at-most : (y : Bool) → differ + boolByte y ≤ i + 1
+        at-most true = omega (arith, d .within)
+        at-most false = omega (arith, d .within)
+
+    pub differ-end : length a ≤ i → eqb differ 0 ≡ sameText a b
+    differ-end h = same-end a b (eqb differ 0) i (d .same) h
 
 -- ---- one record: t is what the first test gave, r what the second did
 

@@ -87,22 +87,23 @@ fn is_same_username(a: &[u8], b: &[u8]) -> bool
 }
 
 // Whether two passwords have the same text. Every byte is compared: neither a zero, a space nor a difference ends it
-// early in this source; SECURITY.md says what was seen in the compiled code.
+// early. The bytes that differ are counted, as a compiler may make branches of a chain of tests, and of a sum it did
+// not; SECURITY.md says what was seen in the compiled code.
 fn is_same_password(a: &[u8], b: &[u8]) -> bool
     ensures { λ r. ⌜ r ≡ sameText (now (a .entry)) (now (b .entry)) ⌝ }
 {
     if a.len() != b.len() {
         return false;
     }
-    let mut same = true;
+    let mut differ: usize = 0;
     let mut i: usize = 0;
     while i < a.len() {
         let x = lower(a[i]);
         let y = lower(b[i]);
-        same = same & (x == y);
+        differ += (x != y) as usize;
         i += 1;
     }
-    same
+    differ == 0
 }
 
 // Whether both fields are sound.
