@@ -1,6 +1,5 @@
 //! The library and the yardstick at each datagram: the same answer, the same receiver after it, the same messages.
 
-#[cfg(feature = "deliver")]
 pub mod delivery;
 mod drawn;
 pub mod fronts;

@@ -29,7 +29,6 @@ impl Host {
     }
 
     /// As `take`, and two words for each delivered message: its offset and its length.
-    #[cfg(feature = "deliver")]
     #[inline]
     pub fn deliver(&mut self, datagram: &[u8], places: &mut [u64]) -> (u32, TakeWords) {
         let mut words = [0; raw::TAKE_WORDS];

@@ -48,7 +48,6 @@ impl Captures {
         compared("loss, doubled, swapped", &self.troubled);
         compared("heartbeats", &self.heartbeats);
         compared("everything", &self.everything).assert_everything();
-        #[cfg(feature = "deliver")]
         compared_in_one_call("everything, in one call", &self.everything).assert_everything();
     }
 }
@@ -59,7 +58,6 @@ fn compared(name: &str, capture: &Capture) -> Drawn {
     drawn
 }
 
-#[cfg(feature = "deliver")]
 fn compared_in_one_call(name: &str, capture: &Capture) -> Drawn {
     let drawn = yardstick::compare::delivery::compare_in_one_call(capture);
     println!("{name}: equal at {} datagrams: {drawn}", capture.len());
@@ -72,7 +70,6 @@ pub fn compared_captures() -> (Captures, Capture) {
     let (short, long) = (Captures::of(IN_CACHE), in_order_of_size(SEED, FROM_MEMORY));
     short.compare();
     compared("in order, from memory", &long);
-    #[cfg(feature = "deliver")]
     for (name, capture) in [("in order", &short.in_order), ("from memory", &long)] {
         compared_in_one_call(&format!("{name}, in one call"), capture);
     }

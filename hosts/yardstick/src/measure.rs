@@ -9,7 +9,6 @@ use std::time::Instant;
 pub const DATAGRAMS_A_RUN: usize = 200_000;
 
 /// Room for the places of a datagram's messages: those that are timed have at most 30.
-#[cfg(feature = "deliver")]
 const PLACES: usize = 64;
 
 /// How many logins are one input.

@@ -27,10 +27,12 @@ fn rows(runs: usize, short: &Captures, long: &Capture) {
         ("take and walk, in order, from memory", long),
     ];
     for (name, capture) in walks {
-        let name = |rust: &str| format!("{name}; Rust's walk {rust}");
-        let (called, inlined) = (name("called"), name("inlined"));
+        let called = format!("{name}; Rust's walk called");
+        let inlined = format!("{name}; Rust's walk inlined");
         row(&called, runs, capture, library::walks, rust::walks_by_calls);
         row(&inlined, runs, capture, library::walks, rust::walks);
+        let by_deliver = format!("{name}, by deliver; Rust's walk inlined");
+        row(&by_deliver, runs, capture, library::deliveries, rust::walks);
     }
 }
 

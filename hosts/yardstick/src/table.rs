@@ -17,7 +17,6 @@ pub fn print(runs: usize) {
     table.takes(&short);
     table.walks("in cache", 1.3, &short.in_order);
     table.walks("from memory", 1.15, &long);
-    #[cfg(feature = "deliver")]
     for (place, capture) in [("in cache", &short.in_order), ("from memory", &long)] {
         table.deliveries(place, capture);
     }
@@ -50,7 +49,6 @@ impl Table {
         }
     }
 
-    #[cfg(feature = "deliver")]
     fn deliveries(&self, place: &str, capture: &Capture) {
         let rows: [(&str, Side<Capture>); 2] = [
             ("Rust lays places too", rust::deliveries),

@@ -35,7 +35,6 @@ fn one_call_is_take_and_the_walk() {
     }
 }
 
-#[cfg(feature = "deliver")]
 #[test]
 fn the_library_lays_the_same_places() {
     use yardstick::compare::delivery::compare_in_one_call;

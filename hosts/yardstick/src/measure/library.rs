@@ -31,7 +31,6 @@ pub fn walks(capture: &Capture) -> u64 {
 }
 
 /// One call for each datagram, and then its messages by the places that it laid.
-#[cfg(feature = "deliver")]
 pub fn deliveries(capture: &Capture) -> u64 {
     let mut places = [0; 2 * super::PLACES];
     let (mut host, mut sum) = (Host::start(), 0);

@@ -4,9 +4,7 @@ pub mod sessions;
 
 use super::glance;
 use yardstick::captures::Capture;
-#[cfg(feature = "deliver")]
-use yardstick::mold::Place;
-use yardstick::mold::{Messages, Refusal};
+use yardstick::mold::{Messages, Place, Refusal};
 use yardstick::receiver::{Answer, Receiver};
 use yardstick::{LIMIT, NEXT, SESSION};
 
@@ -75,7 +73,6 @@ fn walks_with(
 }
 
 /// One call for each datagram, and then its messages by the places that it laid.
-#[cfg(feature = "deliver")]
 pub fn deliveries(capture: &Capture) -> u64 {
     let mut places = [Place::default(); super::PLACES];
     let (mut receiver, mut sum) = (started(), 0);
@@ -92,7 +89,6 @@ pub fn deliveries(capture: &Capture) -> u64 {
 }
 
 /// A call for each datagram, as the library's deliver is.
-#[cfg(feature = "deliver")]
 #[inline(never)]
 fn called_deliver(
     receiver: &mut Receiver,
