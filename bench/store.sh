@@ -4,10 +4,8 @@
 # follows is handed on: --runs NUMBER.
 set -euo pipefail
 cd "$(dirname "$0")/.."
-library=target/staticlib/libeiderwagon.a
+. bench/built.sh
 
-if [ ! -f "$library" ] || [ -n "$(find crates crates.txt toolchain.txt -newer "$library" -print -quit)" ]; then
-    tools/host_library.sh
-fi
+build_library
 cd hosts
 cargo run --quiet --release --offline -p bench_orders -- "$@"

@@ -1,6 +1,7 @@
 #!/usr/bin/env bash
-# The whole table: each path of the library, and the capture program, beside the same in ordinary Rust (hosts/yardstick), with the
-# ratio to reach. Builds what is missing or older than its sources (some minutes), compares every answer, and times both in turns.
+# The whole table: each path of the library, and the capture program, beside the same in ordinary Rust
+# (hosts/yardstick), with the ratio to reach. Builds what is missing or older than its sources (some minutes), compares
+# every answer, and times both in turns.
 #
 #     bench/table.sh [--runs NUMBER]      the least of so many runs, 31 without it
 set -euo pipefail

@@ -8,12 +8,14 @@ use lib.ListN.{length, getD, take, replicate, length-replicate}
 use lib.Dec.{ltb}
 use borrow.Author.Tests.{ltb-true, le-ltb}
 use Rattle.wire.specs.Choice.{if_then_else_}
-use Rattle.wire.specs.Bytes.{number, sameBytes, AreBytes}
+use Rattle.wire.specs.Bytes.{bytes, number, sameBytes, AreBytes}
 use Rattle.wire.specs.Output.{put}
+use Rattle.wire.specs.Text.{ascii}
 use Rattle.wire.specs.Parts.{firstBytes}
-use Rattle.moldudp64.specs.Header.{numberOf, countOf}
-use Rattle.moldudp64.specs.Blocks.{blockLength, fits, allFit, afterBlocks, blocksRefusal}
+use Rattle.moldudp64.specs.Header.{header, numberOf, countOf}
+use Rattle.moldudp64.specs.Blocks.{blocksOf, blockLength, fits, allFit, afterBlocks, blocksRefusal}
 use Rattle.moldudp64.specs.Downstream.{kindOfCount, blockCount, refusalOf}
+use Rattle.moldudp64.specs.Written.{encoded}
 use Rattle.receiver.specs.Table.{table}
 use Rattle.receiver.specs.Receiver.{otherSession, endBelow, ownRefusal, refusalFor, answerOf, receiverAfter}
 use Rattle.host_answers.specs.Answers.{orElse, short, onSuccess, padded, wordsAt}
@@ -47,7 +49,7 @@ noWords = 0 ∷ 0 ∷ 0 ∷ 0 ∷ []
 -- places of any length, which is never computed
 module _ (ps : List ℕ) (room : mostPlaces ≤ length ps) where
   refused-call : DeliverCall atOne (0 ∷ []) atOne []
-  unfolding number sameBytes firstBytes numberOf countOf blockLength fits allFit afterBlocks blocksRefusal kindOfCount blockCount refusalOf table otherSession endBelow ownRefusal refusalFor answerOf receiverAfter orElse short onSuccess padded wordsAt little littleBytes isOpen openByte frontBytes receiverBytes receiverIn answerNumber put placesAt placesDeliveredAt noWords
+  unfolding bytes header blocksOf encoded number sameBytes firstBytes numberOf countOf blockLength fits allFit afterBlocks blocksRefusal kindOfCount blockCount refusalOf table otherSession endBelow ownRefusal refusalFor answerOf receiverAfter orElse short onSuccess padded wordsAt little littleBytes isOpen openByte frontBytes receiverBytes receiverIn answerNumber put placesAt placesDeliveredAt noWords
   refused-call =
       record {
         are-bytes = are-small (0 ∷ []) refl;
@@ -66,14 +68,14 @@ module _ (ps : List ℕ) (room : mostPlaces ≤ length ps) where
   two : List ℕ
   two = 22 ∷ 2 ∷ 26 ∷ 0 ∷ []
 
-  got-two : Gets twoMessages 0 (1 ∷ 1 ∷ 2 ∷ 0 ∷ []) (put ps 0 two) ((104 ∷ 105 ∷ []) ∷ [] ∷ [])
-  unfolding partsAt two
+  got-two : Gets twoMessages 0 (1 ∷ 1 ∷ 2 ∷ 0 ∷ []) (put ps 0 two) (ascii "hi" ∷ [] ∷ [])
+  unfolding bytes header blocksOf encoded partsAt two
   got-two =
       let g : Gets twoMessages 0 (1 ∷ 1 ∷ 2 ∷ 0 ∷ []) (put ps 0 two) (partsAt (take 4 (put ps 0 two)) twoMessages) = by-deliver refl refl in
       rw (front-laid ps two 4 refl (omega (arith, room))) at g
 
   deliver-laid : DeliversDatagram 0 atOne atThree twoMessages noWords (1 ∷ 1 ∷ 2 ∷ 0 ∷ []) ps (put ps 0 two)
-  unfolding number sameBytes firstBytes numberOf countOf blockLength fits allFit afterBlocks blocksRefusal kindOfCount blockCount refusalOf table otherSession endBelow ownRefusal refusalFor answerOf receiverAfter orElse short onSuccess padded wordsAt little littleBytes isOpen openByte frontBytes receiverBytes receiverIn answerNumber put placesAt placesDeliveredAt noWords two
+  unfolding bytes header blocksOf encoded number sameBytes firstBytes numberOf countOf blockLength fits allFit afterBlocks blocksRefusal kindOfCount blockCount refusalOf table otherSession endBelow ownRefusal refusalFor answerOf receiverAfter orElse short onSuccess padded wordsAt little littleBytes isOpen openByte frontBytes receiverBytes receiverIn answerNumber put placesAt placesDeliveredAt noWords two
   deliver-laid =
       record {
         answers = record { returns = rw (le-ltb (length ps) 4 (omega (arith, room))); words = refl };
@@ -81,8 +83,8 @@ module _ (ps : List ℕ) (room : mostPlaces ≤ length ps) where
         keeps = record { fits = refl; leaves = refl; reads-back = λ _ _. refl };
       }
 
-  deliver-call : DeliverCall atOne twoMessages atThree ((104 ∷ 105 ∷ []) ∷ [] ∷ [])
-  unfolding noWords
+  deliver-call : DeliverCall atOne twoMessages atThree (ascii "hi" ∷ [] ∷ [])
+  unfolding bytes header blocksOf encoded noWords
   deliver-call =
       record {
         are-bytes = are-small twoMessages refl;
@@ -98,7 +100,7 @@ module _ (ps : List ℕ) (room : mostPlaces ≤ length ps) where
       }
 
   old-call : DeliverCall atThree twoMessages atThree []
-  unfolding number sameBytes firstBytes numberOf countOf blockLength fits allFit afterBlocks blocksRefusal kindOfCount blockCount refusalOf table otherSession endBelow ownRefusal refusalFor answerOf receiverAfter orElse short onSuccess padded wordsAt little littleBytes isOpen openByte frontBytes receiverBytes receiverIn answerNumber put placesAt placesDeliveredAt noWords
+  unfolding bytes header blocksOf encoded number sameBytes firstBytes numberOf countOf blockLength fits allFit afterBlocks blocksRefusal kindOfCount blockCount refusalOf table otherSession endBelow ownRefusal refusalFor answerOf receiverAfter orElse short onSuccess padded wordsAt little littleBytes isOpen openByte frontBytes receiverBytes receiverIn answerNumber put placesAt placesDeliveredAt noWords
   old-call =
       record {
         are-bytes = are-small twoMessages refl;

@@ -72,7 +72,8 @@ pub fn put_front(state: &mut [u8], first: u8, name: [u8; SESSION_SIZE], number: 
 
 // Lays the same fields but for the name, which stays as it stands there: for a step that never changes it.
 pub fn keep_front(state: &mut [u8], first: u8, number: u64)
-    ensures { λ _. ⌜ now (state .exit) ≡ put (now (state .entry)) 0 (frontBytes first (nameIn (now (state .entry))) number) ⌝ }
+    ensures { λ _. ⌜ now (state .exit)
+        ≡ put (now (state .entry)) 0 (frontBytes first (nameIn (now (state .entry))) number) ⌝ }
 {
     if state.len() < FRONT_SIZE {
         return;

@@ -1,6 +1,6 @@
 // The packets of a run one after another, so that a whole run is sent in one walk. How far earlier packets have come is
-// two numbers, which anyone can make up or use with another run, so a turn takes any: the packet is then well-formed, of
-// that run's bytes from where the numbers say.
+// two numbers, which anyone can make up or use with another run, so a turn takes any: the packet is then well-formed,
+// of that run's bytes from where the numbers say.
 use crate::run;
 use moldudp64_writer::downstream;
 use packing::fit;
