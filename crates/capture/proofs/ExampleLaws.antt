@@ -15,7 +15,7 @@ use Rattle.moldudp64.specs.Downstream.{kindOfCount, blockCount, refusalOf}
 use Rattle.moldudp64.specs.Written.{encoded, encodedEnd}
 use Rattle.receiver.specs.Table.{table}
 use Rattle.receiver.specs.Receiver.{receiver, otherSession, endBelow, ownRefusal, refusalFor, receiverStartRefusal, startReceiver, answerOf, receiverAfter}
-use Rattle.receiver.specs.Feed.{Datagram}
+use Rattle.feed.specs.Session.{Datagram}
 use Rattle.decimal.specs.Decimal.{digitsUpTo, digits}
 use Rattle.capture_settings.specs.Settings.{isPrintable}
 use Rattle.capture_settings.specs.Statements.{settingsText, Good}

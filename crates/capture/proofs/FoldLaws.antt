@@ -11,7 +11,7 @@ use borrow.Author.Tests.{leb-true, leb-false}
 use Rattle.wire.specs.Choice.{if_then_else_}
 use Rattle.wire.specs.Output.{put}
 use Rattle.wire.proofs.Cases.{zero-or-not}
-use Rattle.receiver.specs.Feed.{Datagram}
+use Rattle.feed.specs.Session.{Datagram}
 use Rattle.capture_settings.specs.Settings.{settingsOf}
 use Rattle.capture_records.specs.Records.{mostRecords, datagramsOf, restOf}
 use Rattle.capture_records.proofs.FrontLaws.{few, datagrams-zero}

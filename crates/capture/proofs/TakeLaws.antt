@@ -6,7 +6,7 @@ use native.Mathlib.Omega.{arith}
 use native.Mathlib.Numerals.{sub-one}
 use lib.ListN.{length, take, drop, length-drop}
 use Rattle.wire.proofs.Numbers.{part-to-end}
-use Rattle.receiver.specs.Feed.{Datagram}
+use Rattle.feed.specs.Session.{Datagram}
 use Rattle.capture_records.specs.declared.records.Front.{Front}
 use Rattle.capture_records.specs.declared.records.Front.the-variants.{Whole, Short}
 use Rattle.capture_records.specs.Records.{mostRecords, recordSize, datagramOf, recordWords, recordInFront, datagramsOf, restOf}

@@ -20,7 +20,8 @@ use Rattle.wire.proofs.Outputs.{no-write-refusal, wrote-so, wrote-front}
 use Rattle.wire.proofs.Cases.{below-or-not, zero-or-not}
 use Rattle.receiver.specs.declared.receiver.Receiver.{Receiver}
 use Rattle.receiver.specs.Receiver.{receiverStartRefusal, startReceiver, receiverAfter, refusedReceiver, refusalFor}
-use Rattle.receiver.specs.Feed.{Datagram, after}
+use Rattle.feed.specs.Session.{Datagram}
+use Rattle.feed.specs.Machine.{after}
 use Rattle.receiver.specs.Condition3.{plain}
 use Rattle.receiver.proofs.TableLaws.{row-after, refused-stays}
 use Rattle.capture_settings.specs.Settings.{settingsOf}

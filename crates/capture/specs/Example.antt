@@ -5,7 +5,7 @@ use mathlib.Core.Path.{_≡_}
 use lib.ListN.{replicate}
 use Rattle.wire.specs.Text.{ascii, readroom}
 use Rattle.moldudp64.specs.Written.{encoded, encodedEnd}
-use Rattle.receiver.specs.Feed.{Datagram, Message}
+use Rattle.feed.specs.Session.{Datagram, Message}
 use Rattle.capture_settings.specs.Settings.{lineFeed}
 use Rattle.capture_settings.specs.Statements.{settingsText}
 use Rattle.capture_records.specs.Records.{recordsBytes}

@@ -6,7 +6,7 @@ use Rattle.receiver.specs.declared.receiver.Receiver.{Receiver}
 use Rattle.receiver.specs.declared.receiver.Taken.{Taken}
 use Rattle.receiver.specs.Table.{answerWords}
 use Rattle.receiver.specs.Receiver.{answerOf, receiverAfter}
-use Rattle.receiver.specs.Feed.{Datagram}
+use Rattle.feed.specs.Session.{Datagram}
 use Rattle.capture_records.specs.Records.{mostRecords}
 use Rattle.capture_tally.specs.declared.tally.Tally.{Tally}
 use Rattle.capture_tally.specs.declared.report.Report.{Report}

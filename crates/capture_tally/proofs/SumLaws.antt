@@ -17,7 +17,8 @@ use Rattle.receiver.specs.declared.receiver.Receiver.{Receiver}
 use Rattle.receiver.specs.Table.{AnswerKind, deliver, old, quiet, ask, ended, Outcome, Row, data-reaches, data-below, heartbeat-below, heartbeat-at, any-above, end-at}
 use Rattle.receiver.specs.Receiver.{refusalFor, tableRow, answerOf, receiverAfter}
 use Rattle.receiver.specs.Delivery.{messagesDeliveredAt, messagesDelivered}
-use Rattle.receiver.specs.Feed.{Datagram, after, delivered}
+use Rattle.feed.specs.Session.{Datagram}
+use Rattle.feed.specs.Machine.{after, delivered}
 use Rattle.receiver.specs.Condition3.{plain}
 use Rattle.receiver.proofs.TableLaws.{row-answer, row-after, refused-stays}
 use Rattle.receiver.proofs.Promises.{well-read, row-of, refused-answers}

@@ -7,7 +7,8 @@ use Rattle.wire.specs.Words.{Words}
 use Rattle.receiver.specs.declared.receiver.Receiver.{Receiver}
 use Rattle.receiver.specs.Table.{AnswerKind}
 use Rattle.receiver.specs.Receiver.{answerOf, receiverAfter}
-use Rattle.receiver.specs.Feed.{Datagram, after, delivered}
+use Rattle.feed.specs.Session.{Datagram}
+use Rattle.feed.specs.Machine.{after, delivered}
 use Rattle.receiver.specs.Condition3.{plain}
 use Rattle.capture_records.specs.Records.{mostRecords}
 use Rattle.capture_tally.specs.declared.tally.Tally.{Tally}

@@ -22,7 +22,7 @@ use Rattle.receiver.specs.declared.receiver.Answer.{Answer}
 use Rattle.receiver.specs.declared.receiver.Answer.the-variants.{Deliver, Old, Quiet, Ask, Ended, Refused}
 use Rattle.receiver.specs.Table.{AnswerKind, deliver, old, quiet, ask, ended, answerWords}
 use Rattle.receiver.specs.Receiver.{refusalFor, answerOf}
-use Rattle.receiver.specs.Feed.{Datagram}
+use Rattle.feed.specs.Session.{Datagram}
 use Rattle.receiver.proofs.Promises.{refused-answers}
 use Rattle.host_answers.specs.Answers.{padded, wordsAt}
 use Rattle.host_receiver.specs.Replies.{answerNumber}

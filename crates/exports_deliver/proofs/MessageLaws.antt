@@ -9,7 +9,7 @@ use Rattle.moldudp64.proofs.DownstreamLaws.{sound}
 use Rattle.receiver.specs.declared.receiver.Receiver.{Receiver}
 use Rattle.receiver.specs.Receiver.{refusalFor, answerOf}
 use Rattle.receiver.specs.Delivery.{messagesDeliveredAt, messagesDelivered}
-use Rattle.receiver.specs.Feed.{Datagram}
+use Rattle.feed.specs.Session.{Datagram}
 use Rattle.receiver.proofs.Promises.{refused-answers, well-read}
 use Rattle.host_receiver.proofs.SaidLaws.{Says, delivers, gives-none, said}
 use Rattle.exports_deliver.specs.Places.{placesDeliveredAt, placesDelivered, partsAt, mostPlaces, PlacesAreMessages, EnoughPlaces}

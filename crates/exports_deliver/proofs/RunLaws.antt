@@ -13,7 +13,8 @@ use Rattle.receiver.specs.declared.receiver.Receiver.{Receiver}
 use Rattle.receiver.specs.Table.{deliver}
 use Rattle.receiver.specs.Receiver.{refusalFor, answerOf, receiverAfter}
 use Rattle.receiver.specs.Delivery.{messagesDelivered}
-use Rattle.receiver.specs.Feed.{Datagram, Message, after, delivered}
+use Rattle.feed.specs.Session.{Datagram, Message}
+use Rattle.feed.specs.Machine.{after, delivered}
 use Rattle.receiver.specs.Condition3.{plain}
 use Rattle.host_answers.specs.Answers.{short, wordsOf}
 use Rattle.host_answers.proofs.AnswerLaws.{or-none, success}

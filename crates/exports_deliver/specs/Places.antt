@@ -12,7 +12,7 @@ use Rattle.receiver.specs.declared.receiver.Receiver.{Receiver}
 use Rattle.receiver.specs.Table.{AnswerKind, deliver, old, quiet, ask, ended}
 use Rattle.receiver.specs.Receiver.{answerOf}
 use Rattle.receiver.specs.Delivery.{messagesDelivered}
-use Rattle.receiver.specs.Feed.{Message}
+use Rattle.feed.specs.Session.{Message}
 
 -- of n blocks in front of l, which is what is left of a datagram from a place on
 unfoldable pub placesAt : ℕ → ℕ → List ℕ → List ℕ

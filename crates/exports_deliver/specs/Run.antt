@@ -5,7 +5,8 @@ use mathlib.Core.List.{List, [], _∷_, _++_}
 use mathlib.Core.Path.{_≡_}
 use lib.ListN.{length, getD, take}
 use Rattle.wire.specs.Bytes.{AreBytes}
-use Rattle.receiver.specs.Feed.{Datagram, Message, after, delivered}
+use Rattle.feed.specs.Session.{Datagram, Message}
+use Rattle.feed.specs.Machine.{after, delivered}
 use Rattle.receiver.specs.Condition3.{plain}
 use Rattle.host_receiver.specs.Receiver.{receiverSize, receiverIn}
 use Rattle.exports_deliver.specs.Places.{partsAt, mostPlaces}

@@ -17,7 +17,9 @@ use Rattle.receiver.specs.declared.receiver.Receiver.{Receiver}
 use Rattle.receiver.specs.Table.{deliver, ended}
 use Rattle.receiver.specs.Receiver.{refusalFor, receiverStartRefusal, startReceiver, answerOf, receiverAfter}
 use Rattle.receiver.specs.Delivery.{messagesDelivered, deliveryCursor, DeliveryVisits}
-use Rattle.receiver.specs.Feed.{Datagram, Message, Session, OfKind, AllOfKind, Faithful, messagesFrom, numberAfter, after, delivered}
+use Rattle.feed.specs.Session.{Datagram, Message, Session, OfKind, AllOfKind, messagesFrom}
+use Rattle.feed.specs.Machine.{numberAfter, after, delivered}
+use Rattle.feed.specs.Faithful.{Faithful}
 use Rattle.receiver.specs.Condition3.{plain, Condition3For}
 use Rattle.receiver.proofs.DeliveryLaws.{delivery-visits}
 use Rattle.receiver.proofs.ConditionLaws.{condition-3}

@@ -14,7 +14,7 @@ use Rattle.wire.proofs.Outputs.{length-put}
 use Rattle.moldudp64_messages.specs.declared.cursor.Cursor.{Cursor}
 use Rattle.moldudp64_messages.specs.Cursor.{located, advanced, advancedBy}
 use Rattle.receiver.specs.Delivery.{Visits}
-use Rattle.receiver.specs.Feed.{Datagram, Message}
+use Rattle.feed.specs.Session.{Datagram, Message}
 use Rattle.host_answers.specs.Answers.{orElse, short, flag}
 use Rattle.host_answers.proofs.AnswerLaws.{or-next}
 use Rattle.host_answers.proofs.PromiseLaws.{host-promises}

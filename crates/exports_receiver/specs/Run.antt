@@ -7,7 +7,8 @@ use mathlib.Core.Path.{_≡_}
 use lib.ListN.{length, getD, take, drop}
 use Rattle.wire.specs.Bytes.{AreBytes}
 use Rattle.receiver.specs.Delivery.{deliveryCursor}
-use Rattle.receiver.specs.Feed.{Datagram, Message, Session, OfKind, AllOfKind, lastOf, messagesFrom, after, delivered}
+use Rattle.feed.specs.Session.{Datagram, Message, Session, OfKind, AllOfKind, lastOf, messagesFrom}
+use Rattle.feed.specs.Machine.{after, delivered}
 use Rattle.receiver.specs.Condition3.{plain}
 use Rattle.host_cursor.specs.Cursor.{cursorSize}
 use Rattle.host_cursor.specs.Calls.{SetsCursor, NextMessage}

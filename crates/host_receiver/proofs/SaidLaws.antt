@@ -12,7 +12,7 @@ use Rattle.receiver.specs.declared.receiver.Receiver.{Receiver}
 use Rattle.receiver.specs.Table.{AnswerKind, deliver, old, quiet, ask, ended, Outcome, Row, data-reaches, data-below, heartbeat-below, heartbeat-at, any-above, end-at}
 use Rattle.receiver.specs.Receiver.{refusalFor, answerOf}
 use Rattle.receiver.specs.Delivery.{messagesDeliveredAt, messagesDelivered}
-use Rattle.receiver.specs.Feed.{Datagram}
+use Rattle.feed.specs.Session.{Datagram}
 use Rattle.receiver.proofs.Promises.{row-of, refused-answers}
 use Rattle.receiver.proofs.TableLaws.{row-answer}
 use Rattle.host_answers.specs.Answers.{padded, wordsAt, wordsOf, AnswersWith}

@@ -1,9 +1,12 @@
 -- Calls of `take` one after the other go the way of the receiver of the table, so condition 3 holds of what they return.
 use Prim.Native.Nat.{ℕ}
-use mathlib.Core.Path.{_≡_, refl, sym, _∙_}
+use mathlib.Core.Path.{_≡_, refl, sym, _∙_, subst}
 use mathlib.Core.List.{List}
 use Rattle.receiver.specs.declared.receiver.Receiver.{Receiver}
-use Rattle.receiver.specs.Feed.{Message, Datagram, Session, Faithful, after, delivered}
+use Rattle.feed.specs.Session.{Message, Datagram, Session}
+use Rattle.feed.specs.Machine.{after, delivered}
+use Rattle.feed.specs.Faithful.{Opens, Faithful}
+use Rattle.receiver.specs.Receiver.{refusalFor, startReceiver}
 use Rattle.receiver.specs.Condition3.{Condition3For, plain}
 use Rattle.receiver.specs.Calls.{Calls, none, call, StartCall, CallsDeliverTrue}
 use Rattle.receiver.proofs.ConditionLaws.{condition-3}
@@ -23,24 +26,27 @@ runs (call t c cs) =
       gives = rw (← c .1, ← c .0, i .gives);
     }
 
-start-faithful : (s : Session) (start : ℕ) (r : Receiver) → StartCall s start r → Faithful plain s start r
+start-faithful : (s : Session) (start : ℕ) (r : Receiver) (refused first : List Datagram) → StartCall s start r refused first → Faithful plain s start r refused first
 unfolding Condition3For
-start-faithful s start r c =
-    rw (c .leaves ∙ c .call .1) (condition-3 s start (c .limit) (sym (c .call .0) ∙ c .not-refused) (c .from-one) (c .to-past-last))
+start-faithful s start r refused first c =
+    let fresh : r ≡ startReceiver (c .name) start (c .limit) = c .leaves ∙ c .call .1 in
+    rw fresh
+    (condition-3 s (c .name) start (c .limit) refused first (sym (c .call .0) ∙ c .not-refused) (c .from-one) (c .to-past-last)
+    (subst (λ (x : Receiver). Opens s (c .name) (refusalFor x) refused first) fresh (c .opens)))
 
 pub calls-deliver-true : CallsDeliverTrue
 calls-deliver-true =
     record {
-      delivers-true = λ s start r x ds ms c all cs.
-          let f = start-faithful s start r c .delivers-true ds all in
+      delivers-true = λ s start r x refused first ds ms c all cs.
+          let f = start-faithful s start r refused first c .delivers-true ds all in
           let i = runs cs in
           record {
             from-start = rw (← i .ends-at) (f .from-start);
             to-last = rw (← i .ends-at) (f .to-last);
             exactly = rw (← i .gives, ← i .ends-at) (f .exactly);
           };
-      one-more = λ s start r x y before rest d ms ns c all o cs cs′.
-          let f = start-faithful s start r c .one-more before rest d all o in
+      one-more = λ s start r x y refused first before rest d ms ns c all o cs cs′.
+          let f = start-faithful s start r refused first c .one-more before rest d all o in
           let i = runs cs in
           let j = runs cs′ in
           record {

@@ -1,282 +1,76 @@
--- Condition 3 holds of the plain receiver: what one datagram of its kind does to it, and to two of which one is behind.
-use Prim.Native.Nat.{ℕ, _+_, _-_, _<_, _≤_}
+-- Condition 3 holds of the plain receiver: of one that has the session's name, and of one that learns it.
+use Prim.Native.Nat.{ℕ, _+_, _≤_}
 use mathlib.Core.Path.{_≡_, refl, sym, ap, _∙_}
-use mathlib.Core.List.{[]}
-use mathlib.Core.Bool.{Bool, true, false, true≢false}
-use native.Mathlib.Omega.{arith}
-use lib.ListN.{take, drop}
-use lib.Seq.{drop-at}
-use borrow.Author.Tests.{le-ltb}
+use mathlib.Core.List.{List, [], _∷_}
+use mathlib.Core.Bool.{false, true≢false}
+use lib.ListN.{take}
+use Rattle.wire.specs.Bounds.{blank}
 use Rattle.wire.specs.Words.{Words}
-use Rattle.wire.proofs.Cases.{below-or-not}
-use Rattle.moldudp64.specs.Header.{numberOf, countOf}
-use Rattle.moldudp64.specs.Downstream.{DownstreamKind, data-packet, heartbeat, end-of-session, kindOf, refusalOf, messagesOf}
+use Rattle.feed.specs.Session.{Datagram, Session, lastOf, All}
+use Rattle.feed.specs.Machine.{after, delivered}
+use Rattle.feed.specs.Faithful.{Opens, on-its-name, learns-it, Faithful}
+use Rattle.feed.proofs.FeedLaws.{first-of, rest-of, faithful, led}
 use Rattle.receiver.specs.declared.receiver.Receiver.{Receiver}
-use Rattle.receiver.specs.Table.{AnswerKind, Outcome, deliverOutcome, oldOutcome, quietOutcome, askOutcome, endedOutcome, table}
-use Rattle.receiver.specs.Receiver.{receiver, otherSession, endBelow, ownRefusal, refusalFor, tableRow, afterRow, answerOf, receiverAfter}
-use Rattle.receiver.specs.Delivery.{messagesDeliveredAt, messagesDelivered}
-use Rattle.receiver.specs.Feed.{Datagram, Session, lastOf, messagesFrom, OfKind}
-use Rattle.receiver.specs.Condition3.{plain, Condition3For, Condition3}
+use Rattle.receiver.specs.Table.{AnswerKind}
+use Rattle.receiver.specs.Receiver.{receiver, refusalFor, tableRow, afterRow, answerOf, receiverAfter}
+use Rattle.receiver.specs.Delivery.{messagesDelivered}
+use Rattle.receiver.specs.Condition3.{plain, Condition3For, Condition3, ChangesNothing, RefusedChangeNothing}
 use Rattle.receiver.proofs.StartLaws.{started}
-use Rattle.receiver.proofs.TableLaws.{refused-stays, row-answer, row-after}
-use Rattle.receiver.proofs.Promises.{row-above, row-reaches, row-below, row-beat-below, row-beat-at, row-end, refused-answers, ladder-bad, ladder-other, ladder-ended}
-use Rattle.receiver.proofs.FeedLaws.{join, length-from, none-from, Keeps, faithful}
-use Rattle.receiver.proofs.Sorts.{Named, TrueData, TrueEnd, Sort, is-bad, is-other, is-heartbeat, is-data, is-end, sort, data-begin, data-end, data-run, same-name}
+use Rattle.receiver.proofs.LadderLaws.{own-name}
+use Rattle.receiver.proofs.TableLaws.{row-answer, row-after, row-named}
+use Rattle.receiver.proofs.Promises.{also-open, receiver-promises}
+use Rattle.receiver.proofs.NamedLaws.{refusal-stays, Inv, Behind, keeps}
 
--- ---- what a datagram of each sort does to a receiver
+-- ---- a receiver that has the session's name, and one that learns it
 
--- nothing: it delivers none, and the receiver stays
-record Stays (r : Receiver) (d : Datagram) : Type 0 where
-  same : receiverAfter r d ≡ r
-  nothing : messagesDelivered (answerOf r d) d ≡ []
+module _ (s : Session) (start limit : ℕ) (named : s .name ≡ blank → ⊥) (h : 1 ≤ start) (l : start ≤ lastOf s + 1) where
+  abbrev fresh : Receiver
+  fresh = receiver (s .name) start limit false
 
--- a refusal
-refusal-stays : (r : Receiver) (d : Datagram) → (refusalFor r d ≡ 0 → ⊥) → Stays r d
-unfolding messagesDeliveredAt
-refusal-stays r d z = record { same = sym (refused-stays r d (refusalFor r d) refl z); nothing = rw (refused-answers r d z) }
+  on-name : Faithful plain s start fresh [] []
+  on-name =
+      faithful plain s (Inv s named) (Behind s named) (keeps s named) fresh
+      (record { name = refl; from-one = h; to-last = l; at-end = λ x. absurd (true≢false (sym x)) })
 
--- the ladder's rungs
+  abbrev unnamed : Receiver
+  unnamed = receiver blank start limit false
 
-bad-stays : (r : Receiver) (d : Datagram) → (refusalOf d ≡ 0 → ⊥) → Stays r d
-bad-stays r d z = refusal-stays r d (λ e. z (sym (ladder-bad r d z) ∙ e))
+  -- the naming datagram does to the unnamed receiver what it does to one of its name
+  module _ (d : Datagram) (e : refusalFor unnamed d ≡ 0) (n : take 10 d ≡ s .name) where
+    accepts-too : refusalFor fresh d ≡ 0
+    accepts-too = also-open unnamed fresh d e refl refl (own-name fresh d named n)
 
-other-stays : (r : Receiver) (d : Datagram) → refusalOf d ≡ 0 → (take 10 d ≡ r .session → ⊥) → Stays r d
-other-stays r d w z = let k = ladder-other r d w z in refusal-stays r d (λ e. omega arith)
+    same-after : receiverAfter unnamed d ≡ receiverAfter fresh d
+    same-after =
+        let name = receiver-promises .keeps-settings .learns unnamed d refl e .its-name ∙ n in
+        row-after unnamed d e ∙ ap (λ (x : List ℕ). afterRow (receiver x start limit false) (tableRow unnamed d)) (sym (ap (λ (x : Receiver). x .session) (row-after unnamed d e)) ∙ name)
+        ∙ sym (row-named fresh d named accepts-too)
 
-ended-stays : (r : Receiver) (d : Datagram) → refusalOf d ≡ 0 → take 10 d ≡ r .session → r .ended ≡ true → Stays r d
-ended-stays r d w n e = let k = ladder-ended r d w n e in refusal-stays r d (λ z. omega arith)
+    same-answer : answerOf unnamed d ≡ answerOf fresh d
+    same-answer = row-answer unnamed d e ∙ sym (row-answer fresh d accepts-too)
 
-ladder-open : (r : Receiver) (d : Datagram) → refusalOf d ≡ 0 → take 10 d ≡ r .session → r .ended ≡ false
-    → endBelow (kindOf d) (numberOf d) (r .next .0) ≡ false → refusalFor r d ≡ 0
-unfolding refusalFor ownRefusal otherSession
-ladder-open r d w n e b = rw (w, same-name (take 10 d) (r .session) n, e, b)
+refused-all : (r : Receiver) (ds : List Datagram) → All (λ d. refusalFor r d ≡ 0 → ⊥) ds → ChangesNothing r ds
+unfolding after delivered
+refused-all r [] a = record { stays = refl; nothing = refl }
+refused-all r (d ∷ ds) a =
+    let z = refusal-stays r d (first-of a) in
+    let rest = refused-all r ds (rest-of a) in
+    record { stays = rw (z .same) (rest .stays); nothing = rw (z .nothing, z .same) (rest .nothing) }
 
-not-below : (k : DownstreamKind) (f n : ℕ) → n ≤ f → endBelow k f n ≡ false
-unfolding endBelow
-not-below data-packet f n h = refl
-not-below heartbeat f n h = refl
-not-below end-of-session f n h = le-ltb _ _ h
-
-no-end : (k : DownstreamKind) (f n : ℕ) → (k ≡ end-of-session → ⊥) → endBelow k f n ≡ false
-unfolding endBelow
-no-end data-packet f n z = refl
-no-end heartbeat f n z = refl
-no-end end-of-session f n z = absurd (z refl)
-
--- rows that leave the receiver as it is and deliver nothing
-row-stays : (r : Receiver) (d : Datagram) (o : Outcome) → refusalFor r d ≡ 0 → tableRow r d ≡ o → afterRow r o ≡ r → messagesDelivered (o .reply) d ≡ [] → Stays r d
-row-stays r d o e f m g =
-    record {
-      same = row-after r d e ∙ ap (afterRow r) f ∙ m;
-      nothing = ap (λ (w : Words AnswerKind). messagesDelivered w d) (row-answer r d e ∙ ap (λ (x : Outcome). x .reply) f) ∙ g;
-    }
-
-ahead-stays : (r : Receiver) (d : Datagram) → refusalOf d ≡ 0 → take 10 d ≡ r .session → r .ended ≡ false → r .next .0 < numberOf d → Stays r d
-unfolding messagesDeliveredAt
-ahead-stays r d w n o h =
-    row-stays r d (askOutcome (r .limit .0) (r .next .0) (numberOf d)) (ladder-open r d w n o (not-below (kindOf d) _ _ (omega arith)))
-    (row-above (r .limit .0) (r .next .0) (numberOf d) (countOf d) (kindOf d) h) refl refl
-
-kind-row : (r : Receiver) (d : Datagram) (k : DownstreamKind) (o : Outcome) → kindOf d ≡ k → table (r .limit .0) (r .next .0) k (numberOf d) (countOf d) ≡ o → tableRow r d ≡ o
-kind-row r d k o e f = ap (λ (x : DownstreamKind). table (r .limit .0) (r .next .0) x (numberOf d) (countOf d)) e ∙ f
-
-heartbeat-end : (k : DownstreamKind) → k ≡ heartbeat → k ≡ end-of-session → ⊥
-heartbeat-end k e f = let z : _≡_ {A = ℕ} 0 1 = cc in omega arith
-
-data-end-not : (k : DownstreamKind) → k ≡ data-packet → k ≡ end-of-session → ⊥
-data-end-not k e f = let z : _≡_ {A = ℕ} 0 1 = cc in omega arith
-
-heartbeat-stays : (r : Receiver) (d : Datagram) → refusalOf d ≡ 0 → take 10 d ≡ r .session → r .ended ≡ false → kindOf d ≡ heartbeat → Stays r d
-unfolding messagesDeliveredAt
-heartbeat-stays r d w n o k =
-    let a = ladder-open r d w n o (no-end (kindOf d) _ _ (heartbeat-end (kindOf d) k)) in
-    below-or-not _ (r .next .0) (numberOf d) (λ h. ahead-stays r d w n o h)
-    (λ h.
-    below-or-not _ (numberOf d) (r .next .0)
-    (λ i. row-stays r d (oldOutcome (r .next .0)) a (kind-row r d heartbeat _ k (row-beat-below (r .limit .0) (r .next .0) (numberOf d) (countOf d) i)) refl refl)
-    (λ i.
-    let e : numberOf d ≡ r .next .0 = omega arith in
-    row-stays r d (quietOutcome (r .next .0)) a (kind-row r d heartbeat _ k (row-beat-at (r .limit .0) (r .next .0) (numberOf d) (countOf d) e)) refl refl))
-
-module _ (r : Receiver) (d : Datagram) (w : refusalOf d ≡ 0) (n : take 10 d ≡ r .session) (o : r .ended ≡ false) where
-  data-open : kindOf d ≡ data-packet → refusalFor r d ≡ 0
-  data-open k = ladder-open r d w n o (no-end (kindOf d) _ _ (data-end-not (kindOf d) k))
-
-  old-stays : kindOf d ≡ data-packet → numberOf d + countOf d ≤ r .next .0 → Stays r d
-  unfolding messagesDeliveredAt
-  old-stays k h =
-      row-stays r d (oldOutcome (r .next .0)) (data-open k) (kind-row r d data-packet _ k (row-below (r .limit .0) (r .next .0) (numberOf d) (countOf d) h)) refl refl
-
-  -- data that reaches n
-  module _ (k : kindOf d ≡ data-packet) (g : numberOf d ≤ r .next .0) (h : r .next .0 < numberOf d + countOf d) where
-    deliver-row : tableRow r d ≡ deliverOutcome (r .next .0) (numberOf d) (countOf d)
-    deliver-row = kind-row r d data-packet _ k (row-reaches (r .limit .0) (r .next .0) (numberOf d) (countOf d) g h)
-
-    take-moves : receiverAfter r d ≡ afterRow r (deliverOutcome (r .next .0) (numberOf d) (countOf d))
-    take-moves = row-after r d (data-open k) ∙ ap (afterRow r) deliver-row
-
-    take-delivers : messagesDelivered (answerOf r d) d ≡ drop (r .next .0 - numberOf d) (messagesOf d)
-    unfolding messagesDeliveredAt
-    take-delivers = ap (λ (x : Words AnswerKind). messagesDelivered x d) (row-answer r d (data-open k) ∙ ap (λ (x : Outcome). x .reply) deliver-row)
-
-  -- an end of session at n
-  module _ (k : kindOf d ≡ end-of-session) (e : numberOf d ≡ r .next .0) where
-    end-open : refusalFor r d ≡ 0
-    end-open = ladder-open r d w n o (not-below (kindOf d) _ _ (omega arith))
-
-    end-row : tableRow r d ≡ endedOutcome (r .next .0)
-    end-row = kind-row r d end-of-session _ k (row-end (r .limit .0) (r .next .0) (numberOf d) (countOf d) (omega arith))
-
-    take-ends : receiverAfter r d ≡ afterRow r (endedOutcome (r .next .0))
-    take-ends = row-after r d end-open ∙ ap (afterRow r) end-row
-
-    end-delivers : messagesDelivered (answerOf r d) d ≡ []
-    unfolding messagesDeliveredAt
-    end-delivers = ap (λ (x : Words AnswerKind). messagesDelivered x d) (row-answer r d end-open ∙ ap (λ (x : Outcome). x .reply) end-row)
-
--- ---- every datagram of the kind
-
-module _ (s : Session) where
-  -- what holds of the receiver at every datagram
-  pub record Inv (r : Receiver) : Type 0 where
-    pub name : r .session ≡ s .name
-    pub from-one : 1 ≤ r .next .0
-    pub to-last : r .next .0 ≤ lastOf s + 1
-    pub at-end : r .ended ≡ true → r .next .0 ≡ lastOf s + 1
-
-  -- q has got at least as far as r
-  pub record Behind (r q : Receiver) : Type 0 where
-    pub number : r .next .0 ≤ q .next .0
-    pub ended : r .ended ≡ true → q .ended ≡ true
-
-  ended-or-not : (P : Type 0) (r : Receiver) → (r .ended ≡ true → P) → (r .ended ≡ false → P) → P
-  ended-or-not P r f g = go (r .ended) refl
-    where
-      go : (b : Bool) → r .ended ≡ b → P
-      go true e = f e
-      go false e = g e
-
-  module _ (d : Datagram) where
-    -- true data at a receiver that it reaches delivers the session's messages from its number on
-    skipped : (t : TrueData s d) (r : Receiver) → Inv r → numberOf d ≤ r .next .0 → r .next .0 < numberOf d + countOf d
-        → drop (r .next .0 - numberOf d) (messagesOf d) ≡ messagesFrom s (r .next .0) (numberOf d + countOf d)
-    skipped t r i g h =
-        let some : 0 < countOf d = omega arith in
-        let b = data-begin s d t some in
-        rw (data-run s d t some, ← join s (numberOf d) (r .next .0) (numberOf d + countOf d) b g (omega arith))
-        (drop-at (messagesFrom s (numberOf d) (r .next .0)) _ _ (length-from s _ _ b g (i .to-last)))
-
-    -- what the datagram does to a receiver of the session
-    data Effect (r : Receiver) : Type 0 where
-      nothing : Stays r d → Effect r
-      delivers-now : TrueData s d → numberOf d ≤ r .next .0 → r .next .0 < numberOf d + countOf d → r .ended ≡ false
-          → receiverAfter r d ≡ afterRow r (deliverOutcome (r .next .0) (numberOf d) (countOf d))
-          → messagesDelivered (answerOf r d) d ≡ drop (r .next .0 - numberOf d) (messagesOf d) → Effect r
-      ends-now : TrueEnd s d → r .next .0 ≡ lastOf s + 1 → receiverAfter r d ≡ afterRow r (endedOutcome (r .next .0)) → messagesDelivered (answerOf r d) d ≡ [] → Effect r
-
-    module _ (r : Receiver) (i : Inv r) where
-      open-or : (n : Named s d) → (r .ended ≡ false → Effect r) → Effect r
-      open-or n f = ended-or-not _ r (λ e. nothing (ended-stays r d (n .well-formed) (n .name ∙ sym (i .name)) e)) f
-
-      effect-of : Sort s d → Effect r
-      effect-of (is-bad h) = nothing (bad-stays r d h)
-      effect-of (is-other w h) = nothing (other-stays r d w (λ q. h (q ∙ i .name)))
-      effect-of (is-heartbeat n k) = open-or n (λ o. nothing (heartbeat-stays r d (n .well-formed) (n .name ∙ sym (i .name)) o k))
-      effect-of (is-data t) =
-          let w = t .named .well-formed in
-          let n = t .named .name ∙ sym (i .name) in
-          let k = t .kind in
-          open-or (t .named)
-          (λ o.
-          below-or-not _ (r .next .0) (numberOf d) (λ h. nothing (ahead-stays r d w n o h))
-          (λ g.
-          below-or-not _ (r .next .0) (numberOf d + countOf d)
-          (λ h. delivers-now t g h o (take-moves r d w n o k g h) (take-delivers r d w n o k g h))
-          (λ h. nothing (old-stays r d w n o k h))))
-      effect-of (is-end t) =
-          let w = t .named .well-formed in
-          let n = t .named .name ∙ sym (i .name) in
-          let k = t .kind in
-          open-or (t .named)
-          (λ o.
-          below-or-not _ (r .next .0) (numberOf d) (λ h. nothing (ahead-stays r d w n o h))
-          (λ g.
-          let e : r .next .0 ≡ lastOf s + 1 = omega (arith, t .number, i .to-last) in
-          let f : numberOf d ≡ r .next .0 = omega (arith, t .number) in
-          ends-now t e (take-ends r d w n o k f) (end-delivers r d w n o k f)))
-
-      effect : OfKind s d → Effect r
-      effect o = effect-of (sort s d o)
-
-      kept-by : Effect r → Inv (receiverAfter r d)
-      kept-by (nothing z) = rw (z .same) i
-      kept-by (delivers-now t g h o e x) =
-          rw e
-          (record {
-            name = i .name;
-            from-one = omega (arith, i .from-one);
-            to-last = data-end s d t (omega arith);
-            at-end = λ y. absurd (true≢false (sym y ∙ o));
-          })
-      kept-by (ends-now t n e x) = rw e (record { name = i .name; from-one = i .from-one; to-last = i .to-last; at-end = λ y. n })
-
-      ahead-by : Effect r → Behind r (receiverAfter r d)
-      ahead-by (nothing z) = rw (z .same) (record { number = omega arith; ended = λ y. y })
-      ahead-by (delivers-now t g h o e x) = rw e (record { number = omega arith; ended = λ y. y })
-      ahead-by (ends-now t n e x) = rw e (record { number = omega arith; ended = λ y. refl })
-
-      exact-by : Effect r → messagesDelivered (answerOf r d) d ≡ messagesFrom s (r .next .0) (receiverAfter r d .next .0)
-      exact-by (nothing z) = rw (z .same) (z .nothing ∙ sym (none-from s (r .next .0)))
-      exact-by (delivers-now t g h o e x) = rw e (x ∙ skipped t r i g h)
-      exact-by (ends-now t n e x) = rw e (x ∙ sym (none-from s (r .next .0)))
-
-    -- ---- two receivers, the second at least as far as the first
-
-    further : (r q p : Receiver) → Behind r q → Behind q p → Behind r p
-    further r q p a b = record { number = omega arith; ended = λ x. b .ended (a .ended x) }
-
-    module _ (q : Receiver) (j : Inv q) where
-      -- data whose first message isn't above q's number takes q at least to its end
-      data-takes : TrueData s d → numberOf d ≤ q .next .0 → 0 < countOf d → numberOf d + countOf d ≤ receiverAfter q d .next .0
-      data-takes t g some =
-          let w = t .named .well-formed in
-          let n = t .named .name ∙ sym (j .name) in
-          ended-or-not _ q (λ x. rw (ended-stays q d w n x .same) (omega (arith, j .at-end x, data-end s d t some)))
-          (λ x.
-          below-or-not _ (q .next .0) (numberOf d + countOf d) (λ h. rw (take-moves q d w n x (t .kind) g h) (omega arith))
-          (λ h. rw (old-stays q d w n x (t .kind) h .same) h))
-
-      end-takes : TrueEnd s d → q .next .0 ≡ lastOf s + 1 → receiverAfter q d .ended ≡ true
-      end-takes t e =
-          let w = t .named .well-formed in
-          let n = t .named .name ∙ sym (j .name) in
-          ended-or-not _ q (λ x. rw (ended-stays q d w n x .same) x)
-          (λ x. rw (take-ends q d w n x (t .kind) (omega (arith, t .number))) refl)
-
-      behind-by : (r : Receiver) → Inv r → Behind r q → OfKind s d → Effect r → Behind (receiverAfter r d) (receiverAfter q d)
-      behind-by r i b o (nothing z) = rw (z .same) (further r q _ b (ahead-by q j (effect q j o)))
-      behind-by r i b o (delivers-now t g h f e x) =
-          rw e (record { number = data-takes t (omega arith) (omega arith); ended = λ y. absurd (true≢false (sym y ∙ f)) })
-      behind-by r i b o (ends-now t n e x) =
-          let m : q .next .0 ≡ lastOf s + 1 = omega arith in
-          rw e (record { number = omega (arith, ahead-by q j (effect q j o)); ended = λ y. end-takes t m })
-
-  keeps : Keeps plain s (OfKind s) Inv Behind
-  keeps =
-      record {
-        in-range = λ r i. (i .from-one, i .to-last);
-        kept = λ r d i o. kept-by d r i (effect d r i o);
-        rises = λ r d i o. ahead-by d r i (effect d r i o) .number;
-        exact = λ r d i o. exact-by d r i (effect d r i o);
-        ahead = λ r d i o. ahead-by d r i (effect d r i o);
-        still-behind = λ r q d i j b o. behind-by d q j r i b o (effect d r i o);
-        behind-number = λ r q b. b .number;
-        behind-ended = λ r q b. b .ended;
-      }
+pub refused-change-nothing : RefusedChangeNothing
+unfolding RefusedChangeNothing
+refused-change-nothing = refused-all
 
 pub condition-3 : Condition3
 unfolding Condition3For
-condition-3 s start limit e h l =
-    rw (started (s .name) start limit e)
-    (faithful plain s (Inv s) (Behind s) (keeps s) (receiver (s .name) start limit false)
-    (record { name = refl; from-one = h; to-last = l; at-end = λ x. absurd (true≢false (sym x)) }))
+condition-3 s name start limit refused first e h l o = rw (started name start limit e) (by-opening (rw (started name start limit e) at o))
+  where
+    by-opening : {refused first : List Datagram} → Opens s name (refusalFor (receiver name start limit false)) refused first
+        → Faithful plain s start (receiver name start limit false) refused first
+    by-opening (on-its-name b n) = rw n (on-name s start limit b h l)
+    by-opening (learns-it {refused} {d} b n a f m) =
+        let g = rw n at f in
+        let c = refused-all _ refused (rw n at a) in
+        rw n
+        (led plain s start (unnamed s start limit b h l) (fresh s start limit b h l) refused d (c .stays) (c .nothing) (same-after s start limit b h l d g m)
+        (ap (λ (x : Words AnswerKind). messagesDelivered x d) (same-answer s start limit b h l d g m)) (on-name s start limit b h l))

@@ -3,8 +3,7 @@ pub mod LadderLaws
 pub mod TableLaws
 pub mod ReadLaws
 pub mod Promises
-pub mod FeedLaws
-pub mod Sorts
+pub mod NamedLaws
 pub mod ConditionLaws
 pub mod CallLaws
 pub mod DeliveryLaws

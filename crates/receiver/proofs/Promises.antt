@@ -4,10 +4,12 @@ use mathlib.Core.List.{List, [], _∷_}
 use mathlib.Core.Bool.{Bool, true, false, true≢false}
 use Prim.Native.Nat.{ℕ, _+_, _≤_, _<_}
 use native.Mathlib.Omega.{arith}
-use lib.ListN.{take, getD}
+use lib.ListN.{length, take, getD}
 use lib.Dec.{eqb}
 use borrow.Author.Tests.{lt-ltb, le-ltb, ltb-false, eqb-true, eqb-false, ne-eqb}
 use Rattle.wire.specs.Choice.{if_then_else_}
+use Rattle.wire.specs.Bounds.{blank}
+use Rattle.wire.specs.Parts.{firstBytes}
 use Rattle.wire.specs.Words.{Case, Words, answer, refused, refuses, Injective}
 use Rattle.wire.proofs.Cases.{below-or-not, zero-or-not}
 use Rattle.wire.proofs.Words.{which-of, values-of, read-back}
@@ -20,11 +22,12 @@ use Rattle.receiver.specs.declared.receiver.Receiver.{Receiver}
 use Rattle.receiver.specs.declared.receiver.Answer.{Answer}
 use Rattle.receiver.specs.declared.receiver.Answer.the-variants.{Deliver, Old, Quiet, Ask, Ended, Refused}
 use Rattle.receiver.specs.Table.{AnswerKind, deliver, old, quiet, ask, ended, Outcome, Row, data-reaches, data-below, heartbeat-below, heartbeat-at, any-above, end-at, answerWords, askFor, deliverOutcome, oldOutcome, quietOutcome, askOutcome, endedOutcome, table}
-use Rattle.receiver.specs.Receiver.{receiverStartRefusal, otherSession, endBelow, ownRefusal, refusalFor, tableRow, answerOf, receiverAfter}
-use Rattle.receiver.specs.Statements.{FollowsTheTable, RequestExactlyWhen, RefusesOnceEnded, NumberNeverFalls, AskIsARequest, StaysGood, KeepsSettings, ReceiverPromises}
+use Rattle.receiver.specs.Receiver.{receiverStartRefusal, nameBy, otherSession, endBelow, ownRefusal, refusalFor, tableRow, answerOf, receiverAfter}
+use Rattle.receiver.specs.Statements.{FollowsTheTable, RequestExactlyWhen, RefusesOnceEnded, NumberNeverFalls, AskIsARequest, StaysGood, LearnsName, KeepsSettings, ReceiverPromises}
 use Rattle.receiver.proofs.StartLaws.{in-bounds, start-good}
-use Rattle.receiver.proofs.Sorts.{same-name, other-name}
-use Rattle.receiver.proofs.TableLaws.{refused-stays, row-answer, row-after}
+use Rattle.wire.proofs.Same.{alike}
+use Rattle.receiver.proofs.LadderLaws.{other-name, own-name, blank-other, blank-own, blank-named}
+use Rattle.receiver.proofs.TableLaws.{refused-stays, row-answer, row-after, row-named}
 
 -- ---- the table is its rows; at an end of session n isn't above f
 
@@ -82,19 +85,30 @@ open-so r l e = go (eqb (refusalOf l) 0) refl e
 pub well-read : (r : Receiver) (l : List ℕ) → refusalFor r l ≡ 0 → refusalOf l ≡ 0
 well-read r l e = open-so r l e .well
 
-own-none : (r : Receiver) (l : List ℕ) (t : Bool) → ownRefusal r l t ≡ 0 → (r .ended ≡ false) × (t ≡ false)
+record NoRung (r : Receiver) (l : List ℕ) (t : Bool) : Type 0 where
+  its-session : otherSession r l ≡ false
+  unended : r .ended ≡ false
+  no-end : t ≡ false
+
+own-none : (r : Receiver) (l : List ℕ) (t : Bool) → ownRefusal r l t ≡ 0 → NoRung r l t
 unfolding ownRefusal
-own-none r l t e = go (otherSession r l) (r .ended) t e
+own-none r l t e =
+    let g = go (otherSession r l) (r .ended) t e in
+    record { its-session = g .0; unended = g .1 .0; no-end = g .1 .1 }
   where
-    go : (b d t : Bool) → _≡_ {A = ℕ} (if b then 17 else if d then 18 else if t then 20 else 0) 0 → (d ≡ false) × (t ≡ false)
+    go : (b d t : Bool) → _≡_ {A = ℕ} (if b then 17 else if d then 18 else if t then 20 else 0) 0 → (b ≡ false) × ((d ≡ false) × (t ≡ false))
     go true d t z = absurd (omega arith)
     go false true t z = absurd (omega arith)
     go false false true z = absurd (omega arith)
-    go false false false z = (refl, refl)
+    go false false false z = (refl, (refl, refl))
+
+-- the name of a datagram that names
+pub names-it : (r : Receiver) (l : List ℕ) → refusalFor r l ≡ 0 → r .session ≡ blank → take 10 l ≡ blank → ⊥
+names-it r l e b = blank-named r l b (own-none r l _ (open-so r l e .own) .its-session)
 
 not-below : (r : Receiver) (l : List ℕ) → refusalFor r l ≡ 0 → kindOf l ≡ end-of-session → r .next .0 ≤ numberOf l
 unfolding endBelow
-not-below r l e k = ltb-false _ _ (rw k at (own-none r l _ (open-so r l e .own) .1))
+not-below r l e k = ltb-false _ _ (rw k at (own-none r l _ (open-so r l e .own) .no-end))
 
 pub row-of : (r : Receiver) (l : List ℕ) → refusalFor r l ≡ 0 → Row (r .limit .0) (r .next .0) (kindOf l) (numberOf l) (countOf l) (tableRow r l)
 row-of r l e = rows (r .limit .0) (r .next .0) (numberOf l) (countOf l) (kindOf l) (not-below r l e)
@@ -116,13 +130,25 @@ pub ladder-bad : (r : Receiver) (d : List ℕ) → (refusalOf d ≡ 0 → ⊥) �
 unfolding refusalFor
 ladder-bad r d z = rw (ne-eqb _ _ z)
 
-pub ladder-other : (r : Receiver) (d : List ℕ) → refusalOf d ≡ 0 → (take 10 d ≡ r .session → ⊥) → refusalFor r d ≡ 17
-unfolding refusalFor ownRefusal otherSession
-ladder-other r d w z = rw (w, other-name (take 10 d) (r .session) z)
+pub ladder-other : (r : Receiver) (d : List ℕ) → refusalOf d ≡ 0 → otherSession r d ≡ true → refusalFor r d ≡ 17
+unfolding refusalFor ownRefusal
+ladder-other r d w o = rw (w, o)
 
-pub ladder-ended : (r : Receiver) (d : List ℕ) → refusalOf d ≡ 0 → take 10 d ≡ r .session → r .ended ≡ true → refusalFor r d ≡ 18
-unfolding refusalFor ownRefusal otherSession
-ladder-ended r d w n e = rw (w, same-name (take 10 d) (r .session) n, e)
+pub ladder-ended : (r : Receiver) (d : List ℕ) → refusalOf d ≡ 0 → otherSession r d ≡ false → r .ended ≡ true → refusalFor r d ≡ 18
+unfolding refusalFor ownRefusal
+ladder-ended r d w o e = rw (w, o, e)
+
+pub ladder-open : (r : Receiver) (d : List ℕ) → refusalOf d ≡ 0 → otherSession r d ≡ false → r .ended ≡ false
+    → endBelow (kindOf d) (numberOf d) (r .next .0) ≡ false → refusalFor r d ≡ 0
+unfolding refusalFor ownRefusal
+ladder-open r d w o e b = rw (w, o, e, b)
+
+-- what is accepted by a receiver is accepted by one at the same number whose session it has
+pub also-open : (r q : Receiver) (d : List ℕ) → refusalFor r d ≡ 0 → q .next ≡ r .next → q .ended ≡ r .ended → otherSession q d ≡ false → refusalFor q d ≡ 0
+also-open r q d e n f o =
+    let w = open-so r d e in
+    let k = own-none r d _ (w .own) in
+    ladder-open q d (w .well) o (f ∙ k .unended) (rw n (k .no-end))
 
 -- ---- an ended receiver: one of these three rungs
 
@@ -130,7 +156,7 @@ ended-stays : (r : Receiver) (l : List ℕ) → r .ended ≡ true → receiverAf
 ended-stays r l e = zero-or-not _ (refusalFor r l) open-still (λ z. sym (refused-stays r l (refusalFor r l) refl z))
   where
     open-still : refusalFor r l ≡ 0 → receiverAfter r l ≡ r
-    open-still z = absurd (true≢false (sym e ∙ own-none r l _ (open-so r l z .own) .0))
+    open-still z = absurd (true≢false (sym e ∙ own-none r l _ (open-so r l z .own) .unended))
 
 by-ladder : (r : Receiver) (l : List ℕ) (k : ℕ) → refusalFor r l ≡ k → (k ≡ 0 → ⊥) → answerOf r l ≡ refuses k
 by-ladder r l k e z = rw (← e) (refused-answers r l (λ x. z (sym e ∙ x)))
@@ -139,8 +165,10 @@ refuses-once-ended : RefusesOnceEnded answerOf receiverAfter
 refuses-once-ended =
     record {
       not-well-formed = λ r l e z. by-ladder r l _ (ladder-bad r l z) z;
-      of-another-session = λ r l e w z. by-ladder r l _ (ladder-other r l w z) (λ x. omega arith);
-      of-its-session = λ r l e w n. by-ladder r l _ (ladder-ended r l w n e) (λ x. omega arith);
+      of-another-session = λ r l e b w z. by-ladder r l _ (ladder-other r l w (other-name r l b z)) (λ x. omega arith);
+      of-its-session = λ r l e b w n. by-ladder r l _ (ladder-ended r l w (own-name r l b n) e) (λ x. omega arith);
+      unnamed-to-blank = λ r l e b w n. by-ladder r l _ (ladder-other r l w (blank-other r l b n)) (λ x. omega arith);
+      unnamed-to-any-other = λ r l e b w z. by-ladder r l _ (ladder-ended r l w (blank-own r l b z) e) (λ x. omega arith);
       stays = ended-stays;
     }
 
@@ -181,9 +209,30 @@ ask-is-a-request r l from count g e = zero-or-not _ (refusalFor r l) good bad
     bad : (refusalFor r l ≡ 0 → ⊥) → requestGround from count ≡ 0
     bad z = let w = which-of (sym (refused-answers r l z) ∙ e) in let k : _≡_ {A = ℕ} 0 1 = cc in absurd (omega arith)
 
+-- ---- the settings
+
+-- a datagram that is read has ten bytes for a name
+first-ten : (l : List ℕ) → refusalOf l ≡ 0 → firstBytes 10 l ≡ take 10 l
+unfolding firstBytes
+first-ten l e = let h = sound l e .long in let i : 10 ≤ length l = omega arith in rw (le-ltb _ _ i)
+
+learns : (r : Receiver) (l : List ℕ) → r .session ≡ blank → refusalFor r l ≡ 0 → LearnsName (receiverAfter r l) l
+unfolding nameBy
+learns r l b e =
+    let n : receiverAfter r l .session ≡ take 10 l = rw (row-after r l e, alike (r .session) blank b) (first-ten l (well-read r l e)) in
+    record { its-name = n; not-blank = λ z. names-it r l e b (sym n ∙ z) }
+
+stays-so : (r : Receiver) (l : List ℕ) → (refusalFor r l ≡ 0 → ⊥) → receiverAfter r l ≡ r
+stays-so r l z = sym (refused-stays r l (refusalFor r l) refl z)
+
 keeps-settings : KeepsSettings receiverAfter
-keeps-settings r l =
-    zero-or-not _ (refusalFor r l) (λ e. rw (row-after r l e) (refl, refl)) (λ z. rw (← refused-stays r l (refusalFor r l) refl z) (refl, refl))
+keeps-settings =
+    record {
+      limit = λ r l. zero-or-not _ (refusalFor r l) (λ e. rw (row-after r l e) refl) (λ z. rw (stays-so r l z) refl);
+      name = λ r l b. zero-or-not _ (refusalFor r l) (λ e. rw (row-named r l b e) refl) (λ z. rw (stays-so r l z) refl);
+      refused = λ r l z. rw (stays-so r l z) refl;
+      learns = learns;
+    }
 
 -- ---- the number
 

@@ -9,6 +9,9 @@ use mir.Syntax.{w16, w64}
 use lib.Dec.{eqb}
 use borrow.Author.Tests.{lt-ltb, le-ltb, eqb-true, ne-eqb}
 use Rattle.wire.specs.Choice.{if_then_else_}
+use Rattle.wire.specs.Bounds.{blank}
+use Rattle.wire.proofs.Same.{different}
+use Rattle.wire.specs.Words.{Case, answer, refused}
 use Rattle.wire.specs.declared.refusal.Refusal.{Refusal}
 use Rattle.wire.specs.declared.kinds.SequenceNumber.{SequenceNumber}
 use Rattle.wire.specs.declared.kinds.MessageCount.{MessageCount}
@@ -22,7 +25,7 @@ use Rattle.receiver.specs.declared.receiver.Taken.{Taken}
 use Rattle.receiver.specs.declared.receiver.Answer.{Answer}
 use Rattle.receiver.specs.declared.receiver.Answer.the-variants.{Deliver, Old, Quiet, Ask, Ended, Refused}
 use Rattle.receiver.specs.Table.{answerWords, askOutcome, table, numbered}
-use Rattle.receiver.specs.Receiver.{receiver, refusalFor, tableRow, afterRow, answerOf, receiverAfter, refusalRead, rowReadAt, answerRead, afterRead, TakesRow}
+use Rattle.receiver.specs.Receiver.{receiver, nameBy, namedBy, refusalFor, tableRow, afterRow, answerOf, receiverAfter, refusalRead, rowReadAt, rowRead, answerRead, afterRead, TakesRow}
 
 abbrev stays : Receiver → Answer → Taken
 stays r a = record { answer = a; receiver = r }
@@ -95,7 +98,29 @@ pub end-now : (r m : Receiver) (f : ℕ) → f ≤ r .next .0 → m ≡ receiver
 unfolding table answerWords
 end-now r m f h e = rw (le-ltb _ _ h) (record { answers = refl; leaves = e })
 
--- ---- the answer by what was read: k is its refusal, p what was read
+-- ---- the row for what was read, p
+
+module _ (r : Receiver) (p : Downstream) (x : Taken) where
+  pub row-data : (n : SequenceNumber) (c : MessageCount) → p ≡ Data n c
+      → TakesRow x r (table (r .limit .0) (r .next .0) data-packet (n .0) (numbered (n .0) (c .0))) → TakesRow x r (rowRead r (downstreamWords p))
+  unfolding rowReadAt downstreamWords
+  row-data n c f t = rw f t
+
+  pub row-heartbeat : (n : SequenceNumber) → p ≡ Heartbeat n → TakesRow x r (table (r .limit .0) (r .next .0) heartbeat (n .0) 0) → TakesRow x r (rowRead r (downstreamWords p))
+  unfolding rowReadAt downstreamWords table
+  row-heartbeat n f t = rw f t
+
+  pub row-end-of-session : (n : SequenceNumber) → p ≡ EndOfSession n → TakesRow x r (table (r .limit .0) (r .next .0) end-of-session (n .0) 65535)
+      → TakesRow x r (rowRead r (downstreamWords p))
+  unfolding rowReadAt downstreamWords table
+  row-end-of-session n f t = rw f t
+
+-- a refusal of number 0 that was made up
+pub row-refused : (r : Receiver) (p : Downstream) (y : Refusal) → p ≡ found.Refused y → downstreamWords p .refusal ≡ 0 → TakesRow (stays r (Refused y)) r (rowRead r (downstreamWords p))
+unfolding answerWords rowReadAt downstreamWords
+row-refused r p y f z = let o : y .number ≡ 0 = rw f at z in rw f (record { answers = rw o; leaves = refl })
+
+-- ---- the answer by what was read: k is its refusal
 
 module _ (r : Receiver) (l : List ℕ) (p : Downstream) where
   pub refused-read : (x : Refusal) → x .number ≡ refusalRead r l (downstreamWords p) → (x .number ≡ 0 → ⊥)
@@ -108,52 +133,32 @@ module _ (r : Receiver) (l : List ℕ) (p : Downstream) where
   refused-kept k e z = rw (← e, ne-eqb _ _ z)
 
   module _ (k : ℕ) (g : k ≡ refusalRead r l (downstreamWords p)) (z : k ≡ 0) where
-    none : refusalRead r l (downstreamWords p) ≡ 0
-    none = sym g ∙ z
+    -- then the reader refused nothing
+    pub well-read : downstreamWords p .refusal ≡ 0
+    unfolding refusalRead
+    well-read = zero (downstreamWords p .refusal) _ (sym g ∙ z)
+      where
+        zero : (n m : ℕ) → (if eqb n 0 then m else n) ≡ 0 → n ≡ 0
+        zero n m e = go (eqb n 0) refl e
+          where
+            go : (t : Bool) → eqb n 0 ≡ t → (if t then m else n) ≡ 0 → n ≡ 0
+            go true d e = eqb-true _ _ d
+            go false d e = e
 
-    module _ (x : Taken) (n : SequenceNumber) (c : MessageCount) (f : p ≡ Data n c) (t : TakesRow x r (table (r .limit .0) (r .next .0) data-packet (n .0) (numbered (n .0) (c .0)))) where
-      pub data-answer : answerWords (x .answer) ≡ answerRead r l (downstreamWords p)
-      unfolding answerRead rowReadAt downstreamWords
-      data-answer = rw none (rw f (t .answers))
+    -- and the row is taken under the name that the datagram gives, which no row looks at
+    row-same : (c : Case DownstreamKind) → rowReadAt (namedBy r l) (downstreamWords p) c ≡ rowReadAt r (downstreamWords p) c
+    unfolding rowReadAt
+    row-same (answer c) = refl
+    row-same refused = refl
 
-      pub data-after : x .receiver ≡ afterRead r l (downstreamWords p)
-      unfolding afterRead rowReadAt downstreamWords
-      data-after = rw none (rw f (t .leaves))
+    module _ (q : Receiver) (x : Taken) (n : q ≡ namedBy r l) (t : TakesRow x q (rowRead q (downstreamWords p))) where
+      pub read-answer : answerWords (x .answer) ≡ answerRead r l (downstreamWords p)
+      unfolding answerRead
+      read-answer = rw (← g, z, ← row-same (downstreamWords p .which)) (rw n at (t .answers))
 
-    module _ (x : Taken) (n : SequenceNumber) (f : p ≡ Heartbeat n) (t : TakesRow x r (table (r .limit .0) (r .next .0) heartbeat (n .0) 0)) where
-      pub heartbeat-answer : answerWords (x .answer) ≡ answerRead r l (downstreamWords p)
-      unfolding answerRead rowReadAt downstreamWords table
-      heartbeat-answer = rw none (rw f (t .answers))
-
-      pub heartbeat-after : x .receiver ≡ afterRead r l (downstreamWords p)
-      unfolding afterRead rowReadAt downstreamWords table
-      heartbeat-after = rw none (rw f (t .leaves))
-
-    module _ (x : Taken) (n : SequenceNumber) (f : p ≡ EndOfSession n) (t : TakesRow x r (table (r .limit .0) (r .next .0) end-of-session (n .0) 65535)) where
-      pub end-answer : answerWords (x .answer) ≡ answerRead r l (downstreamWords p)
-      unfolding answerRead rowReadAt downstreamWords table
-      end-answer = rw none (rw f (t .answers))
-
-      pub end-after : x .receiver ≡ afterRead r l (downstreamWords p)
-      unfolding afterRead rowReadAt downstreamWords table
-      end-after = rw none (rw f (t .leaves))
-
-    -- a refusal of number 0 that was made up
-    module _ (y : Refusal) (f : p ≡ found.Refused y) where
-      pub found-answer : answerWords (Refused y) ≡ answerRead r l (downstreamWords p)
-      unfolding answerWords answerRead refusalRead rowReadAt downstreamWords
-      found-answer = let o : y .number ≡ 0 = zero (y .number) _ (rw f at none) in rw none (rw (f, o))
-        where
-          zero : (n m : ℕ) → (if eqb n 0 then m else n) ≡ 0 → n ≡ 0
-          zero n m e = go (eqb n 0) refl e
-            where
-              go : (t : Bool) → eqb n 0 ≡ t → (if t then m else n) ≡ 0 → n ≡ 0
-              go true d e = eqb-true _ _ d
-              go false d e = e
-
-      pub found-kept : r ≡ afterRead r l (downstreamWords p)
-      unfolding afterRead rowReadAt downstreamWords
-      found-kept = rw none (rw f)
+      pub read-after : x .receiver ≡ afterRead r l (downstreamWords p)
+      unfolding afterRead
+      read-after = rw (← g, z, ← row-same (downstreamWords p .which)) (rw n at (t .leaves))
 
 -- ---- the answer to a datagram, refused or not
 
@@ -165,6 +170,11 @@ pub row-answer : (r : Receiver) (l : List ℕ) → refusalFor r l ≡ 0 → answ
 unfolding answerOf
 row-answer r l e = rw e
 
-pub row-after : (r : Receiver) (l : List ℕ) → refusalFor r l ≡ 0 → receiverAfter r l ≡ afterRow r (tableRow r l)
+pub row-after : (r : Receiver) (l : List ℕ) → refusalFor r l ≡ 0 → receiverAfter r l ≡ afterRow (namedBy r l) (tableRow r l)
 unfolding receiverAfter
 row-after r l e = rw e
+
+-- one that has a name keeps it
+pub row-named : (r : Receiver) (l : List ℕ) → (r .session ≡ blank → ⊥) → refusalFor r l ≡ 0 → receiverAfter r l ≡ afterRow r (tableRow r l)
+unfolding nameBy
+row-named r l b e = row-after r l e ∙ rw (different (r .session) blank b)

@@ -5,8 +5,9 @@ use mathlib.Core.List.{List, [], _∷_, List·Memᴰ, List·Memᴰ·cases-cons, 
 use mathlib.Core.Logic.{⊎-elim}
 use mathlib.Core.Bool.{true, false}
 use native.Mathlib.Omega.{arith}
-use lib.ListN.{length, getD, replicate}
+use lib.ListN.{length, getD, take, replicate}
 use Rattle.wire.specs.Bytes.{number, bytes, sameBytes}
+use Rattle.wire.specs.Parts.{firstBytes}
 use Rattle.wire.proofs.Words.{which-of}
 use Rattle.moldudp64.specs.Header.{numberOf, countOf, header}
 use Rattle.moldudp64.specs.Blocks.{blockLength, fits, allFit, afterBlocks, messages, blocksRefusal, blocksOf}
@@ -15,14 +16,16 @@ use Rattle.moldudp64.specs.Written.{encoded, encodedEnd}
 use Rattle.receiver.specs.declared.receiver.Receiver.{Receiver}
 use Rattle.receiver.specs.Table.{Outcome, Row, data-reaches, data-below, heartbeat-below, heartbeat-at, any-above, end-at, deliverOutcome, table}
 use Rattle.wire.specs.Bounds.{blank}
-use Rattle.receiver.specs.Receiver.{receiver, otherSession, endBelow, ownRefusal, refusalFor, afterRow, receiverStartRefusal, startReceiver, answerOf, receiverAfter}
+use Rattle.receiver.specs.Receiver.{receiver, nameBy, otherSession, endBelow, ownRefusal, refusalFor, afterRow, receiverStartRefusal, startReceiver, answerOf, receiverAfter}
 use Rattle.receiver.proofs.StartLaws.{started}
 use Rattle.receiver.specs.Statements.{AnswerRule, StepRule}
 use Rattle.receiver.specs.Delivery.{messagesDeliveredAt, messagesDelivered}
-use Rattle.receiver.specs.Feed.{Datagram, Message, Session, lastOf, IsMessage, messagesFrom, OfKind, not-well-formed, another-name, any-heartbeat, true-data, true-end, AllOfKind, after, delivered, Faithful}
+use Rattle.feed.specs.Session.{Datagram, Message, Session, lastOf, IsMessage, messagesFrom, OfKind, not-well-formed, another-name, any-heartbeat, true-data, true-end, All, AllOfKind}
+use Rattle.feed.specs.Machine.{after, delivered}
+use Rattle.feed.specs.Faithful.{Opens, on-its-name, learns-it, Faithful}
 use Rattle.receiver.specs.Condition3.{machineOf, Condition3For}
-use Rattle.receiver.specs.Witnesses.{a, b, c, session, dataAt, heartbeatAt, endAt, fresh, feed, NotVacuous, staysPut, refusesAll, oldToAll, asksAlways, allAtOnce, movesPastAll, overlapOld, overlapStays, jumpDelivers, jumps, FollowsAtFirst, NotWeak}
-use Rattle.receiver.proofs.FeedLaws.{none-from, Keeps, faithful}
+use Rattle.receiver.specs.Witnesses.{name, a, b, c, session, dataAt, heartbeatAt, endAt, fresh, feed, unnamedFresh, otherName, endBelowIt, refusedFirst, naming, behindNaming, NotVacuous, staysPut, refusesAll, oldToAll, asksAlways, allAtOnce, movesPastAll, overlapOld, overlapStays, jumpDelivers, jumps, learnsRefused, answersAll, learnsTwice, FollowsAtFirst, NotWeak}
+use Rattle.feed.proofs.FeedLaws.{none-from, Keeps, faithful, led}
 
 -- ---- datagrams of the session
 
@@ -95,9 +98,66 @@ feed-true : AllOfKind session feed
 feed-true d m =
     in-front last-true (in-front two-true (in-front other-true (in-front heartbeat-true (in-front broken-true (in-front two-true (in-front end-true (in-front overlap-true (in-front end-true none)))))))) m
 
+-- ---- the blank start
+
+not-blank : session .name ≡ blank → ⊥
+not-blank e = let z : _≡_ {A = ℕ} 82 32 = ap (λ (l : List ℕ). getD l 0 0) e in omega arith
+
+naming-name : take 10 naming ≡ session .name
+unfolding number bytes header blocksOf encoded
+naming-name = refl
+
+naming-taken : refusalFor unnamedFresh naming ≡ 0
+unfolding number bytes header blocksOf encoded numberOf countOf kindOfCount blockCount blockLength fits allFit afterBlocks messages blocksRefusal refusalOf messagesOf sameBytes otherSession endBelow ownRefusal refusalFor
+naming-taken = refl
+
+end-refused : refusalFor unnamedFresh endBelowIt ≡ 0 → ⊥
+unfolding number bytes header encodedEnd numberOf countOf kindOfCount blockCount blockLength fits allFit afterBlocks messages blocksRefusal refusalOf messagesOf sameBytes otherSession endBelow ownRefusal refusalFor
+end-refused e = let z : _≡_ {A = ℕ} 20 0 = e in omega arith
+
+blank-refused : refusalFor unnamedFresh (encoded blank 1 (c ∷ [])) ≡ 0 → ⊥
+unfolding number bytes header blocksOf encoded numberOf countOf kindOfCount blockCount blockLength fits allFit afterBlocks messages blocksRefusal refusalOf messagesOf sameBytes otherSession endBelow ownRefusal refusalFor
+blank-refused e = let z : _≡_ {A = ℕ} 17 0 = e in omega arith
+
+broken-refused : refusalFor unnamedFresh (replicate 19 0) ≡ 0 → ⊥
+unfolding refusalOf refusalFor
+broken-refused e = let z : _≡_ {A = ℕ} 11 0 = e in omega arith
+
+abbrev IsRefused : Datagram → Type 0
+IsRefused d = refusalFor unnamedFresh d ≡ 0 → ⊥
+
+and-first : {x : Datagram} {xs : List Datagram} → IsRefused x → All IsRefused xs → All IsRefused (x ∷ xs)
+and-first o f d m = ⊎-elim (λ e. rw e o) (λ t. f d t) (List·Memᴰ·cases-cons m)
+
+and-none : All IsRefused []
+and-none d m = absurd (List·Memᴰ·not-nil m)
+
+first-refused : All IsRefused refusedFirst
+first-refused = and-first blank-refused (and-first broken-refused (and-first end-refused and-none))
+
+foreign-true : OfKind session (encoded otherName 2 (a ∷ []))
+unfolding header bytes blocksOf encoded
+foreign-true = another-name (λ e. let z : _≡_ {A = ℕ} 79 82 = ap (λ (l : List ℕ). getD l 0 0) e in omega arith)
+
+behind-true : AllOfKind session (naming ∷ behindNaming)
+behind-true d m = in-front heartbeat-true (in-front foreign-true (in-front two-true (in-front last-true (in-front end-true none)))) m
+
 pub not-vacuous : NotVacuous
-unfolding number bytes header blocksOf encoded encodedEnd numberOf countOf kindOfCount blockCount blockLength fits allFit afterBlocks messages blocksRefusal refusalOf messagesOf sameBytes otherSession endBelow ownRefusal refusalFor table answerOf receiverAfter messagesDeliveredAt after delivered receiverStartRefusal startReceiver
-not-vacuous = record { not-refused = refl; starts = refl; of-kind = feed-true; delivers = refl; ends = refl }
+unfolding number bytes header blocksOf encoded encodedEnd numberOf countOf kindOfCount blockCount blockLength fits allFit afterBlocks messages blocksRefusal refusalOf messagesOf sameBytes nameBy firstBytes otherSession endBelow ownRefusal refusalFor table answerOf receiverAfter messagesDeliveredAt after delivered receiverStartRefusal startReceiver
+not-vacuous =
+    record {
+      not-refused = refl;
+      starts = refl;
+      opens = on-its-name not-blank refl;
+      of-kind = feed-true;
+      delivers = refl;
+      ends = refl;
+      starts-blank = refl;
+      opens-blank = learns-it not-blank refl first-refused naming-taken naming-name;
+      of-kind-behind = behind-true;
+      delivers-behind = refl;
+      ends-behind = refl;
+    }
 
 -- ---- idle receivers: the receiver stays, and nothing is delivered
 
@@ -109,6 +169,17 @@ module _ (answers : AnswerRule) (nothing : (r : Receiver) (d : Datagram) → mes
   record NotAhead (r q : Receiver) : Type 0 where
     number-too : r .next .0 ≤ q .next .0
     ended-too : r .ended ≡ true → q .ended ≡ true
+
+  -- over any list
+  still : (r : Receiver) (ds : List Datagram) → after (machineOf answers staysPut) r ds ≡ r
+  unfolding after
+  still r [] = refl
+  still r (d ∷ ds) = still r ds
+
+  none-at-all : (r : Receiver) (ds : List Datagram) → delivered (machineOf answers staysPut) r ds ≡ []
+  unfolding delivered
+  none-at-all r [] = refl
+  none-at-all r (d ∷ ds) = rw (nothing r d) (none-at-all r ds)
 
   keeps : Keeps (machineOf answers staysPut) s (OfKind s) InRange NotAhead
   keeps =
@@ -125,10 +196,20 @@ module _ (answers : AnswerRule) (nothing : (r : Receiver) (d : Datagram) → mes
 
 idle : (answers : AnswerRule) → ((r : Receiver) (d : Datagram) → messagesDelivered (answers r d) d ≡ []) → Condition3For answers staysPut
 unfolding Condition3For
-idle answers nothing s start limit e h l =
-    rw (started (s .name) start limit e)
-    (faithful (machineOf answers staysPut) s (InRange answers nothing s) (NotAhead answers nothing s) (keeps answers nothing s) (receiver (s .name) start limit false)
-    (record { from-one = h; to-last = l }))
+idle answers nothing s name start limit refused first e h l o = rw (started name start limit e) (by-opening o)
+  where
+    r : Receiver
+    r = receiver name start limit false
+
+    of-kind : Faithful (machineOf answers staysPut) s start r [] []
+    of-kind =
+        faithful (machineOf answers staysPut) s (InRange answers nothing s) (NotAhead answers nothing s) (keeps answers nothing s) r (record { from-one = h; to-last = l })
+
+    by-opening : {refusal : Datagram → ℕ} {refused first : List Datagram} → Opens s name refusal refused first
+        → Faithful (machineOf answers staysPut) s start r refused first
+    by-opening (on-its-name b n) = of-kind
+    by-opening (learns-it {refused} {d} b n a f m) =
+        led (machineOf answers staysPut) s start r r refused d (still answers nothing s r refused) (none-at-all answers nothing s r refused) refl refl of-kind
 
 -- ---- the table at a fresh receiver and the first message
 
@@ -142,7 +223,7 @@ one-delivered limit n k f x o (end-at p q e) g h i = let z : _≡_ {A = ℕ} 0 1
 
 first-row : (answers : AnswerRule) (step : StepRule) → FollowsAtFirst answers step
     → (answers fresh (dataAt 1 (a ∷ [])) ≡ deliverOutcome 1 1 1 .reply) × (step fresh (dataAt 1 (a ∷ [])) ≡ afterRow fresh (deliverOutcome 1 1 1))
-unfolding number bytes header blocksOf encoded numberOf countOf kindOfCount
+unfolding number bytes header blocksOf encoded numberOf countOf kindOfCount sameBytes nameBy
 first-row answers step f =
     let e = one-delivered 100 1 data-packet 1 1 (f .outcome) (f .its-row) refl (omega arith) (omega arith) in
     (f .its-answer ∙ ap (λ (o : Outcome). o .reply) e, f .its-receiver ∙ ap (afterRow fresh) e)
@@ -152,9 +233,16 @@ first-row answers step f =
 one-of : (x : Datagram) → OfKind session x → AllOfKind session (x ∷ [])
 one-of x o d m = in-front o none m
 
-at-session : (answers : AnswerRule) (step : StepRule) → Condition3For answers step → Faithful (machineOf answers step) session 1 fresh
+at-session : (answers : AnswerRule) (step : StepRule) → Condition3For answers step → Faithful (machineOf answers step) session 1 fresh [] []
 unfolding Condition3For receiverStartRefusal startReceiver
-at-session answers step f = f session 1 100 refl (omega arith) (omega arith)
+at-session answers step f = f session name 1 100 [] [] refl (omega arith) (omega arith) (on-its-name not-blank refl)
+
+-- and of one that is started blank, and named by the heartbeat
+from-blank : (answers : AnswerRule) (step : StepRule) (refused : List Datagram) → All (λ d. refusalFor unnamedFresh d ≡ 0 → ⊥) refused → Condition3For answers step
+    → Faithful (machineOf answers step) session 2 unnamedFresh refused (naming ∷ [])
+unfolding Condition3For receiverStartRefusal startReceiver
+from-blank answers step refused all f =
+    f session blank 2 100 refused (naming ∷ []) refl (omega arith) (omega arith) (learns-it not-blank refl all naming-taken naming-name)
 
 never-moves-breaks : Condition3For answerOf staysPut → ⊥
 unfolding number bytes header blocksOf encoded numberOf countOf kindOfCount blockCount blockLength fits allFit afterBlocks messages blocksRefusal refusalOf messagesOf sameBytes otherSession endBelow ownRefusal refusalFor table answerOf messagesDeliveredAt after delivered messagesFrom
@@ -164,16 +252,34 @@ never-moves-breaks f =
     omega arith
 
 overlap-breaks : Condition3For overlapOld overlapStays → ⊥
-unfolding number bytes header blocksOf encoded numberOf countOf kindOfCount blockCount blockLength fits allFit afterBlocks messages blocksRefusal refusalOf messagesOf sameBytes otherSession endBelow ownRefusal refusalFor table answerOf receiverAfter messagesDeliveredAt after delivered
+unfolding number bytes header blocksOf encoded numberOf countOf kindOfCount blockCount blockLength fits allFit afterBlocks messages blocksRefusal refusalOf messagesOf sameBytes nameBy firstBytes otherSession endBelow ownRefusal refusalFor table answerOf receiverAfter messagesDeliveredAt after delivered
 overlap-breaks f =
     let w : 3 ≤ 2 = at-session overlapOld overlapStays f .one-more [] (dataAt 1 (a ∷ b ∷ c ∷ []) ∷ []) (dataAt 1 (a ∷ b ∷ [])) (one-of _ three-true) two-true .as-many in
     omega arith
 
 jump-breaks : Condition3For jumpDelivers jumps → ⊥
-unfolding number bytes header blocksOf encoded numberOf countOf kindOfCount blockCount blockLength fits allFit afterBlocks messages blocksRefusal refusalOf messagesOf sameBytes otherSession endBelow ownRefusal refusalFor table answerOf receiverAfter messagesDeliveredAt after delivered messagesFrom
+unfolding number bytes header blocksOf encoded numberOf countOf kindOfCount blockCount blockLength fits allFit afterBlocks messages blocksRefusal refusalOf messagesOf sameBytes nameBy firstBytes otherSession endBelow ownRefusal refusalFor table answerOf receiverAfter messagesDeliveredAt after delivered messagesFrom
 jump-breaks f =
     let e : c ∷ [] ≡ a ∷ b ∷ c ∷ [] = at-session jumpDelivers jumps f .delivers-true (dataAt 3 (c ∷ []) ∷ []) (one-of _ last-true) .exactly in
     let w : _≡_ {A = ℕ} 1 3 = ap length e in
+    omega arith
+
+-- the foreign message is delivered as the session's second, which has no bytes
+foreign-behind : AllOfKind session (naming ∷ encoded otherName 2 (a ∷ []) ∷ [])
+foreign-behind d m = in-front heartbeat-true (in-front foreign-true none) m
+
+learns-refused-breaks : Condition3For answerOf learnsRefused → ⊥
+unfolding number bytes header blocksOf encoded encodedEnd numberOf countOf kindOfCount blockCount blockLength fits allFit afterBlocks messages blocksRefusal refusalOf messagesOf sameBytes nameBy firstBytes otherSession endBelow ownRefusal refusalFor table answerOf receiverAfter messagesDeliveredAt after delivered messagesFrom
+learns-refused-breaks f =
+    let e : a ∷ [] ≡ b ∷ [] = from-blank answerOf learnsRefused (endBelowIt ∷ []) (and-first end-refused and-none) f .delivers-true (encoded otherName 2 (a ∷ []) ∷ []) foreign-behind .exactly in
+    let w : _≡_ {A = ℕ} 1 0 = ap (λ (l : List Message). length (getD l 0 [])) e in
+    omega arith
+
+learns-twice-breaks : Condition3For answersAll learnsTwice → ⊥
+unfolding number bytes header blocksOf encoded numberOf countOf kindOfCount blockCount blockLength fits allFit afterBlocks messages blocksRefusal refusalOf messagesOf sameBytes nameBy firstBytes otherSession endBelow ownRefusal refusalFor table answerOf receiverAfter messagesDeliveredAt after delivered messagesFrom
+learns-twice-breaks f =
+    let e : a ∷ [] ≡ b ∷ [] = from-blank answersAll learnsTwice [] and-none f .delivers-true (encoded otherName 2 (a ∷ []) ∷ []) foreign-behind .exactly in
+    let w : _≡_ {A = ℕ} 1 0 = ap (λ (l : List Message). length (getD l 0 [])) e in
     omega arith
 
 pub not-weak : NotWeak
@@ -190,4 +296,6 @@ not-weak =
       never-moves-breaks = never-moves-breaks;
       overlap-old-breaks = overlap-breaks;
       jumps-breaks = jump-breaks;
+      learns-refused-breaks = learns-refused-breaks;
+      learns-twice-breaks = learns-twice-breaks;
     }

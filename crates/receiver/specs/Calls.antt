@@ -8,9 +8,10 @@ use Rattle.receiver.specs.declared.receiver.Receiver.{Receiver}
 use Rattle.receiver.specs.declared.receiver.Started.{Started}
 use Rattle.receiver.specs.declared.receiver.Taken.{Taken}
 use Rattle.receiver.specs.Table.{answerWords}
-use Rattle.receiver.specs.Receiver.{Starts, Takes}
+use Rattle.receiver.specs.Receiver.{refusalFor, Starts, Takes}
 use Rattle.receiver.specs.Delivery.{messagesDelivered}
-use Rattle.receiver.specs.Feed.{Message, Datagram, Session, OfKind, AllOfKind, lastOf, messagesFrom}
+use Rattle.feed.specs.Session.{Message, Datagram, Session, OfKind, AllOfKind, lastOf, messagesFrom}
+use Rattle.feed.specs.Faithful.{Opens}
 
 -- calls of `take`: the first takes the receiver r, each later one the receiver that the call before returned; the last returned x,
 -- and ms are the messages that the answers deliver
@@ -20,13 +21,16 @@ pub data Calls : Receiver → List Datagram → Receiver → List Message → Ty
       → Calls (t .receiver) ds x ms
       → Calls r (d ∷ ds) x (messagesDelivered (answerWords (t .answer)) d ++ ms)
 
--- a call of `new` that returned the receiver r and no refusal, at a number from 1 to one past the session's last
-pub record StartCall (s : Session) (start : ℕ) (r : Receiver) : Type 0 where
+-- a call of `new` that returned the receiver r and no refusal, at a number from 1 to one past the session's last; it was
+-- given the session's name, or a blank one, and then lists begin with what it refuses and the first that names it
+pub record StartCall (s : Session) (start : ℕ) (r : Receiver) (refused first : List Datagram) : Type 0 where
+  pub name : List ℕ
   pub limit : ℕ
   pub returned : Started
-  pub call : Starts returned (s .name) start limit
+  pub call : Starts returned name start limit
   pub not-refused : returned .refusal .number ≡ 0
   pub leaves : r ≡ returned .receiver
+  pub opens : Opens s name (refusalFor r) refused first
   pub from-one : 1 ≤ start
   pub to-past-last : start ≤ lastOf s + 1
 
@@ -43,18 +47,18 @@ pub record NoWorse (x y : Receiver) (ms ns : List Message) : Type 0 where
   pub ended-too : x .ended ≡ true → y .ended ≡ true
 
 -- condition 3: the calls deliver exactly the true messages from the start number to just below the number of the
--- receiver that the last one returned; one more datagram at any place does no worse
+-- receiver that the last one returned; one more datagram at any place behind the first does no worse
 pub record CallsDeliverTrue : Type 0 where
-  pub delivers-true : (s : Session) (start : ℕ) (r x : Receiver) (ds : List Datagram) (ms : List Message)
-      → StartCall s start r
-      → AllOfKind s ds
-      → Calls r ds x ms
+  pub delivers-true : (s : Session) (start : ℕ) (r x : Receiver) (refused first ds : List Datagram) (ms : List Message)
+      → StartCall s start r refused first
+      → AllOfKind s (first ++ ds)
+      → Calls r (refused ++ (first ++ ds)) x ms
       → AreTrue s start x ms
-  pub one-more : (s : Session) (start : ℕ) (r x y : Receiver) (before rest : List Datagram) (d : Datagram)
+  pub one-more : (s : Session) (start : ℕ) (r x y : Receiver) (refused first before rest : List Datagram) (d : Datagram)
       (ms ns : List Message)
-      → StartCall s start r
-      → AllOfKind s (before ++ rest)
+      → StartCall s start r refused first
+      → AllOfKind s (first ++ (before ++ rest))
       → OfKind s d
-      → Calls r (before ++ rest) x ms
-      → Calls r (before ++ d ∷ rest) y ns
+      → Calls r (refused ++ (first ++ (before ++ rest))) x ms
+      → Calls r (refused ++ (first ++ (before ++ d ∷ rest))) y ns
       → NoWorse x y ms ns

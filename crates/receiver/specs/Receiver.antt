@@ -10,6 +10,7 @@ use Rattle.wire.specs.Refusals.{badSetting, sessionDiffers, sessionEnded, endBe
 use Rattle.wire.specs.Bounds.{leastNumber, largestNumber, leastLimit, largestLimit, sessionSize, blank}
 use Rattle.wire.specs.Words.{Words, Case, answer, refused, refuses}
 use Rattle.wire.specs.Bytes.{sameBytes}
+use Rattle.wire.specs.Parts.{firstBytes}
 use Rattle.moldudp64.specs.Header.{numberOf, countOf}
 use Rattle.moldudp64.specs.Downstream.{DownstreamKind, data-packet, heartbeat, end-of-session, kindOf, wellFormed}
 use Rattle.moldudp64.specs.Downstream.{refusalOf, downstreamOf}
@@ -43,11 +44,26 @@ unfoldable pub startReceiver : List ℕ → ℕ → ℕ → Receiver
 startReceiver name n limit =
     if eqb (receiverStartRefusal n limit) 0 then receiver name n limit false else refusedReceiver
 
+-- ---- the name
+
+-- a blank name is none yet
+abbrev pub unnamed : List ℕ → Bool
+unnamed name = sameBytes name blank
+
+-- the name by an accepted datagram l: where there was none, the one in front of it
+unfoldable pub nameBy : List ℕ → List ℕ → List ℕ
+nameBy name l = if unnamed name then firstBytes sessionSize l else name
+
+-- the receiver under that name
+abbrev pub namedBy : Receiver → List ℕ → Receiver
+namedBy r l = receiver (nameBy (r .session) l) (r .next .0) (r .limit .0) (r .ended)
+
 -- ---- a datagram l
 
--- the ground of 17: the session is another one
+-- the ground of 17: the session is another one, or a blank one where the receiver has no name yet
 unfoldable pub otherSession : Receiver → List ℕ → Bool
-otherSession r l = not (sameBytes (take sessionSize l) (r .session))
+otherSession r l =
+    if unnamed (r .session) then unnamed (take sessionSize l) else not (sameBytes (take sessionSize l) (r .session))
 
 -- the ground of 20: an end of session below the expected number
 unfoldable pub endBelow : DownstreamKind → ℕ → ℕ → Bool
@@ -85,11 +101,11 @@ afterRow r o = receiver (r .session) (o .next) (r .limit .0) (if o .ends then tr
 unfoldable pub answerOf : Receiver → List ℕ → Words AnswerKind
 answerOf r l = if accepted r l then tableRow r l .reply else refuses (refusalFor r l)
 
--- what it is then: a refusal leaves it as it was
+-- what it is then: named where it wasn't, and moved by the row; a refusal leaves it as it was
 unfoldable pub receiverAfter : Receiver → List ℕ → Receiver
-receiverAfter r l = if accepted r l then afterRow r (tableRow r l) else r
+receiverAfter r l = if accepted r l then afterRow (namedBy r l) (tableRow r l) else r
 
--- ---- the same by what a reader found, in its words w; l is the datagram whose session is compared. Anyone can make the
+-- ---- the same by what a reader found, in its words w; l is the datagram whose session is compared and taken. Anyone can make the
 -- words up, or take another datagram's: data then has as many messages as can be numbered
 
 -- the number and the count in them
@@ -124,7 +140,7 @@ answerRead r l w =
     if eqb (refusalRead r l w) 0 then rowRead r w .reply else refuses (refusalRead r l w)
 
 unfoldable pub afterRead : Receiver → List ℕ → Words DownstreamKind → Receiver
-afterRead r l w = if eqb (refusalRead r l w) 0 then afterRow r (rowRead r w) else r
+afterRead r l w = if eqb (refusalRead r l w) 0 then afterRow (namedBy r l) (rowRead r w) else r
 
 -- what a reader finds in a datagram is answered as the datagram is
 pub record ReadAsWhole : Type 0 where

@@ -4,7 +4,7 @@ use mathlib.Core.List.{List, [], _∷_}
 use mathlib.Core.Bool.{true}
 use mathlib.Core.Path.{_≡_}
 use lib.ListN.{take}
-use Rattle.wire.specs.Bounds.{sessionSize}
+use Rattle.wire.specs.Bounds.{sessionSize, blank}
 use Rattle.wire.specs.Refusals.{sessionDiffers, sessionEnded}
 use Rattle.wire.specs.Words.{Words, answer, says, refuses, Injective}
 use Rattle.moldudp64.specs.Header.{numberOf, countOf}
@@ -12,7 +12,7 @@ use Rattle.moldudp64.specs.Downstream.{kindOf, refusalOf}
 use Rattle.moldudp64.specs.Request.{requestGround}
 use Rattle.receiver.specs.declared.receiver.Receiver.{Receiver}
 use Rattle.receiver.specs.Table.{AnswerKind, ask, askFor, Outcome, Row, answerWords}
-use Rattle.receiver.specs.Receiver.{receiverStartRefusal, refusalFor, afterRow, answerOf, receiverAfter}
+use Rattle.receiver.specs.Receiver.{receiverStartRefusal, namedBy, refusalFor, afterRow, answerOf, receiverAfter}
 
 -- how a receiver answers
 abbrev pub AnswerRule : Type 0
@@ -27,12 +27,12 @@ pub record Refuses (answers : AnswerRule) (step : StepRule) (r : Receiver) (l : 
   pub its-number : answers r l ≡ refuses (refusalFor r l)
   pub unchanged : step r l ≡ r
 
--- a row of the table
+-- a row of the table, for the receiver that the datagram names where it had no name
 pub record Follows (answers : AnswerRule) (step : StepRule) (r : Receiver) (l : List ℕ) : Type 0 where
   pub outcome : Outcome
   pub its-row : Row (r .limit .0) (r .next .0) (kindOf l) (numberOf l) (countOf l) outcome
   pub its-answer : answers r l ≡ outcome .reply
-  pub its-receiver : step r l ≡ afterRow r outcome
+  pub its-receiver : step r l ≡ afterRow (namedBy r l) outcome
 
 -- at every receiver and datagram: the ladder's refusal with nothing changed, or the table's row
 pub record FollowsTheTable (answers : AnswerRule) (step : StepRule) : Type 0 where
@@ -62,19 +62,31 @@ abbrev pub StaysGood : StepRule → Type 0
 StaysGood step = (r : Receiver) (l : List ℕ) → receiverStartRefusal (r .next .0) (r .limit .0) ≡ 0
     → receiverStartRefusal (step r l .next .0) (step r l .limit .0) ≡ 0
 
--- no step changes the name or the limit
-abbrev pub KeepsSettings : StepRule → Type 0
-KeepsSettings step = (r : Receiver) (l : List ℕ) → (step r l .session ≡ r .session) × (step r l .limit ≡ r .limit)
+-- a blank name becomes the name of an accepted datagram, which isn't blank
+pub record LearnsName (x : Receiver) (l : List ℕ) : Type 0 where
+  pub its-name : x .session ≡ take sessionSize l
+  pub not-blank : x .session ≡ blank → ⊥
+
+-- the limit stays; the name changes once, from blank, by an accepted datagram
+pub record KeepsSettings (step : StepRule) : Type 0 where
+  pub limit : (r : Receiver) (l : List ℕ) → step r l .limit ≡ r .limit
+  pub name : (r : Receiver) (l : List ℕ) → (r .session ≡ blank → ⊥) → step r l .session ≡ r .session
+  pub refused : (r : Receiver) (l : List ℕ) → (refusalFor r l ≡ 0 → ⊥) → step r l .session ≡ r .session
+  pub learns : (r : Receiver) (l : List ℕ) → r .session ≡ blank → refusalFor r l ≡ 0 → LearnsName (step r l) l
 
 -- an ended receiver refuses every datagram and stays as it is: 11 to 16 where it isn't well-formed, 17 where it is of
--- another session, else 18
+-- another session, else 18; one without a name, as a refused start leaves it, 17 where the datagram's is blank, else 18
 pub record RefusesOnceEnded (answers : AnswerRule) (step : StepRule) : Type 0 where
   pub not-well-formed : (r : Receiver) (l : List ℕ) → r .ended ≡ true → (refusalOf l ≡ 0 → ⊥)
       → answers r l ≡ refuses (refusalOf l)
-  pub of-another-session : (r : Receiver) (l : List ℕ) → r .ended ≡ true → refusalOf l ≡ 0
+  pub of-another-session : (r : Receiver) (l : List ℕ) → r .ended ≡ true → (r .session ≡ blank → ⊥) → refusalOf l ≡ 0
       → (take sessionSize l ≡ r .session → ⊥) → answers r l ≡ refuses sessionDiffers
-  pub of-its-session : (r : Receiver) (l : List ℕ) → r .ended ≡ true → refusalOf l ≡ 0
+  pub of-its-session : (r : Receiver) (l : List ℕ) → r .ended ≡ true → (r .session ≡ blank → ⊥) → refusalOf l ≡ 0
       → take sessionSize l ≡ r .session → answers r l ≡ refuses sessionEnded
+  pub unnamed-to-blank : (r : Receiver) (l : List ℕ) → r .ended ≡ true → r .session ≡ blank → refusalOf l ≡ 0
+      → take sessionSize l ≡ blank → answers r l ≡ refuses sessionDiffers
+  pub unnamed-to-any-other : (r : Receiver) (l : List ℕ) → r .ended ≡ true → r .session ≡ blank → refusalOf l ≡ 0
+      → (take sessionSize l ≡ blank → ⊥) → answers r l ≡ refuses sessionEnded
   pub stays : (r : Receiver) (l : List ℕ) → r .ended ≡ true → step r l ≡ r
 
 -- what taking a datagram promises beside its answer

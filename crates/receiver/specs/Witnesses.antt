@@ -1,7 +1,7 @@
 -- Condition 3 speaks of something, and rules something out.
 use Prim.Native.Nat.{ℕ}
 use mathlib.Core.Path.{_≡_}
-use mathlib.Core.List.{List, [], _∷_}
+use mathlib.Core.List.{List, [], _∷_, _++_}
 use mathlib.Core.Bool.{Bool, true, false}
 use lib.ListN.{replicate}
 use lib.Dec.{ltb, eqb}
@@ -15,10 +15,12 @@ use Rattle.receiver.specs.declared.receiver.Receiver.{Receiver}
 use Rattle.receiver.specs.Table.{deliver, old, ask, deliverOutcome}
 use Rattle.wire.specs.Text.{ascii, readroom}
 use Rattle.wire.specs.Bounds.{blank}
-use Rattle.receiver.specs.Receiver.{receiver, accepted, afterRow, receiverStartRefusal, startReceiver, answerOf}
-use Rattle.receiver.specs.Receiver.{receiverAfter}
+use Rattle.receiver.specs.Receiver.{receiver, receiverStartRefusal, startReceiver, namedBy, refusalFor, accepted}
+use Rattle.receiver.specs.Receiver.{afterRow, answerOf, receiverAfter}
 use Rattle.receiver.specs.Statements.{AnswerRule, StepRule, Follows}
-use Rattle.receiver.specs.Feed.{Datagram, Message, Session, AllOfKind, after, delivered}
+use Rattle.feed.specs.Session.{Datagram, Message, Session, AllOfKind}
+use Rattle.feed.specs.Machine.{after, delivered}
+use Rattle.feed.specs.Faithful.{Opens}
 use Rattle.receiver.specs.Condition3.{plain, Condition3For}
 
 -- ---- a session of three messages, one of them empty, and datagrams of it
@@ -67,12 +69,45 @@ feed =
     ∷ endAt 4
     ∷ []
 
+-- ---- a receiver that is started blank, at number 2: what it refuses before it has a name, a blank session, broken
+-- bytes and an end below its number; the heartbeat that names it, at which it asks; and what follows
+
+abbrev pub unnamedFresh : Receiver
+unnamedFresh = receiver blank 2 100 false
+
+-- another session's name
+abbrev pub otherName : List ℕ
+otherName = ascii "OTHERROOM1"
+
+-- 20: an end of another session, below its number
+abbrev pub endBelowIt : Datagram
+endBelowIt = encodedEnd otherName 1
+
+abbrev pub refusedFirst : List Datagram
+refusedFirst = encoded blank 1 (c ∷ []) ∷ replicate 19 0 ∷ endBelowIt ∷ []
+
+abbrev pub naming : Datagram
+naming = heartbeatAt 9
+
+abbrev pub behindNaming : List Datagram
+behindNaming = encoded otherName 2 (a ∷ []) ∷ dataAt 1 (a ∷ b ∷ []) ∷ dataAt 3 (c ∷ []) ∷ endAt 4 ∷ []
+
+-- a list that begins so
+abbrev pub learnt : List Datagram
+learnt = refusedFirst ++ naming ∷ behindNaming
+
 pub record NotVacuous : Type 0 where
   pub not-refused : receiverStartRefusal 1 100 ≡ 0
   pub starts : startReceiver name 1 100 ≡ fresh
+  pub opens : Opens session name (refusalFor fresh) [] []
   pub of-kind : AllOfKind session feed
   pub delivers : delivered plain fresh feed ≡ a ∷ b ∷ c ∷ []
   pub ends : after plain fresh feed ≡ receiver name 4 100 true
+  pub starts-blank : startReceiver blank 2 100 ≡ unnamedFresh
+  pub opens-blank : Opens session blank (refusalFor unnamedFresh) refusedFirst (naming ∷ [])
+  pub of-kind-behind : AllOfKind session (naming ∷ behindNaming)
+  pub delivers-behind : delivered plain unnamedFresh learnt ≡ b ∷ c ∷ []
+  pub ends-behind : after plain unnamedFresh learnt ≡ receiver name 4 100 true
 
 -- ---- receivers that idle: they stay as they are, and deliver nothing
 
@@ -126,6 +161,22 @@ jumpDelivers r d = if ahead r d then says deliver (numberOf d ∷ countOf d ∷ 
 abbrev pub jumps : StepRule
 jumps r d = if ahead r d then afterRow r (deliverOutcome (numberOf d) (numberOf d) (countOf d)) else receiverAfter r d
 
+-- ---- receivers that learn the name wrongly
+
+-- learns it from a datagram that is refused
+abbrev pub learnsRefused : StepRule
+learnsRefused r d = if accepted r d then receiverAfter r d else namedBy r d
+
+-- learns it from each datagram anew, as if it never had one
+abbrev pub forgetsName : Receiver → Receiver
+forgetsName r = receiver blank (r .next .0) (r .limit .0) (r .ended)
+
+abbrev pub answersAll : AnswerRule
+answersAll r d = answerOf (forgetsName r) d
+
+abbrev pub learnsTwice : StepRule
+learnsTwice r d = receiverAfter (forgetsName r) d
+
 -- ---- what condition 3 lets through and what it stops
 
 -- the table's row at a fresh receiver and the first message
@@ -133,8 +184,8 @@ abbrev pub FollowsAtFirst : AnswerRule → StepRule → Type 0
 FollowsAtFirst answers step = Follows answers step fresh (dataAt 1 (a ∷ []))
 
 -- the idle receivers meet condition 3 and break the table's row at the first message; the one that claims everything
--- there breaks that row; the one that delivers and never moves its number, the one that calls an overlap old and the
--- one that jumps break condition 3
+-- there breaks that row; the one that delivers and never moves its number, the one that calls an overlap old, the one
+-- that jumps, and those that learn the name from a refused datagram, or twice, break condition 3
 pub record NotWeak : Type 0 where
   pub refuses-all : Condition3For refusesAll staysPut
   pub refuses-all-breaks : FollowsAtFirst refusesAll staysPut → ⊥
@@ -146,3 +197,5 @@ pub record NotWeak : Type 0 where
   pub never-moves-breaks : Condition3For answerOf staysPut → ⊥
   pub overlap-old-breaks : Condition3For overlapOld overlapStays → ⊥
   pub jumps-breaks : Condition3For jumpDelivers jumps → ⊥
+  pub learns-refused-breaks : Condition3For answerOf learnsRefused → ⊥
+  pub learns-twice-breaks : Condition3For answersAll learnsTwice → ⊥

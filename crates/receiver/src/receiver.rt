@@ -2,11 +2,13 @@
 use moldudp64::downstream;
 use moldudp64::downstream::Downstream;
 use moldudp64::header;
+use wire::compare;
 use wire::kinds;
 use wire::kinds::MessageCount;
 use wire::kinds::MessagePlace;
 use wire::kinds::SESSION_SIZE;
 use wire::kinds::SequenceNumber;
+use wire::parts;
 use wire::refusal;
 use wire::refusal::Refusal;
 ghost use mathlib.Core.Path.{_≡_};
@@ -14,10 +16,11 @@ ghost use Rattle.wire.specs.Refusals.{badSetting};
 ghost use Rattle.moldudp64.specs.Header.{endCount};
 ghost use Rattle.moldudp64.specs.Downstream.{data-packet, heartbeat, end-of-session, downstreamWords};
 ghost use Rattle.receiver.specs.Table.{askOutcome, table, numbered};
-ghost use Rattle.receiver.specs.Receiver.{receiver, refusedReceiver, ownRefusal, belowRead, refusalRead};
+ghost use Rattle.receiver.specs.Receiver.{receiver, refusedReceiver, unnamed, namedBy, otherSession};
+ghost use Rattle.receiver.specs.Receiver.{ownRefusal, belowRead, refusalRead, rowRead};
 ghost use Rattle.receiver.specs.Receiver.{ReadAsWhole, Starts, Takes, TakesRead, TakesRow};
 ghost use Rattle.receiver.specs.Statements.{ReceiverPromises};
-ghost use Rattle.receiver.specs.Condition3.{Condition3};
+ghost use Rattle.receiver.specs.Condition3.{Condition3, RefusedChangeNothing};
 ghost use Rattle.receiver.specs.Witnesses.{NotVacuous, NotWeak};
 ghost use Rattle.receiver.specs.Calls.{CallsDeliverTrue};
 
@@ -25,6 +28,7 @@ ghost use Rattle.receiver.specs.Calls.{CallsDeliverTrue};
 pub struct Receiver {
     // The number of the next message to deliver.
     pub next: SequenceNumber,
+    // The session's name; ten spaces until it is learned.
     pub session: [u8; SESSION_SIZE],
     // The most messages that one request asks for.
     pub limit: MessageCount,
@@ -88,10 +92,11 @@ impl Receiver {
 
     pub const LARGEST_LIMIT: MessageCount = kinds::LARGEST_LIMIT;
 
-    // A fresh receiver, or the refusal 19.
+    // A fresh receiver, or the refusal 19. A blank name, ten spaces, is learned from the first datagram that is accepted.
     pub fn new(session: [u8; SESSION_SIZE], next: SequenceNumber, limit: MessageCount) -> Started
         ensures { λ r. ⌜ Starts r session (next .0) (limit .0) ⌝ }
         ensures condition_3 { λ _. ⌜ Condition3 ⌝ }
+        ensures refused { λ _. ⌜ RefusedChangeNothing ⌝ }
         ensures not_vacuous { λ _. ⌜ NotVacuous ⌝ }
         ensures not_weak { λ _. ⌜ NotWeak ⌝ }
         ensures calls { λ _. ⌜ CallsDeliverTrue ⌝ }
@@ -119,6 +124,14 @@ impl Receiver {
         }
     }
 
+    // Whether its name is still to be learned.
+    pub fn is_unnamed(self) -> bool
+        ensures { λ r. ⌜ r ≡ unnamed (self .session) ⌝ }
+    {
+        let name = self.session;
+        compare::is_name(&name, kinds::BLANK)
+    }
+
     // Takes a datagram, with one walk over its blocks: the table works on what the reader found.
     pub fn take(self, datagram: &[u8]) -> Taken
         ensures { λ r. ⌜ Takes r self (now (datagram .entry)) ⌝ }
@@ -128,7 +141,7 @@ impl Receiver {
     }
 
     // The same by what was read, so that a caller can look at that before it has a receiver. It may be made up, or of
-    // another datagram than the one whose session is compared: condition 3 is about a datagram's own reading.
+    // another datagram than the one whose session is compared and taken: condition 3 is about a datagram's own reading.
     pub fn take_read(self, packet: Downstream, datagram: &[u8]) -> Taken
         ensures { λ r. ⌜ TakesRead r self (now (datagram .entry)) (downstreamWords packet) ⌝ }
         ensures as_whole { λ _. ⌜ ReadAsWhole ⌝ }
@@ -140,15 +153,7 @@ impl Receiver {
                 receiver: self,
             };
         }
-        match packet {
-            Downstream::Data { first, count } => self.take_data(first, count),
-            Downstream::Heartbeat { next } => self.take_heartbeat(next),
-            Downstream::EndOfSession { next } => self.take_end(next),
-            Downstream::Refused(r) => Taken {
-                answer: Answer::Refused(r),
-                receiver: self,
-            },
-        }
+        self.named_by(datagram).take_row(packet)
     }
 
     // What the reader refused, or 17, 18, 20, or 0. The session is compared once, for every kind of packet.
@@ -178,8 +183,7 @@ impl Receiver {
     fn own_refusal(self, datagram: &[u8], below: bool) -> Refusal
         ensures { λ r. ⌜ r .number ≡ ownRefusal self (now (datagram .entry)) below ⌝ }
     {
-        let name = self.session;
-        if !header::has_session(datagram, name) {
+        if self.is_other_session(datagram) {
             return refusal::SESSION_DIFFERS;
         }
         if self.ended {
@@ -189,6 +193,51 @@ impl Receiver {
             return refusal::END_BELOW_EXPECTED;
         }
         refusal::NONE
+    }
+
+    // Whether the datagram is of another session; without a name, whether its session is blank.
+    fn is_other_session(self, datagram: &[u8]) -> bool
+        ensures { λ r. ⌜ r ≡ otherSession self (now (datagram .entry)) ⌝ }
+    {
+        let name = self.session;
+        if header::has_session(datagram, name) {
+            self.is_unnamed()
+        } else {
+            !self.is_unnamed()
+        }
+    }
+
+    // The receiver under the datagram's name, where it has none yet: the one place where a name is learned.
+    fn named_by(self, datagram: &[u8]) -> Receiver
+        ensures { λ r. ⌜ r ≡ namedBy self (now (datagram .entry)) ⌝ }
+    {
+        if !self.is_unnamed() {
+            return self;
+        }
+        let next = self.next;
+        let limit = self.limit;
+        Receiver {
+            session: parts::ten(datagram),
+            next,
+            limit,
+            ended: self.ended,
+        }
+    }
+
+    // The row for what was read. A refusal of number 0, which no reader gives, is handed up.
+    fn take_row(self, packet: Downstream) -> Taken
+        requires { ⌜ downstreamWords packet .refusal ≡ 0 ⌝ }
+        ensures { λ r. ⌜ TakesRow r self (rowRead self (downstreamWords packet)) ⌝ }
+    {
+        match packet {
+            Downstream::Data { first, count } => self.take_data(first, count),
+            Downstream::Heartbeat { next } => self.take_heartbeat(next),
+            Downstream::EndOfSession { next } => self.take_end(next),
+            Downstream::Refused(r) => Taken {
+                answer: Answer::Refused(r),
+                receiver: self,
+            },
+        }
     }
 
     // The receiver with another number, and ended or not: the one place where the next receiver is made.

@@ -7,7 +7,7 @@ pub own-refusal-spec : {M : Type 1} → statement M
 own-refusal-spec =
     tie.close
     (tie.spec
-    (λ c κs. search ladder)  -- has-session-requires
+    (λ c κs. search ladder)  -- is-other-session-requires
     (λ c. search ladder)  -- returns
     (λ c. search ladder)  -- returns-2
     (λ c. search ladder)  -- returns-3

@@ -1,4 +1,4 @@
--- A refusal, or the row for what was read.
+-- A refusal, or the row for what was read, under the name that the datagram gives.
 use Rattle.receiver.proofs.ReadLaws.{read-as-whole}
 use Rattle.receiver.proofs.Rules.{takes}
 use Rattle.receiver.proofs.receiver.Receiver.take_read.Statement.{statement}
@@ -10,15 +10,7 @@ take-read-spec =
     (tie.spec
     (λ c κs. search takes)  -- refusal-for-requires
     (λ c. ((search takes, search takes), read-as-whole))  -- returns
-    (λ c. search takes)  -- enum-known-packet
-    (λ c κs. search takes)  -- take-data-requires
-    (λ c. search takes)  -- enum-known-packet-2
-    (λ c κs. search takes)  -- take-heartbeat-requires
-    (λ c. search takes)  -- enum-known-packet-3
-    (λ c κs. search takes)  -- take-end-requires
-    (λ c. search takes)  -- enum-known-packet-4
+    (λ c κs. search takes)  -- named-by-requires
+    (λ c κs. search takes)  -- take-row-requires
     (λ c. ((search takes, search takes), read-as-whole))  -- returns-2
-    (λ c. ((search takes, search takes), read-as-whole))  -- returns-3
-    (λ c. ((search takes, search takes), read-as-whole))  -- returns-4
-    (λ c. ((search takes, search takes), read-as-whole))  -- returns-5
     )

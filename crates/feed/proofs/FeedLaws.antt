@@ -1,13 +1,15 @@
 -- Condition 3 for any receiver that keeps an invariant and an order of its states: what is left to show is about one datagram.
 use Prim.Native.Nat.{ℕ, _+_, _-_, _≤_}
 use mathlib.Core.Path.{_≡_, refl, sym, ap, _∙_}
-use mathlib.Core.List.{List, [], _∷_, _++_, List·Memᴰ·head, List·Memᴰ·tail, List·Memᴰ·cases-cons, Memᴰ·append-left, Memᴰ·append-right}
+use mathlib.Core.List.{List, [], _∷_, _++_, append-assoc, List·Memᴰ·head, List·Memᴰ·tail, List·Memᴰ·cases-cons, Memᴰ·append-left, Memᴰ·append-right}
 use mathlib.Core.Logic.{⊎-elim}
 use mathlib.Core.Bool.{true}
 use native.Mathlib.Omega.{arith}
 use lib.ListN.{length, length-take, length-drop}
 use lib.Seq.{take-add, drop-drop}
-use Rattle.receiver.specs.Feed.{Datagram, Session, lastOf, messagesFrom, OfKind, All, AllOfKind, Machine, after, delivered, numberAfter, DeliversTrue, Faithful}
+use Rattle.feed.specs.Session.{Datagram, Session, lastOf, messagesFrom, OfKind, All, AllOfKind}
+use Rattle.feed.specs.Machine.{Machine, after, delivered, numberAfter}
+use Rattle.feed.specs.Faithful.{DeliversTrue, Faithful}
 
 -- The messages from a to b and those from b to c are those from a to c.
 module _ (s : Session) where
@@ -28,10 +30,10 @@ module _ (s : Session) where
 
 -- A list of one kind, taken apart and made longer.
 module _ {E : Type 0} {Kind : E → Type 0} where
-  first-of : {e : E} {es : List E} → All Kind (e ∷ es) → Kind e
+  pub first-of : {e : E} {es : List E} → All Kind (e ∷ es) → Kind e
   first-of a = a _ (List·Memᴰ·head refl)
 
-  rest-of : {e : E} {es : List E} → All Kind (e ∷ es) → All Kind es
+  pub rest-of : {e : E} {es : List E} → All Kind (e ∷ es) → All Kind es
   rest-of a x h = a x (List·Memᴰ·tail h)
 
   left-of : (p q : List E) → All Kind (p ++ q) → All Kind p
@@ -43,6 +45,18 @@ module _ {E : Type 0} {Kind : E → Type 0} where
   with-one : (p q : List E) {d : E} → All Kind (p ++ q) → Kind d → All Kind (p ++ d ∷ q)
   with-one [] q a o x h = ⊎-elim (λ e. rw e o) (λ t. a x t) (List·Memᴰ·cases-cons h)
   with-one (y ∷ p) q a o x h = ⊎-elim (λ e. rw e (first-of a)) (λ t. with-one p q (rest-of a) o x t) (List·Memᴰ·cases-cons h)
+
+-- A list after another.
+module _ {E : Type 0} (m : Machine E) where
+  after-append : (r : m .State) (p q : List E) → after m r (p ++ q) ≡ after m (after m r p) q
+  unfolding after
+  after-append r [] q = refl
+  after-append r (d ∷ p) q = after-append (m .step r d) p q
+
+  delivered-append : (r : m .State) (p q : List E) → delivered m r (p ++ q) ≡ delivered m r p ++ delivered m (after m r p) q
+  unfolding after delivered
+  delivered-append r [] q = refl
+  delivered-append r (d ∷ p) q = rw (delivered-append (m .step r d) p q) (sym (append-assoc (m .gives r d) _ _))
 
 -- What is to be shown of one step, and what follows for a list. Inv is what holds of the receiver at every step; Behind r q
 -- says that q has got at least as far as r.
@@ -58,11 +72,6 @@ module _ {E : Type 0} (m : Machine E) (s : Session) (Kind : E → Type 0) where
         Behind (m .step r d) (m .step q d)
     pub behind-number : (r q : m .State) → Behind r q → m .number r ≤ m .number q
     pub behind-ended : (r q : m .State) → Behind r q → m .ended r ≡ true → m .ended q ≡ true
-
-  after-append : (r : m .State) (p q : List E) → after m r (p ++ q) ≡ after m (after m r p) q
-  unfolding after
-  after-append r [] q = refl
-  after-append r (d ∷ p) q = after-append (m .step r d) p q
 
   module _ (Inv : m .State → Type 0) (Behind : m .State → m .State → Type 0) (k : Keeps Inv Behind) where
     pub inv-after : (r : m .State) (ds : List E) → Inv r → All Kind ds → Inv (after m r ds)
@@ -103,7 +112,7 @@ module _ {E : Type 0} (m : Machine E) (s : Session) (Kind : E → Type 0) where
     unfolding after
     behind-longer r i p q d a o =
         let j = inv-after r p i (left-of p q a) in
-        rw (after-append r p q, after-append r p (d ∷ q))
+        rw (after-append m r p q, after-append m r p (d ∷ q))
         (behind-after (after m r p) (m .step (after m r p) d) q j (k .kept _ d j o) (k .ahead _ d j o) (right-of p q a))
 
 -- Condition 3 for a receiver of datagrams.
@@ -123,7 +132,7 @@ module _ (m : Machine Datagram) (s : Session) (Inv : m .State → Type 0) (Behin
       let t = delivers-true r i ds a in
       ap length (t .exactly) ∙ length-from s _ _ (k .in-range r i .0) (t .from-start) (t .to-last)
 
-  pub faithful : (r : m .State) → Inv r → Faithful m s (m .number r) r
+  pub faithful : (r : m .State) → Inv r → Faithful m s (m .number r) r [] []
   faithful r i =
       record {
         delivers-true = delivers-true r i;
@@ -135,5 +144,39 @@ module _ (m : Machine Datagram) (s : Session) (Inv : m .State → Type 0) (Behin
             record {
               as-many = omega arith;
               ended-too = k .behind-ended _ _ b;
+            };
+      }
+
+-- A receiver that stays as it is over the refused, and of which the first makes what it makes of another one: condition 3 of
+-- that one is its own, from the first on.
+module _ (m : Machine Datagram) (s : Session) (start : ℕ) (r q : m .State) (refused : List Datagram) (d : Datagram)
+    (stays : after m r refused ≡ r) (nothing : delivered m r refused ≡ []) (step : m .step r d ≡ m .step q d)
+    (gives : m .gives r d ≡ m .gives q d) where
+  led-after : (ds : List Datagram) → after m r (refused ++ d ∷ ds) ≡ after m q (d ∷ ds)
+  unfolding after
+  led-after ds = after-append m r refused (d ∷ ds) ∙ rw (stays, step) refl
+
+  led-delivered : (ds : List Datagram) → delivered m r (refused ++ d ∷ ds) ≡ delivered m q (d ∷ ds)
+  unfolding delivered
+  led-delivered ds = delivered-append m r refused (d ∷ ds) ∙ rw (nothing, stays, step, gives) refl
+
+  pub led : Faithful m s start q [] [] → Faithful m s start r refused (d ∷ [])
+  led f =
+      record {
+        delivers-true = λ ds a.
+            let t = f .delivers-true (d ∷ ds) a in
+            let n = ap (m .number) (led-after ds) in
+            record {
+              from-start = rw n (t .from-start);
+              to-last = rw n (t .to-last);
+              exactly = led-delivered ds ∙ t .exactly ∙ ap (messagesFrom s start) (sym n);
+            };
+        one-more = λ before rest x a o.
+            let t = f .one-more (d ∷ before) rest x a o in
+            record {
+              as-many = rw (led-delivered (before ++ rest), led-delivered (before ++ x ∷ rest)) (t .as-many);
+              ended-too = λ e.
+                  ap (m .ended) (led-after (before ++ x ∷ rest))
+                  ∙ t .ended-too (sym (ap (m .ended) (led-after (before ++ rest))) ∙ e);
             };
       }

@@ -10,31 +10,21 @@ use lib.Dec.{eqb}
 use lib.Seq.{ext-getD, getD-take, getD-drop}
 use borrow.Author.Tests.{eqb-true, eqb-false}
 use Rattle.wire.specs.Bytes.{sameBytes}
-use Rattle.wire.proofs.Same.{same-equal, same-refl}
+use Rattle.wire.proofs.Same.{same-equal, alike}
 use Rattle.moldudp64.specs.Header.{numberOf, countOf}
 use Rattle.moldudp64.specs.Downstream.{data-packet, heartbeat, end-of-session, kindOf, refusalOf, messagesOf}
 use Rattle.moldudp64.proofs.DownstreamLaws.{count-sound, kind-blocks}
-use Rattle.receiver.specs.Feed.{Datagram, Message, Session, lastOf, IsMessage, messagesFrom, OfKind, not-well-formed, another-name, any-heartbeat, true-data, true-end}
-use Rattle.receiver.proofs.FeedLaws.{length-from}
+use Rattle.feed.specs.Session.{Datagram, Message, Session, lastOf, IsMessage, messagesFrom, OfKind, not-well-formed, another-name, any-heartbeat, true-data, true-end}
+use Rattle.feed.proofs.FeedLaws.{length-from}
 
 -- ---- two names
-
-pub same-name : (a b : List ℕ) → a ≡ b → sameBytes a b ≡ true
-same-name a b e = rw e (same-refl b)
-
-pub other-name : (a b : List ℕ) → (a ≡ b → ⊥) → sameBytes a b ≡ false
-other-name a b z = go (sameBytes a b) refl
-  where
-    go : (t : Bool) → sameBytes a b ≡ t → t ≡ false
-    go true e = absurd (z (same-equal a b e))
-    go false e = refl
 
 name-cases : (P : Type 0) (a b : List ℕ) → (a ≡ b → P) → ((a ≡ b → ⊥) → P) → P
 name-cases P a b f g = go (sameBytes a b) refl
   where
     go : (t : Bool) → sameBytes a b ≡ t → P
     go true e = f (same-equal a b e)
-    go false e = g (λ q. true≢false (sym (same-name a b q) ∙ e))
+    go false e = g (λ q. true≢false (sym (alike a b q) ∙ e))
 
 -- ---- a run of c messages that are the session's at their numbers, the first at f
 
