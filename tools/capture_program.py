@@ -17,7 +17,7 @@ ROOT = pathlib.Path(__file__).resolve().parent.parent
 sys.path.insert(0, str(ROOT / "tools" / "vectors"))
 
 from capture_rules import capture_text
-from captures import capture, lines
+from captures import BLANK, capture, lines
 from datagrams import LARGEST, data_of, end, heartbeat, packet
 
 PROGRAM = ROOT / "target" / "bin" / "capture_report"
@@ -57,6 +57,7 @@ def captures():
     yield "swapped", capture(*second, *first, *second)
     yield "the longest records", capture(*[LARGEST, b"x" * 65535] * 9)
     yield "refused settings", capture(*first, *second, start=lines(next=0))
+    yield "a blank session", capture(*first, *second, start=lines(session=BLANK))
 
 
 def from_file(data):

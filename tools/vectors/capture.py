@@ -14,7 +14,7 @@ from capture_rules import (
     capture_text,
     reading_text,
 )
-from captures import BAD_SETTINGS, GOOD_SETTINGS, capture, lines, record
+from captures import BAD_SETTINGS, BLANK, GOOD_SETTINGS, capture, lines, record
 from datagrams import FULLEST, LARGEST, REFUSED, ROOM, data_of, end, heartbeat, packet
 from lines import room
 from mold_rules import TOP, Receiver
@@ -124,7 +124,7 @@ def names(v):
     v.section("names")
     for name, session in (
         ("spaces and =", b" a = b==  "),
-        ("ten spaces", b" " * 10),
+        ("nine spaces and a letter", b"         a"),
         ("ten =", b"=" * 10),
         ("a key", b"session=se"),
         ("a mark of vectors", b"a|b |c||| "),
@@ -306,6 +306,22 @@ def reading(v):
     reader.feed(lines() + record(heartbeat(1)) + bytes(20))
     reader.finish(b"")
     reader.finish(lines())
+    v.heading("a blank session is bad: at a feed, whatever records follow, and at the end of the input")
+    blank = lines(BLANK)
+    for data in (blank + record(heartbeat(1, session=BLANK)), blank + record(data_of(1, 1)), lines(BLANK, TOP, 65534)):
+        reader.start()
+        reader.feed(data[:56], 0, "settings")
+        reader.feed(data, len(data), "refused")
+        reader.start()
+        assert reader.finish(data).stage == "refused"
+    for data in (blank, lines(BLANK, 0), lines(BLANK, limit=0), blank[:19]):
+        reader.start()
+        assert reader.finish(data).stage == "refused"
+    v.heading("nine spaces and a letter are a session")
+    reader.start()
+    nearly = lines(b"         R") + record(heartbeat(1, session=b"         R"))
+    reader.feed(nearly, len(nearly), "records")
+    assert reader.finish(b"").report.tally.quiet == 1
     v.heading("the end of the input tells settings of any length")
     for data in (b"", b"x", lines(), lines()[:-1], shortest + b"\x00", behind, behind[:-1], bad):
         reader.start()

@@ -26,8 +26,11 @@ GOOD_SETTINGS = [
     ("next at 2^64-2", lines(next=TOP - 1)),
     ("the longest settings", lines(next=TOP, limit=65534)),
     ("0x20 first, 0x7E last", lines(session=b" READROOM~")),
+    ("nine spaces and a letter", lines(session=b"         R")),
+    ("a letter and nine spaces", lines(session=b"R         ")),
 ]
 
+BLANK = b" " * 10
 FIRST, SECOND, THIRD = lines().splitlines(keepends=True)
 BAD_SETTINGS = [
     ("no bytes", b""),
@@ -109,6 +112,14 @@ BAD_SETTINGS = [
     ("0xFF in the name", lines(session=b"READ\xffOOM01")),
     ("a zero byte in the name", lines(session=b"READ\x00OOM01")),
     ("a tab in the name", lines(session=b"READ\tOOM01")),
+    ("a blank session", lines(session=BLANK)),
+    ("a blank session, the longest settings", lines(session=BLANK, next=TOP, limit=65534)),
+    ("a blank session and next 0", lines(session=BLANK, next=0)),
+    ("a blank session and limit 65535", lines(session=BLANK, limit=65535)),
+    ("a blank session and no numbers", lines(session=BLANK)[:19]),
+    ("nine spaces", lines(session=BLANK[:9])),
+    ("eleven spaces", lines(session=BLANK + b" ")),
+    ("ten zero bytes in the name", lines(session=bytes(10))),
     ("the first line feed missing", FIRST[:-1] + SECOND + THIRD),
     ("the second line feed missing", FIRST + SECOND[:-1] + THIRD),
     ("the third line feed missing", lines()[:-1]),

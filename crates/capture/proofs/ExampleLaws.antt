@@ -1,13 +1,14 @@
 -- The printed example, computed in parts: its settings, its records, the report from datagram to datagram, its text.
-use Prim.Native.Nat.{_≤_}
+use Prim.Native.Nat.{ℕ, _≤_}
 use mathlib.Core.Path.{_≡_, refl, ap, sym, _∙_}
 use mathlib.Core.List.{List, [], _∷_, append-nil, List·Memᴰ·cases-cons, List·Memᴰ·not-nil}
 use mathlib.Core.Logic.{⊎-elim}
 use mathlib.Core.Bool.{true, false}
 use native.Mathlib.Omega.{arith}
-use lib.ListN.{length, drop}
+use lib.ListN.{length, drop, getD}
 use lib.Seq.{drop-append-seam}
 use Rattle.wire.specs.Text.{readroom}
+use Rattle.wire.specs.Bounds.{blank}
 use Rattle.wire.specs.Bytes.{number, bytes, sameBytes}
 use Rattle.moldudp64.specs.Header.{numberOf, countOf, header}
 use Rattle.moldudp64.specs.Blocks.{blockLength, fits, allFit, afterBlocks, blocksRefusal, blocksOf}
@@ -40,6 +41,7 @@ good =
     record {
       ten-bytes = refl;
       printable = refl;
+      not-blank = λ (e : readroom ≡ blank). let k : _≡_ {A = ℕ} 82 32 = ap (λ (l : List ℕ). getD l 0 0) e in absurd (omega arith);
       number-least = omega arith;
       number-most = omega arith;
       limit-least = omega arith;

@@ -11,7 +11,8 @@ use mir.Val.{Fits}
 use mir.Syntax.{w64}
 use borrow.Author.Tests.{le-leb, lt-leb, lt-ltb, le-ltb, eq-eqb, ne-eqb}
 use Rattle.wire.specs.Choice.{if_then_else_}
-use Rattle.wire.specs.Bounds.{leastNumber, leastLimit, largestLimit, sessionSize}
+use Rattle.wire.specs.Bounds.{leastNumber, leastLimit, largestLimit, sessionSize, blank}
+use Rattle.wire.specs.Bytes.{sameBytes}
 use Rattle.wire.proofs.Numbers.{part-to-end}
 use Rattle.decimal.specs.Decimal.{withDigit}
 use Rattle.capture_settings.specs.declared.lines.Line.{Line}
@@ -122,9 +123,14 @@ module _ (l a : List ℕ) (z : Opened) (ea : a ≡ pastOf sessionKey l) where
     unfolding settingsOf nameLine
     name-unprintable n e = simp (← ea, lt-leb _ _ h, eq-eqb _ _ g, ← q, n) e
 
-    pub name-good : (name : List ℕ) → not p ≡ false → name ≡ firstBytes sessionSize a → z ≡ numbersOf name (take (length a - 11) (drop 11 a)) → z ≡ settingsOf l
-    unfolding settingsOf nameLine
-    name-good name n m e = simp (← ea, lt-leb _ _ h, eq-eqb _ _ g, ← q, n) (e ∙ rw (m, first-there 10 a (omega arith), part-to-end))
+    module _ (s : Bool) (n : not p ≡ false) (r : s ≡ sameBytes (take sessionSize a) blank) where
+      pub name-blank : s ≡ true → z ≡ refusedOpened → z ≡ settingsOf l
+      unfolding settingsOf nameLine
+      name-blank b e = simp (← ea, lt-leb _ _ h, eq-eqb _ _ g, ← q, n, ← r, b) e
+
+      pub name-good : (name : List ℕ) → s ≡ false → name ≡ firstBytes sessionSize a → z ≡ numbersOf name (take (length a - 11) (drop 11 a)) → z ≡ settingsOf l
+      unfolding settingsOf nameLine
+      name-good name b m e = simp (← ea, lt-leb _ _ h, eq-eqb _ _ g, ← q, n, ← r, b) (e ∙ rw (m, first-there 10 a (omega arith), part-to-end))
 
 pub ten-there : (l : List ℕ) → sessionSize < length l → sessionSize ≡ length (take sessionSize l)
 ten-there l h = sym (length-take-le 10 l (omega arith))

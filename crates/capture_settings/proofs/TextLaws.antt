@@ -1,7 +1,7 @@
 -- Good settings are read, nothing else is, and 57 bytes tell: first a number's line, then what stands before it.
 use mathlib.Core.Path.{_≡_, refl, ap, sym, _∙_}
 use mathlib.Core.List.{List, [], _∷_, _++_, append-assoc}
-use mathlib.Core.Bool.{Bool, true, false, not, _&&_}
+use mathlib.Core.Bool.{Bool, true, false, not, _&&_, true≢false}
 use Prim.Native.Nat.{ℕ, zero, suc, _+_, _-_, _≤_, _<_}
 use native.Mathlib.Omega.{arith}
 use lib.ListN.{length, take, drop, getD, length-append, take-append-drop}
@@ -9,7 +9,9 @@ use lib.Seq.{take-at, drop-at, take-append-le, append-snoc, getD-at, split-at, l
 use lib.Dec.{ltb, leb, eqb}
 use borrow.Author.Tests.{le-ltb, ltb-false, le-leb, lt-leb, leb-true, leb-false, eq-eqb, ne-eqb, eqb-true, eqb-false}
 use Rattle.wire.specs.Choice.{if_then_else_}
-use Rattle.wire.specs.Bounds.{leastNumber, largestNumber, leastLimit, largestLimit, sessionSize}
+use Rattle.wire.specs.Bytes.{sameBytes}
+use Rattle.wire.specs.Bounds.{leastNumber, largestNumber, leastLimit, largestLimit, sessionSize, blank}
+use Rattle.wire.proofs.Same.{same-refl, different}
 use Rattle.decimal.specs.Decimal.{isDigit, withDigit, digits, valueFrom, valueOf, areDigits}
 use Rattle.decimal.proofs.SpellLaws.{digit-so, are-so, value-grows, digits-one, digits-more, digits-first, length-digits, length-digits-below, spells-numbers}
 use Rattle.capture_settings.specs.declared.lines.Line.{Line}
@@ -308,13 +310,14 @@ record NameSo (l : List ℕ) : Type 0 where
   numbers : List ℕ
   ten-bytes : length name ≡ sessionSize
   printable : isPrintable name ≡ true
+  not-blank : name ≡ blank → ⊥
   text : l ≡ name ++ (lineFeed ∷ numbers)
   read : nameLine l ≡ numbersOf name numbers
 
-name-read : (name numbers : List ℕ) → length name ≡ sessionSize → isPrintable name ≡ true
+name-read : (name numbers : List ℕ) → length name ≡ sessionSize → isPrintable name ≡ true → (name ≡ blank → ⊥)
     → nameLine (name ++ (lineFeed ∷ numbers)) ≡ numbersOf name numbers
 unfolding nameLine
-name-read name numbers h p =
+name-read name numbers h p z =
     let n = length-append name (lineFeed ∷ numbers) in
     let a : 10 < length (name ++ (lineFeed ∷ numbers)) = omega arith in
     let g : getD (name ++ (lineFeed ∷ numbers)) 10 0 ≡ 10 = getD-at name lineFeed numbers 0 10 h in
@@ -322,7 +325,7 @@ name-read name numbers h p =
     let e : name ++ (lineFeed ∷ []) ++ numbers ≡ name ++ (lineFeed ∷ numbers) = append-snoc name lineFeed numbers in
     let m = length-append name (lineFeed ∷ []) in
     let d : drop 11 (name ++ (lineFeed ∷ numbers)) ≡ numbers = rw (← e) (drop-at (name ++ (lineFeed ∷ [])) numbers 11 (omega arith)) in
-    rw (lt-leb _ _ a, g, t, p, d)
+    rw (lt-leb _ _ a, g, t, p, different name blank z, d)
 
 module _ (l : List ℕ) where
   name-short : leb (length l) sessionSize ≡ true → nameLine l ≡ refusedOpened
@@ -338,28 +341,38 @@ module _ (l : List ℕ) where
   unfolding nameLine
   name-bad e f g = rw (e, f, g)
 
+  name-blank : leb (length l) sessionSize ≡ false → eqb (getD l sessionSize 0) lineFeed ≡ true → isPrintable (take sessionSize l) ≡ true
+      → sameBytes (take sessionSize l) blank ≡ true → nameLine l ≡ refusedOpened
+  unfolding nameLine
+  name-blank e f g h = rw (e, f, g, h)
+
   name-text : sessionSize < length l → getD l sessionSize 0 ≡ lineFeed → l ≡ take sessionSize l ++ (lineFeed ∷ drop 11 l)
   name-text h e = split-at l 10 0 h ∙ ap (λ (b : ℕ). take sessionSize l ++ (b ∷ drop 11 l)) e
 
   name-either : (P : Type 0) → (nameLine l ≡ refusedOpened → P) → (NameSo l → P) → P
-  name-either P bad good = go (leb (length l) sessionSize) (eqb (getD l sessionSize 0) lineFeed) (isPrintable (take sessionSize l)) refl refl refl
+  name-either P bad good =
+      go (leb (length l) sessionSize) (eqb (getD l sessionSize 0) lineFeed) (isPrintable (take sessionSize l)) (sameBytes (take sessionSize l) blank) refl refl refl refl
     where
-      go : (x y z : Bool) → leb (length l) sessionSize ≡ x → eqb (getD l sessionSize 0) lineFeed ≡ y → isPrintable (take sessionSize l) ≡ z → P
-      go true y z e f g = bad (name-short e)
-      go false false z e f g = bad (name-long e f)
-      go false true false e f g = bad (name-bad e f g)
-      go false true true e f g =
+      go : (x y z w : Bool) → leb (length l) sessionSize ≡ x → eqb (getD l sessionSize 0) lineFeed ≡ y → isPrintable (take sessionSize l) ≡ z
+          → sameBytes (take sessionSize l) blank ≡ w → P
+      go true y z w e f g h = bad (name-short e)
+      go false false z w e f g h = bad (name-long e f)
+      go false true false w e f g h = bad (name-bad e f g)
+      go false true true true e f g h = bad (name-blank e f g h)
+      go false true true false e f g h =
           let a : 10 < length l = leb-false _ _ e in
           let n : length (take 10 l) ≡ 10 = length-take-le 10 l (omega arith) in
           let t = name-text a (eqb-true _ _ f) in
+          let b : take 10 l ≡ blank → ⊥ = λ (i : take 10 l ≡ blank). true≢false (sym (rw i (same-refl blank)) ∙ h) in
           good
           (record {
             name = take 10 l;
             numbers = drop 11 l;
             ten-bytes = n;
             printable = g;
+            not-blank = b;
             text = t;
-            read = ap nameLine t ∙ name-read (take 10 l) (drop 11 l) n g;
+            read = ap nameLine t ∙ name-read (take 10 l) (drop 11 l) n g b;
           })
 
 -- ---- the whole
@@ -391,7 +404,7 @@ unfolding settingsOf
 reads name n limit rest g =
     let a = numbers-read n limit rest (g .number-least) (g .number-most) (g .limit-least) (g .limit-most) name in
     rw (text-shape name n limit rest, past-front sessionKey (name ++ (lineFeed ∷ numbersText n limit rest)), text-size name n limit (g .ten-bytes))
-    (name-read name (numbersText n limit rest) (g .ten-bytes) (g .printable) ∙ a)
+    (name-read name (numbersText n limit rest) (g .ten-bytes) (g .printable) (g .not-blank) ∙ a)
 
 -- good settings stand in front of l
 record GoodIn (l : List ℕ) : Type 0 where
@@ -420,6 +433,7 @@ good-in l s m =
           record {
             ten-bytes = s .ten-bytes;
             printable = s .printable;
+            not-blank = s .not-blank;
             number-least = m .least;
             number-most = m .most;
             limit-least = m .limit-least;

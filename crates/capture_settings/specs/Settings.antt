@@ -6,6 +6,7 @@ use lib.ListN.{length, take, drop, getD}
 use lib.Dec.{ltb, leb, eqb}
 use Rattle.wire.specs.Choice.{if_then_else_}
 use Rattle.wire.specs.Refusals.{badSetting}
+use Rattle.wire.specs.Bytes.{sameBytes}
 use Rattle.wire.specs.Text.{letter, ascii}
 use Rattle.wire.specs.Bounds.{leastNumber, largestNumber, leastLimit, largestLimit, sessionSize, blank}
 use Rattle.decimal.specs.Decimal.{isDigit, withDigit}
@@ -101,12 +102,13 @@ numbersOf name l =
       size = fixedSize + nextLine l .size + limitLine l .size;
     }
 
--- the name after its key: ten printable bytes and a line feed
+-- the name after its key: ten printable bytes, not all of them spaces, and a line feed
 unfoldable pub nameLine : List ℕ → Opened
 nameLine l =
     if leb (length l) sessionSize then refusedOpened
     else if not (eqb (getD l sessionSize 0) lineFeed) then refusedOpened
     else if not (isPrintable (take sessionSize l)) then refusedOpened
+    else if sameBytes (take sessionSize l) blank then refusedOpened
     else numbersOf (take sessionSize l) (drop (sessionSize + 1) l)
 
 -- the settings at the front of l, or their refusal

@@ -4,7 +4,7 @@ use mathlib.Core.List.{List, [], _∷_, _++_}
 use mathlib.Core.Bool.{true}
 use mathlib.Core.Path.{_≡_}
 use lib.ListN.{length, drop}
-use Rattle.wire.specs.Bounds.{leastNumber, largestNumber, leastLimit, largestLimit, sessionSize}
+use Rattle.wire.specs.Bounds.{leastNumber, largestNumber, leastLimit, largestLimit, sessionSize, blank}
 use Rattle.decimal.specs.Decimal.{digits}
 use Rattle.capture_settings.specs.Settings.{sessionKey, nextKey, limitKey, lineFeed, isPrintable, settings}
 use Rattle.capture_settings.specs.Settings.{fixedSize, settingsOf}
@@ -21,6 +21,7 @@ settingsText name n limit = line sessionKey name ++ line nextKey (digits n) ++ l
 pub record Good (name : List ℕ) (n limit : ℕ) : Type 0 where
   pub ten-bytes : length name ≡ sessionSize
   pub printable : isPrintable name ≡ true
+  pub not-blank : name ≡ blank → ⊥
   pub number-least : leastNumber ≤ n
   pub number-most : n ≤ largestNumber
   pub limit-least : leastLimit ≤ limit

@@ -1,5 +1,6 @@
 // The settings of a capture, read strictly: no carriage return, sign, space, empty number or leading zero.
 use crate::lines;
+use wire::compare;
 use wire::kinds;
 use wire::kinds::MessageCount;
 use wire::kinds::SESSION_SIZE;
@@ -89,7 +90,11 @@ pub fn read(bytes: &[u8]) -> Opened
     if a[SESSION_SIZE] != lines::LINE_FEED {
         return refused();
     }
-    if !lines::is_printable(&a[..SESSION_SIZE]) {
+    let name = &a[..SESSION_SIZE];
+    if !lines::is_printable(name) {
+        return refused();
+    }
+    if compare::is_name(name, kinds::BLANK) {
         return refused();
     }
     numbers(parts::ten(a), &a[SESSION_SIZE + 1..])

@@ -58,6 +58,10 @@ pub false-or-true : (t : Bool) → (t ≡ true → ⊥) → false ≡ t
 false-or-true true f = absurd (f refl)
 false-or-true false f = refl
 
+-- lists that differ haven't the same bytes
+pub different : (a b : List ℕ) → (a ≡ b → ⊥) → sameBytes a b ≡ false
+different a b z = sym (false-or-true (sameBytes a b) (λ e. z (same-equal a b e)))
+
 -- ---- a whole name: t is what comparing the first ten bytes gave
 
 module _ (l m : List ℕ) where

@@ -73,13 +73,14 @@ fn every_cut_is_reported_alike() {
 #[test]
 fn settings_at_the_edge_are_reported_alike() {
     let good = [
-        "session=          \nnext=18446744073709551615\nlimit=65534\n",
+        "session=         ~\nnext=18446744073709551615\nlimit=65534\n",
         "session=~'\"\\~~~~~~\nnext=1\nlimit=1\n",
     ];
     for settings in good {
         assert!(compare(settings.as_bytes()).starts_with("session="));
     }
     let bad = [
+        "session=          \nnext=1\nlimit=1\n",
         "session=READROOM0\nnext=1\nlimit=1\n",
         "session=READROOM001\nnext=1\nlimit=1\n",
         "session=READROOM0\x7f\nnext=1\nlimit=1\n",

@@ -59,11 +59,13 @@ pub fn settings(random: &mut Random, feed: &Feed) -> Vec<u8> {
     text
 }
 
-/// A feed whose name can stand in settings.
+/// A feed whose name can stand in settings; now and then it is blank or any other, which can't.
 pub fn feed(random: &mut Random) -> Feed {
     let mut feed = Feed::new(random);
-    if !random.one_in(20) {
-        feed.name = random.pick(&[*b"READROOM01", *b"          ", *b"~room=01 ~"]);
+    match random.below(20) {
+        0 => {}
+        1 => feed.name = *b"          ",
+        _ => feed.name = random.pick(&[*b"READROOM01", *b"         R", *b"~room=01 ~"]),
     }
     feed
 }

@@ -1,7 +1,7 @@
-//! Document 01, "The capture program": settings, records, report.
+//! Document 01, "The capture program": settings, records, report; and order 12's rule of the session.
 
 use super::receiver::{Answer, Receiver};
-use super::Name;
+use super::{text, Name};
 
 pub const MOST_RECORDS: u32 = u32::MAX;
 
@@ -178,6 +178,9 @@ fn record(bytes: &[u8]) -> Option<&[u8]> {
 fn settings(rest: &mut &[u8]) -> Option<Receiver> {
     literal(rest, b"session=")?;
     let session = printable_name(rest)?;
+    if text::is_blank(&session) {
+        return None;
+    }
     literal(rest, b"\nnext=")?;
     let next = number_line(rest)?;
     literal(rest, b"limit=")?;

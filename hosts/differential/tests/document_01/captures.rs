@@ -78,6 +78,29 @@ fn capture_settings() {
         .starts_with("session= ROOM = ~~\nnext=18446744073709551615\nended=no\n"));
 }
 
+/// Order 12: ten spaces are no session of a capture. Nine and a letter are.
+#[test]
+fn a_blank_session() {
+    let refused = "settings=refused\n";
+    let blank = example(&SETTINGS.replace("READROOM01", "          "));
+    let bytes = blank.as_slice();
+    assert_eq!(report(bytes), refused);
+    let started = ask(&Call::CaptureStart, &[0; 71]).state;
+    let fed = ask(&Call::CaptureFeed { bytes }, &started);
+    assert_eq!(fed.words[..2], [bytes.len() as u64, 1]);
+    let finished = ask(&Call::CaptureFinish { bytes }, &started);
+    for state in [fed.state, finished.state] {
+        assert_eq!(state[..2], [0, 0]);
+        let written = ask(&Call::CaptureWrite, &state);
+        assert_eq!(
+            written.out[..written.words[0] as usize],
+            *refused.as_bytes()
+        );
+    }
+    let named = SETTINGS.replace("READROOM01", "         R");
+    assert!(report(named.as_bytes()).starts_with("session=         R\nnext=1\nended=no\n"));
+}
+
 /// The same capture in two pieces, cut at every place.
 #[test]
 fn the_capture_in_pieces() {

@@ -10,7 +10,7 @@ pub fn read(bytes: &[u8]) -> Option<(Receiver, usize)> {
     let (session, rest) = bytes.strip_prefix(b"session=")?.split_first_chunk()?;
     let (next, rest) = number(rest.strip_prefix(b"\nnext=")?)?;
     let (limit, rest) = number(rest.strip_prefix(b"limit=")?)?;
-    if !session.iter().all(|byte| matches!(byte, b' '..=b'~')) {
+    if !session.iter().all(|byte| matches!(byte, b' '..=b'~')) || *session == [b' '; 10] {
         return None;
     }
     let limit = u16::try_from(limit).ok()?;

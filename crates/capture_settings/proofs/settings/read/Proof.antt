@@ -14,15 +14,18 @@ read-spec =
     (λ c. search opening)  -- shared-slice-read-if2
     (λ c κs. search opening)  -- refused-requires-2
     (λ c. search opening)  -- returns-2
-    (λ c. search opening)  -- slice-aggregate-is-printable
+    (λ c. search opening)  -- slice-aggregate-name
     (λ c κs. search opening)  -- is-printable-requires
     (λ c κs. search opening)  -- refused-requires-3
     (λ c. search opening)  -- returns-3
+    (λ c κs. search opening)  -- is-name-requires
+    (λ c κs. search opening)  -- refused-requires-4
+    (λ c. search opening)  -- returns-4
     (λ c κs. search opening)  -- ten-requires
     (λ c. search opening)  -- add-numbers
     (λ c. search opening)  -- sub-numbers
     (λ c. search opening)  -- part-numbers-start
     (λ c. search opening)  -- part-numbers-end
     (λ c κs. search opening)  -- numbers-requires
-    (λ c. search opening)  -- returns-4
+    (λ c. search opening)  -- returns-5
     )
