@@ -47,13 +47,6 @@ same-refl (a ∷ l) = simp (eq-eqb a a refl) (same-refl l)
 pub alike : (a b : List ℕ) → a ≡ b → sameBytes a b ≡ true
 alike a b e = rw e (same-refl b)
 
-pub different : (a b : List ℕ) → (a ≡ b → ⊥) → sameBytes a b ≡ false
-different a b z = go (sameBytes a b) refl
-  where
-    go : (t : Bool) → sameBytes a b ≡ t → t ≡ false
-    go true e = absurd (z (same-equal a b e))
-    go false e = refl
-
 pub false-or-true : (t : Bool) → (t ≡ true → ⊥) → false ≡ t
 false-or-true true f = absurd (f refl)
 false-or-true false f = refl
