@@ -23,7 +23,7 @@ use Rattle.capture.proofs.FoldLaws.{stage-at, over-stage}
 use Rattle.host_answers.specs.Answers.{orElse, short, flag, AnswersWith}
 use Rattle.host_answers.proofs.AnswerLaws.{or-none, rung-own, not-answered}
 use Rattle.host_states.specs.States.{onCode, nameAt}
-use Rattle.host_states.proofs.StateLaws.{name-ten}
+use Rattle.wire.proofs.PartLaws.{name-ten}
 use Rattle.host_receiver.specs.Receiver.{receiverSize, receiverIn}
 use Rattle.host_capture.specs.Reading.{readingSize, receiverAt, refusedReading, readingIn, KeepsReading}
 use Rattle.host_capture.proofs.ReadingLaws.{reading-short, reading-not}

@@ -18,7 +18,7 @@ use Rattle.host_answers.specs.Answers.{orElse, short, stateLadder}
 use Rattle.host_answers.proofs.AnswerLaws.{or-first, or-next, or-short-no, short-yes, no-success}
 use Rattle.host_states.specs.States.{onCode, nameIn}
 use Rattle.host_receiver.specs.Receiver.{receiverSize, receiverIn, KeepsReceiver}
-use Rattle.host_receiver.proofs.TakenLaws.{not-taken, taken-answer, taken-there, taken-ladder}
+use Rattle.host_receiver.proofs.TakenLaws.{not-taken, taken-answer, taken-left, taken-ladder}
 use Rattle.exports_deliver.specs.Calls.{DeliversDatagram, BlocksThere, LaysAnswer}
 use Rattle.exports_deliver.proofs.FindLaws.{found-there}
 
@@ -67,11 +67,11 @@ module _ (d : List ℕ) (p : Downstream) (e : downstreamWords p ≡ downstreamOf
 
   pub delivers-datagram : (r code : ℕ) (m ws ws′ ps ps′ : List ℕ) → receiverSize ≤ length l → LaysAnswer code (answerWords (t .answer)) d ws ws′ ps ps′
       → t .receiver ≡ afterRead x d (downstreamWords p) → r ≡ orElse code (short (ltb (length l) receiverSize))
-      → KeepsReceiver (onCode r) l m (receiver (nameIn l) (t .receiver .next .0) (t .receiver .limit .0) (t .receiver .ended))
+      → KeepsReceiver (onCode r) l m (t .receiver)
       → DeliversDatagram r l m d ws ws′ ps ps′
   unfolding short
   delivers-datagram r code m ws ws′ ps ps′ room y h b kept =
       let one : r ≡ code = b ∙ rw (le-ltb (length l) receiverSize room) (sym (or-short-no code)) in
       let said : LaysAnswer code (answerOf (receiverIn l) d) d ws ws′ ps ps′ = rw answered at y in
       let ladder = taken-ladder d l p e x is t (answerOf (receiverIn l) d .refusal) well room g (sym (refusal-of answered)) in
-      record { answers = rw (one, ← ladder) (said .answers); places = rw one (said .places); keeps = rw (taken-there d l p e x is t room h) at kept }
+      record { answers = rw (one, ← ladder) (said .answers); places = rw one (said .places); keeps = rw (taken-left d l p e x is t h) at kept }

@@ -17,7 +17,7 @@ use Rattle.moldudp64.specs.Blocks.{blocksOf, blockLength, fits, allFit, afterBl
 use Rattle.moldudp64.specs.Downstream.{kindOfCount, blockCount, refusalOf}
 use Rattle.moldudp64.specs.Written.{encoded}
 use Rattle.receiver.specs.Table.{table}
-use Rattle.receiver.specs.Receiver.{otherSession, endBelow, ownRefusal, refusalFor, answerOf, receiverAfter}
+use Rattle.receiver.specs.Receiver.{nameBy, otherSession, endBelow, ownRefusal, refusalFor, answerOf, receiverAfter}
 use Rattle.host_answers.specs.Answers.{orElse, short, onSuccess, padded, wordsAt}
 use Rattle.host_states.specs.Little.{little, littleBytes}
 use Rattle.host_states.specs.States.{isOpen, openByte, frontBytes}
@@ -49,7 +49,7 @@ noWords = 0 ∷ 0 ∷ 0 ∷ 0 ∷ []
 -- places of any length, which is never computed
 module _ (ps : List ℕ) (room : mostPlaces ≤ length ps) where
   refused-call : DeliverCall atOne (0 ∷ []) atOne []
-  unfolding bytes header blocksOf encoded number sameBytes firstBytes numberOf countOf blockLength fits allFit afterBlocks blocksRefusal kindOfCount blockCount refusalOf table otherSession endBelow ownRefusal refusalFor answerOf receiverAfter orElse short onSuccess padded wordsAt little littleBytes isOpen openByte frontBytes receiverBytes receiverIn answerNumber put placesAt placesDeliveredAt noWords
+  unfolding bytes header blocksOf encoded number sameBytes firstBytes numberOf countOf blockLength fits allFit afterBlocks blocksRefusal kindOfCount blockCount refusalOf table nameBy otherSession endBelow ownRefusal refusalFor answerOf receiverAfter orElse short onSuccess padded wordsAt little littleBytes isOpen openByte frontBytes receiverBytes receiverIn answerNumber put placesAt placesDeliveredAt noWords
   refused-call =
       record {
         are-bytes = are-small (0 ∷ []) refl;
@@ -75,7 +75,7 @@ module _ (ps : List ℕ) (room : mostPlaces ≤ length ps) where
       rw (front-laid ps two 4 refl (omega (arith, room))) at g
 
   deliver-laid : DeliversDatagram 0 atOne atThree twoMessages noWords (1 ∷ 1 ∷ 2 ∷ 0 ∷ []) ps (put ps 0 two)
-  unfolding bytes header blocksOf encoded number sameBytes firstBytes numberOf countOf blockLength fits allFit afterBlocks blocksRefusal kindOfCount blockCount refusalOf table otherSession endBelow ownRefusal refusalFor answerOf receiverAfter orElse short onSuccess padded wordsAt little littleBytes isOpen openByte frontBytes receiverBytes receiverIn answerNumber put placesAt placesDeliveredAt noWords two
+  unfolding bytes header blocksOf encoded number sameBytes firstBytes numberOf countOf blockLength fits allFit afterBlocks blocksRefusal kindOfCount blockCount refusalOf table nameBy otherSession endBelow ownRefusal refusalFor answerOf receiverAfter orElse short onSuccess padded wordsAt little littleBytes isOpen openByte frontBytes receiverBytes receiverIn answerNumber put placesAt placesDeliveredAt noWords two
   deliver-laid =
       record {
         answers = record { returns = rw (le-ltb (length ps) 4 (omega (arith, room))); words = refl };
@@ -100,7 +100,7 @@ module _ (ps : List ℕ) (room : mostPlaces ≤ length ps) where
       }
 
   old-call : DeliverCall atThree twoMessages atThree []
-  unfolding bytes header blocksOf encoded number sameBytes firstBytes numberOf countOf blockLength fits allFit afterBlocks blocksRefusal kindOfCount blockCount refusalOf table otherSession endBelow ownRefusal refusalFor answerOf receiverAfter orElse short onSuccess padded wordsAt little littleBytes isOpen openByte frontBytes receiverBytes receiverIn answerNumber put placesAt placesDeliveredAt noWords
+  unfolding bytes header blocksOf encoded number sameBytes firstBytes numberOf countOf blockLength fits allFit afterBlocks blocksRefusal kindOfCount blockCount refusalOf table nameBy otherSession endBelow ownRefusal refusalFor answerOf receiverAfter orElse short onSuccess padded wordsAt little littleBytes isOpen openByte frontBytes receiverBytes receiverIn answerNumber put placesAt placesDeliveredAt noWords
   old-call =
       record {
         are-bytes = are-small twoMessages refl;

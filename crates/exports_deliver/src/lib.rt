@@ -167,7 +167,7 @@ fn deliver_read(
     let answer = taken.answer;
     let after = taken.receiver;
     let code = lay_answer(answer, datagram, words, places);
-    host_receiver::keep(state, code, after)
+    host_receiver::write(state, code, after)
 }
 
 // Takes a datagram, and lays the place of each message that it delivers. It is read before the state is: 11 to 16 need

@@ -8,15 +8,17 @@ use lib.ListN.{getD}
 use lib.Dec.{ltb}
 use borrow.Author.Tests.{ltb-true}
 use Rattle.wire.specs.Choice.{if_then_else_}
-use Rattle.wire.specs.Bytes.{number, sameBytes, AreBytes}
+use Rattle.wire.specs.Bytes.{number, bytes, sameBytes, AreBytes}
 use Rattle.wire.specs.Output.{put}
 use Rattle.wire.specs.Parts.{firstBytes}
-use Rattle.moldudp64.specs.Header.{numberOf, countOf}
-use Rattle.moldudp64.specs.Blocks.{blockLength, fits, allFit, afterBlocks, blocksRefusal}
+use Rattle.wire.specs.Text.{ascii}
+use Rattle.moldudp64.specs.Header.{header, numberOf, countOf}
+use Rattle.moldudp64.specs.Blocks.{blockLength, fits, allFit, afterBlocks, blocksRefusal, blocksOf}
 use Rattle.moldudp64.specs.Downstream.{kindOfCount, blockCount, refusalOf}
+use Rattle.moldudp64.specs.Written.{encoded}
 use Rattle.moldudp64_messages.specs.Cursor.{locatedAt, advanced, advancedBy}
 use Rattle.receiver.specs.Table.{table}
-use Rattle.receiver.specs.Receiver.{otherSession, endBelow, ownRefusal, refusalFor, answerOf, receiverAfter}
+use Rattle.receiver.specs.Receiver.{nameBy, otherSession, endBelow, ownRefusal, refusalFor, answerOf, receiverAfter}
 use Rattle.receiver.specs.Delivery.{deliveryCursor}
 use Rattle.host_answers.specs.Answers.{orElse, short, onSuccess, padded, wordsAt}
 use Rattle.host_states.specs.Little.{little, littleBytes}
@@ -45,7 +47,7 @@ noWords : List ℕ
 noWords = 0 ∷ 0 ∷ 0 ∷ 0 ∷ []
 
 refused-call : TakeCall atOne (0 ∷ []) atOne []
-unfolding number sameBytes firstBytes numberOf countOf blockLength fits allFit afterBlocks blocksRefusal kindOfCount blockCount refusalOf table otherSession endBelow ownRefusal refusalFor answerOf receiverAfter orElse short onSuccess padded wordsAt little littleBytes isOpen openByte frontBytes receiverBytes receiverIn answerNumber put noWords
+unfolding number bytes header blocksOf encoded sameBytes firstBytes numberOf countOf blockLength fits allFit afterBlocks blocksRefusal kindOfCount blockCount refusalOf table nameBy otherSession endBelow ownRefusal refusalFor answerOf receiverAfter orElse short onSuccess padded wordsAt little littleBytes isOpen openByte frontBytes receiverBytes receiverIn answerNumber put noWords
 refused-call =
     record {
       are-bytes = are-small (0 ∷ []) refl;
@@ -71,28 +73,28 @@ three-words : List ℕ
 three-words = 0 ∷ 0 ∷ 0 ∷ []
 
 last-walk : Walked twoMessages atEnd []
-unfolding number sameBytes firstBytes numberOf countOf blockLength fits allFit afterBlocks blocksRefusal kindOfCount blockCount refusalOf table otherSession endBelow ownRefusal refusalFor answerOf receiverAfter orElse short onSuccess padded wordsAt little littleBytes isOpen openByte frontBytes receiverBytes receiverIn answerNumber put noWords locatedAt advanced advancedBy deliveryCursor onStep cursorBytes cursorIn atStart atSecond atEnd three-words
+unfolding number bytes header blocksOf encoded sameBytes firstBytes numberOf countOf blockLength fits allFit afterBlocks blocksRefusal kindOfCount blockCount refusalOf table nameBy otherSession endBelow ownRefusal refusalFor answerOf receiverAfter orElse short onSuccess padded wordsAt little littleBytes isOpen openByte frontBytes receiverBytes receiverIn answerNumber put noWords locatedAt advanced advancedBy deliveryCursor onStep cursorBytes cursorIn atStart atSecond atEnd three-words
 last-walk =
     stop {m = atEnd} 0 three-words (0 ∷ 0 ∷ 0 ∷ []) (omega arith)
     (record { answers = record { returns = refl; words = refl }; keeps = record { fits = refl; leaves = refl; reads-back = λ e _. refl } })
     refl
 
 second-walk : Walked twoMessages atSecond ([] ∷ [])
-unfolding number sameBytes firstBytes numberOf countOf blockLength fits allFit afterBlocks blocksRefusal kindOfCount blockCount refusalOf table otherSession endBelow ownRefusal refusalFor answerOf receiverAfter orElse short onSuccess padded wordsAt little littleBytes isOpen openByte frontBytes receiverBytes receiverIn answerNumber put noWords locatedAt advanced advancedBy deliveryCursor onStep cursorBytes cursorIn atStart atSecond atEnd three-words
+unfolding number bytes header blocksOf encoded sameBytes firstBytes numberOf countOf blockLength fits allFit afterBlocks blocksRefusal kindOfCount blockCount refusalOf table nameBy otherSession endBelow ownRefusal refusalFor answerOf receiverAfter orElse short onSuccess padded wordsAt little littleBytes isOpen openByte frontBytes receiverBytes receiverIn answerNumber put noWords locatedAt advanced advancedBy deliveryCursor onStep cursorBytes cursorIn atStart atSecond atEnd three-words
 second-walk =
     next {m = atEnd} 0 three-words (1 ∷ 26 ∷ 0 ∷ []) (omega arith)
     (record { answers = record { returns = refl; words = refl }; keeps = record { fits = refl; leaves = refl; reads-back = λ _ _. refl } })
     refl last-walk
 
-first-walk : Walked twoMessages atStart ((104 ∷ 105 ∷ []) ∷ [] ∷ [])
-unfolding number sameBytes firstBytes numberOf countOf blockLength fits allFit afterBlocks blocksRefusal kindOfCount blockCount refusalOf table otherSession endBelow ownRefusal refusalFor answerOf receiverAfter orElse short onSuccess padded wordsAt little littleBytes isOpen openByte frontBytes receiverBytes receiverIn answerNumber put noWords locatedAt advanced advancedBy deliveryCursor onStep cursorBytes cursorIn atStart atSecond atEnd three-words
+first-walk : Walked twoMessages atStart (ascii "hi" ∷ [] ∷ [])
+unfolding number bytes header blocksOf encoded sameBytes firstBytes numberOf countOf blockLength fits allFit afterBlocks blocksRefusal kindOfCount blockCount refusalOf table nameBy otherSession endBelow ownRefusal refusalFor answerOf receiverAfter orElse short onSuccess padded wordsAt little littleBytes isOpen openByte frontBytes receiverBytes receiverIn answerNumber put noWords locatedAt advanced advancedBy deliveryCursor onStep cursorBytes cursorIn atStart atSecond atEnd three-words
 first-walk =
     next {m = atSecond} 0 three-words (1 ∷ 22 ∷ 2 ∷ []) (omega arith)
     (record { answers = record { returns = refl; words = refl }; keeps = record { fits = refl; leaves = refl; reads-back = λ _ _. refl } })
     refl second-walk
 
-deliver-call : TakeCall atOne twoMessages atThree ((104 ∷ 105 ∷ []) ∷ [] ∷ [])
-unfolding number sameBytes firstBytes numberOf countOf blockLength fits allFit afterBlocks blocksRefusal kindOfCount blockCount refusalOf table otherSession endBelow ownRefusal refusalFor answerOf receiverAfter orElse short onSuccess padded wordsAt little littleBytes isOpen openByte frontBytes receiverBytes receiverIn answerNumber put noWords locatedAt advanced advancedBy deliveryCursor onStep cursorBytes cursorIn atStart atSecond atEnd three-words
+deliver-call : TakeCall atOne twoMessages atThree (ascii "hi" ∷ [] ∷ [])
+unfolding number bytes header blocksOf encoded sameBytes firstBytes numberOf countOf blockLength fits allFit afterBlocks blocksRefusal kindOfCount blockCount refusalOf table nameBy otherSession endBelow ownRefusal refusalFor answerOf receiverAfter orElse short onSuccess padded wordsAt little littleBytes isOpen openByte frontBytes receiverBytes receiverIn answerNumber put noWords locatedAt advanced advancedBy deliveryCursor onStep cursorBytes cursorIn atStart atSecond atEnd three-words
 deliver-call =
     record {
       are-bytes = are-small twoMessages refl;
@@ -106,7 +108,7 @@ deliver-call =
     }
 
 old-call : TakeCall atThree twoMessages atThree []
-unfolding number sameBytes firstBytes numberOf countOf blockLength fits allFit afterBlocks blocksRefusal kindOfCount blockCount refusalOf table otherSession endBelow ownRefusal refusalFor answerOf receiverAfter orElse short onSuccess padded wordsAt little littleBytes isOpen openByte frontBytes receiverBytes receiverIn answerNumber put noWords locatedAt advanced advancedBy deliveryCursor onStep cursorBytes cursorIn atStart atSecond atEnd three-words
+unfolding number bytes header blocksOf encoded sameBytes firstBytes numberOf countOf blockLength fits allFit afterBlocks blocksRefusal kindOfCount blockCount refusalOf table nameBy otherSession endBelow ownRefusal refusalFor answerOf receiverAfter orElse short onSuccess padded wordsAt little littleBytes isOpen openByte frontBytes receiverBytes receiverIn answerNumber put noWords locatedAt advanced advancedBy deliveryCursor onStep cursorBytes cursorIn atStart atSecond atEnd three-words
 old-call =
     record {
       are-bytes = are-small twoMessages refl;

@@ -15,11 +15,11 @@ use Rattle.moldudp64.proofs.DownstreamLaws.{refusal-found}
 use Rattle.receiver.specs.declared.receiver.Receiver.{Receiver}
 use Rattle.receiver.specs.declared.receiver.Taken.{Taken}
 use Rattle.receiver.specs.Table.{answerWords}
-use Rattle.receiver.specs.Receiver.{receiver, receiverStartRefusal, startReceiver, answerOf, answerRead, afterRead}
+use Rattle.receiver.specs.Receiver.{receiverStartRefusal, startReceiver, answerOf, answerRead, afterRead}
 use Rattle.host_answers.specs.Answers.{orElse, short, onSuccess, unlessSized, stateLadder, wordsOf, AnswersWith}
 use Rattle.host_answers.proofs.AnswerLaws.{or-first, or-short-no}
-use Rattle.host_states.specs.States.{onCode, nameIn}
-use Rattle.host_receiver.proofs.TakenLaws.{not-taken, taken-answer, taken-there, taken-ladder}
+use Rattle.host_states.specs.States.{onCode}
+use Rattle.host_receiver.proofs.TakenLaws.{not-taken, taken-answer, taken-left, taken-ladder}
 use Rattle.host_receiver.specs.Receiver.{receiverSize, receiverIn, KeepsReceiver}
 use Rattle.host_receiver.specs.Replies.{answerNumber}
 use Rattle.exports_receiver.specs.Calls.{StartsReceiver, TakesDatagram}
@@ -66,7 +66,7 @@ module _ (d l ws : List ℕ) (p : Downstream) (e : downstreamWords p ≡ downstr
         → vs ≡ wordsOf answerNumber 4 (answerWords (t .answer))
         → AnswersWith code ws ws′ q vs
         → r ≡ orElse code (short (ltb (length l) receiverSize))
-        → KeepsReceiver (onCode r) l m (receiver (nameIn l) (t .receiver .next .0) (t .receiver .limit .0) (t .receiver .ended))
+        → KeepsReceiver (onCode r) l m (t .receiver)
         → TakesDatagram r l m d ws ws′
     unfolding short
     takes-datagram r m ws′ vs code q a v y b kept =
@@ -74,5 +74,5 @@ module _ (d l ws : List ℕ) (p : Downstream) (e : downstreamWords p ≡ downstr
         let ladder = taken-ladder d l p e x is t q well room g a in
         record {
           answers = rw (one, ← ladder, ← answered, ← v) y;
-          keeps = rw (taken-there d l p e x is t room h) at kept;
+          keeps = rw (taken-left d l p e x is t h) at kept;
         }

@@ -2,7 +2,7 @@
 use Prim.Native.Nat.{ℕ, _+_, _<_, _≤_}
 use mathlib.Core.List.{List, [], _∷_, _++_}
 use mathlib.Core.Bool.{Bool, true, false}
-use mathlib.Core.Path.{_≡_, refl, ap, sym, _∙_}
+use mathlib.Core.Path.{_≡_, refl, ap, sym, _∙_, subst}
 use native.Mathlib.Omega.{arith}
 use lib.ListN.{length, getD}
 use lib.Seq.{take-all}
@@ -19,7 +19,7 @@ use Rattle.receiver.specs.Receiver.{refusalFor, receiverStartRefusal, startRece
 use Rattle.receiver.specs.Delivery.{messagesDelivered, deliveryCursor, DeliveryVisits}
 use Rattle.feed.specs.Session.{Datagram, Message, Session, OfKind, AllOfKind, messagesFrom}
 use Rattle.feed.specs.Machine.{numberAfter, after, delivered}
-use Rattle.feed.specs.Faithful.{Faithful}
+use Rattle.feed.specs.Faithful.{Opens, Faithful}
 use Rattle.receiver.specs.Condition3.{plain, Condition3For}
 use Rattle.receiver.proofs.DeliveryLaws.{delivery-visits}
 use Rattle.receiver.proofs.ConditionLaws.{condition-3}
@@ -124,39 +124,44 @@ unfolding firstBytes
 own-name name ten = rw (le-ltb (length name) sessionSize (omega arith)) (take-all sessionSize name (omega arith))
 
 -- the receiver in a started state's bytes, and condition 3 of it
-module _ {s : Session} {start : ℕ} {m : List ℕ} (c : StartCall s start m) where
-  good-start : Good (s .name) start (c .limit)
-  good-start = good (s .name) start (c .limit) (c .lent) m (c .call)
+module _ {s : Session} {start : ℕ} {m : List ℕ} {refused first : List Datagram} (c : StartCall s start m refused first) where
+  good-start : Good (c .name) start (c .limit)
+  good-start = good (c .name) start (c .limit) (c .lent) m (c .call)
 
-  fresh : receiverIn m ≡ startReceiver (s .name) start (c .limit)
-  fresh = c .call .keeps .reads-back refl (c .room) ∙ rw (own-name (s .name) (good-start .ten))
+  fresh : receiverIn m ≡ startReceiver (c .name) start (c .limit)
+  fresh = c .call .keeps .reads-back refl (c .room) ∙ rw (own-name (c .name) (good-start .ten))
 
   enough : receiverSize ≤ length m
   enough = let size : length m ≡ length (c .lent) = kept-size (c .call .keeps) refl in let h = c .room in omega arith
 
-  faithful : Faithful plain s start (receiverIn m)
+  faithful : Faithful plain s start (receiverIn m) refused first
   unfolding Condition3For
-  faithful = rw fresh (condition-3 s start (c .limit) (good-start .taken) (c .from-one) (c .to-past-last))
+  faithful =
+      rw fresh
+      (condition-3 s (c .name) start (c .limit) refused first (good-start .taken) (c .from-one) (c .to-past-last)
+      (subst (λ (x : Receiver). Opens s (c .name) (refusalFor x) refused first) fresh (c .opens)))
 
-gets-true : (s : Session) (start : ℕ) (m n : List ℕ) (ds : List Datagram) (ms : List Message) → StartCall s start m → AllOfKind s ds → Handed m ds n ms → GetsTrue s start n ms
-gets-true s start m n ds ms c kind handed =
-    let hands : Hands m n ds ms = run (enough c) handed in
+gets-true : (s : Session) (start : ℕ) (m n : List ℕ) (refused first ds : List Datagram) (ms : List Message) → StartCall s start m refused first → AllOfKind s (first ++ ds)
+    → Handed m (refused ++ (first ++ ds)) n ms → GetsTrue s start n ms
+gets-true s start m n refused first ds ms c kind handed =
+    let hands = run (enough c) handed in
     let true-ones = faithful c .delivers-true ds kind in
-    let number : numberIn n ≡ numberAfter plain (receiverIn m) ds = ap (λ (r : Receiver). r .next .0) (hands .leaves) in
+    let number : numberIn n ≡ numberAfter plain (receiverIn m) (refused ++ (first ++ ds)) = ap (λ (r : Receiver). r .next .0) (hands .leaves) in
     record {
       from-start = rw number (true-ones .from-start);
       to-last = rw number (true-ones .to-last);
       exactly = hands .gives ∙ true-ones .exactly ∙ ap (messagesFrom s start) (sym number);
     }
 
-one-more : (s : Session) (start : ℕ) (m n n′ : List ℕ) (before rest : List Datagram) (d : Datagram) (ms ms′ : List Message) → StartCall s start m → AllOfKind s (before ++ rest)
-    → OfKind s d → Handed m (before ++ rest) n ms → Handed m (before ++ d ∷ rest) n′ ms′ → NoWorse n n′ ms ms′
-one-more s start m n n′ before rest d ms ms′ c kind this shorter longer =
-    let hands : Hands m n (before ++ rest) ms = run (enough c) shorter in
-    let more : Hands m n′ (before ++ d ∷ rest) ms′ = run (enough c) longer in
+one-more : (s : Session) (start : ℕ) (m n n′ : List ℕ) (refused first before rest : List Datagram) (d : Datagram) (ms ms′ : List Message) → StartCall s start m refused first
+    → AllOfKind s (first ++ (before ++ rest)) → OfKind s d → Handed m (refused ++ (first ++ (before ++ rest))) n ms → Handed m (refused ++ (first ++ (before ++ d ∷ rest))) n′ ms′
+    → NoWorse n n′ ms ms′
+one-more s start m n n′ refused first before rest d ms ms′ c kind this shorter longer =
+    let hands = run (enough c) shorter in
+    let more = run (enough c) longer in
     let worse = faithful c .one-more before rest d kind this in
-    let was : endedIn n ≡ after plain (receiverIn m) (before ++ rest) .ended = ap (λ (r : Receiver). r .ended) (hands .leaves) in
-    let is : endedIn n′ ≡ after plain (receiverIn m) (before ++ d ∷ rest) .ended = ap (λ (r : Receiver). r .ended) (more .leaves) in
+    let was : endedIn n ≡ after plain (receiverIn m) (refused ++ (first ++ (before ++ rest))) .ended = ap (λ (r : Receiver). r .ended) (hands .leaves) in
+    let is : endedIn n′ ≡ after plain (receiverIn m) (refused ++ (first ++ (before ++ d ∷ rest))) .ended = ap (λ (r : Receiver). r .ended) (more .leaves) in
     record { as-many = rw (hands .gives, more .gives) (worse .as-many); ended-too = λ e. is ∙ worse .ended-too (sym was ∙ e) }
 
 pub host-gets-true : HostGetsTrue

@@ -9,6 +9,8 @@ use Rattle.wire.specs.Bytes.{AreBytes}
 use Rattle.receiver.specs.Delivery.{deliveryCursor}
 use Rattle.feed.specs.Session.{Datagram, Message, Session, OfKind, AllOfKind, lastOf, messagesFrom}
 use Rattle.feed.specs.Machine.{after, delivered}
+use Rattle.feed.specs.Faithful.{Opens}
+use Rattle.receiver.specs.Receiver.{refusalFor}
 use Rattle.receiver.specs.Condition3.{plain}
 use Rattle.host_cursor.specs.Cursor.{cursorSize}
 use Rattle.host_cursor.specs.Calls.{SetsCursor, NextMessage}
@@ -65,12 +67,15 @@ HandsOn = (l m : List ℕ) (ds : List Datagram) (ms : List Message) → receiver
 
 -- ---- condition 3 of what a host gets
 
--- a start that isn't refused, at a number from 1 to one past the session's last: the state's bytes become m
-pub record StartCall (s : Session) (start : ℕ) (m : List ℕ) : Type 0 where
+-- a start that isn't refused, at a number from 1 to one past the session's last: the state's bytes become m. It was given
+-- the session's name, or a blank one, and then lists begin with what is refused and the first that names the receiver
+pub record StartCall (s : Session) (start : ℕ) (m : List ℕ) (refused first : List Datagram) : Type 0 where
+  pub name : List ℕ
   pub limit : ℕ
   pub lent : List ℕ
   pub room : receiverSize ≤ length lent
-  pub call : StartsReceiver 0 (s .name) start limit lent m
+  pub call : StartsReceiver 0 name start limit lent m
+  pub opens : Opens s name (refusalFor (receiverIn m)) refused first
   pub from-one : 1 ≤ start
   pub to-past-last : start ≤ lastOf s + 1
 
@@ -92,15 +97,16 @@ pub record NoWorse (n n′ : List ℕ) (ms ms′ : List Message) : Type 0 where
   pub as-many : length ms ≤ length ms′
   pub ended-too : endedIn n ≡ true → endedIn n′ ≡ true
 
--- over every list of datagrams of condition 3's kind; and one more of them, at any place, does no worse
+-- over every list of datagrams of condition 3's kind; and one more of them, at any place behind the first, does no worse
 pub record HostGetsTrue : Type 0 where
-  pub gets-true : (s : Session) (start : ℕ) (m n : List ℕ) (ds : List Datagram) (ms : List Message)
-      → StartCall s start m → AllOfKind s ds → Handed m ds n ms → GetsTrue s start n ms
-  pub one-more : (s : Session) (start : ℕ) (m n n′ : List ℕ) (before rest : List Datagram) (d : Datagram)
+  pub gets-true : (s : Session) (start : ℕ) (m n : List ℕ) (refused first ds : List Datagram) (ms : List Message)
+      → StartCall s start m refused first → AllOfKind s (first ++ ds) → Handed m (refused ++ (first ++ ds)) n ms
+      → GetsTrue s start n ms
+  pub one-more : (s : Session) (start : ℕ) (m n n′ : List ℕ) (refused first before rest : List Datagram) (d : Datagram)
       (ms ms′ : List Message)
-      → StartCall s start m
-      → AllOfKind s (before ++ rest)
+      → StartCall s start m refused first
+      → AllOfKind s (first ++ (before ++ rest))
       → OfKind s d
-      → Handed m (before ++ rest) n ms
-      → Handed m (before ++ d ∷ rest) n′ ms′
+      → Handed m (refused ++ (first ++ (before ++ rest))) n ms
+      → Handed m (refused ++ (first ++ (before ++ d ∷ rest))) n′ ms′
       → NoWorse n n′ ms ms′

@@ -69,7 +69,7 @@ fn take_read(state: &mut [u8], packet: Downstream, datagram: &[u8], words: &mut 
     let said = answers::answer_words(answer);
     let values = said.words;
     let code = host_answers::answer(words, said.refusal, &values);
-    host_receiver::keep(state, code, after)
+    host_receiver::write(state, code, after)
 }
 
 // Takes a datagram. It is read before the state is: 11 to 16 need none, and a state that is long enough is read once.

@@ -18,7 +18,7 @@ use Rattle.host_states.specs.Little.{little}
 use Rattle.host_states.specs.States.{clientCode, isOpen, openByte, Keeps, StatePromises, nameAt, numberAt}
 use Rattle.host_states.proofs.StateLaws.{state-promises}
 use Rattle.host_session.specs.Session.{phaseAt, sessionStateSize, SessionFields, sessionFields, sessionStateBytes, sessionStateIn}
-use Rattle.host_states.proofs.StateLaws.{name-ten}
+use Rattle.wire.proofs.PartLaws.{name-ten}
 use Rattle.host_session.proofs.SessionLaws.{length-session, end-kept}
 use Rattle.host_client.specs.Client.{clientStateOf, clientIsOpen, clientPhase, clientBytes, clientIn, KeepsClient}
 

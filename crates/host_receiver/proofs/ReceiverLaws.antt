@@ -17,7 +17,8 @@ use Rattle.receiver.specs.Receiver.{receiver, refusedReceiver}
 use Rattle.host_states.specs.Little.{little, littleBytes}
 use Rattle.host_states.specs.States.{receiverCode, isOpen, openByte, Lays, onCode, StatePromises, frontBytes, nameIn}
 use Rattle.host_states.proofs.LittleLaws.{length-little}
-use Rattle.host_states.proofs.StateLaws.{open-back, put-next, length-front, keeps-not, keeps-laid, laid-front, past-field, little-past-field, little-in-front, name-in-front, name-ten, state-promises}
+use Rattle.wire.proofs.PartLaws.{name-ten}
+use Rattle.host_states.proofs.StateLaws.{open-back, put-next, length-front, keeps-not, keeps-laid, laid-front, past-field, little-past-field, little-in-front, name-in-front, state-promises}
 use Rattle.host_receiver.specs.Receiver.{receiverSize, receiverBytes, receiverIn, KeepsReceiver}
 
 -- ---- read
@@ -36,11 +37,7 @@ receiver-read l name n limit b h p q r s = rw (le-ltb (length l) receiverSize h,
 pub name-within : (l : List ℕ) → receiverSize ≤ length l → 1 ≤ length l
 name-within l h = omega arith
 
--- one that was read has the name that stands there, and ten bytes of it
-pub name-there : (l : List ℕ) → receiverSize ≤ length l → receiverIn l .session ≡ nameIn l
-unfolding receiverIn
-name-there l h = rw (le-ltb (length l) receiverSize h)
-
+-- one that was read has a name of ten bytes
 pub receiver-ten : (l : List ℕ) → length (receiverIn l .session) ≡ sessionSize
 unfolding receiverIn
 receiver-ten l =
@@ -102,12 +99,6 @@ module _ (name : List ℕ) (n limit : ℕ) (ended : Bool) (ten : length name ≡
       let k : length l₂ ≡ length l = ap length a ∙ length-put l 0 _ in
       record { laid = a; back = receiver-back _ l₂ (omega arith) (a ∙ laid-front l _ (omega (arith, length-receiver (receiver name n limit ended) ten))) u v }
 
--- but for the name, which stands there
-pub receiver-lays-there : (l l₁ l₂ : List ℕ) (n limit b : ℕ) (ended : Bool) → receiverSize ≤ length l → b ≡ openByte receiverCode (not ended)
-    → l₁ ≡ put l 0 (frontBytes b (nameIn l) n) → l₂ ≡ put l₁ 19 (littleBytes 2 limit) → n < 2 ^ 64 → limit < 2 ^ 16
-    → Lays l l₂ receiverIn (receiverBytes (receiver (nameIn l) n limit ended)) (receiver (nameIn l) n limit ended)
-receiver-lays-there l l₁ l₂ n limit b ended h e p q u v = receiver-lays (nameIn l) n limit ended (name-ten (drop 1 l)) l l₁ l₂ b h e p q u v
-
 -- ---- kept
 
 module _ (x : Receiver) (l : List ℕ) (r : ℕ) (ten : length (x .session) ≡ sessionSize) where
@@ -116,15 +107,6 @@ module _ (x : Receiver) (l : List ℕ) (r : ℕ) (ten : length (x .session) ≡ 
 
   pub receiver-laid : (m : List ℕ) → r ≡ 0 → Lays l m receiverIn (receiverBytes x) x → KeepsReceiver (onCode r) l m x
   receiver-laid m z p = keeps-laid l receiverSize receiverIn _ _ (length-receiver x ten) r m z p
-
--- and so of one whose name stands there
-module _ (n limit : ℕ) (ended : Bool) (l : List ℕ) (r : ℕ) where
-  pub there-not : (r ≡ 0 → ⊥) → KeepsReceiver (onCode r) l l (receiver (nameIn l) n limit ended)
-  there-not z = receiver-not (receiver (nameIn l) n limit ended) l r (name-ten (drop 1 l)) z
-
-  pub there-laid : (m : List ℕ) → r ≡ 0 → Lays l m receiverIn (receiverBytes (receiver (nameIn l) n limit ended)) (receiver (nameIn l) n limit ended)
-      → KeepsReceiver (onCode r) l m (receiver (nameIn l) n limit ended)
-  there-laid m z p = receiver-laid (receiver (nameIn l) n limit ended) l r (name-ten (drop 1 l)) m z p
 
 pub receiver-promises : StatePromises KeepsReceiver receiverSize receiverBytes
 receiver-promises = state-promises receiverSize receiverIn receiverBytes

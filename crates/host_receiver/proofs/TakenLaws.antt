@@ -14,32 +14,27 @@ use Rattle.moldudp64.specs.Downstream.{refusalOf, downstreamOf, downstreamWords
 use Rattle.receiver.specs.declared.receiver.Receiver.{Receiver}
 use Rattle.receiver.specs.declared.receiver.Taken.{Taken}
 use Rattle.receiver.specs.Table.{answerWords}
-use Rattle.receiver.specs.Receiver.{receiver, refusalFor, answerOf, receiverAfter, answerRead, afterRead}
+use Rattle.receiver.specs.Receiver.{refusalFor, answerOf, receiverAfter, answerRead, afterRead}
 use Rattle.receiver.proofs.ReadLaws.{read-as-whole}
-use Rattle.receiver.proofs.Promises.{receiver-promises}
+use Rattle.receiver.proofs.Promises.{after-ten}
 use Rattle.receiver.proofs.TableLaws.{refused-stays}
 use Rattle.host_answers.specs.Answers.{short, stateLadder}
 use Rattle.host_answers.proofs.AnswerLaws.{or-next}
-use Rattle.host_states.specs.States.{Keeps, onCode, nameIn}
+use Rattle.host_states.specs.States.{Keeps, onCode}
 use Rattle.host_receiver.specs.Receiver.{receiverSize, receiverIn, KeepsReceiver}
-use Rattle.host_receiver.proofs.ReceiverLaws.{receiver-not, receiver-ten, name-there}
+use Rattle.host_receiver.proofs.ReceiverLaws.{receiver-not, receiver-ten}
 
--- a call that is refused leaves the bytes as they are: the receiver after the datagram has the name that it had
+-- a call that is refused leaves the bytes as they are: the receiver after the datagram has a name of ten bytes too
 pub not-taken : (d l : List ℕ) (r : ℕ) → (r ≡ 0 → ⊥) → KeepsReceiver (onCode r) l l (receiverAfter (receiverIn l) d)
-not-taken d l r z = receiver-not (receiverAfter (receiverIn l) d) l r (ap length (receiver-promises .keeps-settings (receiverIn l) d .0) ∙ receiver-ten l) z
+not-taken d l r z = receiver-not (receiverAfter (receiverIn l) d) l r (after-ten (receiverIn l) d (receiver-ten l)) z
 
 -- the reader read the datagram as p, and the receiver in the bytes took that
 module _ (d l : List ℕ) (p : Downstream) (e : downstreamWords p ≡ downstreamOf d) (x : Receiver) (is : x ≡ receiverIn l) (t : Taken) where
   pub taken-answer : answerWords (t .answer) ≡ answerRead x d (downstreamWords p) → answerWords (t .answer) ≡ answerOf (receiverIn l) d
   taken-answer g = rw (← is) (g ∙ rw e (read-as-whole .answers x d))
 
-  -- the name that stands there is its own
-  pub taken-there : receiverSize ≤ length l → t .receiver ≡ afterRead x d (downstreamWords p)
-      → receiver (nameIn l) (t .receiver .next .0) (t .receiver .limit .0) (t .receiver .ended) ≡ receiverAfter (receiverIn l) d
-  taken-there room h =
-      let left : t .receiver ≡ receiverAfter (receiverIn l) d = rw (← is) (h ∙ rw e (read-as-whole .leaves x d)) in
-      let n : receiverAfter (receiverIn l) d .session ≡ nameIn l = receiver-promises .keeps-settings (receiverIn l) d .0 ∙ name-there l room in
-      rw (left, ← n)
+  pub taken-left : t .receiver ≡ afterRead x d (downstreamWords p) → t .receiver ≡ receiverAfter (receiverIn l) d
+  taken-left h = rw (← is) (h ∙ rw e (read-as-whole .leaves x d))
 
   -- its refusal by the ladder of a call that is lent a state, which is long enough
   pub taken-ladder : (q : ℕ) → refusalOf d ≡ 0 → receiverSize ≤ length l → answerWords (t .answer) ≡ answerRead x d (downstreamWords p) → q ≡ answerWords (t .answer) .refusal

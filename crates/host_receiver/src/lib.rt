@@ -20,7 +20,7 @@ ghost use lib.ListN.{length};
 ghost use lib.Dec.{ltb};
 ghost use Rattle.receiver.specs.Receiver.{receiver};
 ghost use Rattle.host_answers.specs.Answers.{orElse, short};
-ghost use Rattle.host_states.specs.States.{Lays, StatePromises, onCode, nameIn};
+ghost use Rattle.host_states.specs.States.{Lays, StatePromises, onCode};
 ghost use Rattle.host_receiver.specs.Receiver.{receiverSize, receiverBytes, receiverIn, KeepsReceiver};
 
 // Its asking limit stands behind its name and its number.
@@ -64,18 +64,6 @@ fn put_fields(state: &mut [u8], session: [u8; SESSION_SIZE], next: u64, limit: u
     little::put16(state, LIMIT_AT, limit);
 }
 
-// The same but for the name, which stays as it stands there.
-fn keep_fields(state: &mut [u8], next: u64, limit: u16, ended: bool)
-    requires { ⌜ receiverSize ≤ length (now state) ⌝ }
-    ensures { λ _. ⌜ Lays (now (state .entry)) (now (state .exit)) receiverIn
-        (receiverBytes (receiver (nameIn (now (state .entry))) next limit ended))
-        (receiver (nameIn (now (state .entry))) next limit ended) ⌝ }
-{
-    let first = host_states::open_byte(RECEIVER, !ended);
-    host_states::keep_front(state, first, next);
-    little::put16(state, LIMIT_AT, limit);
-}
-
 // Lays a receiver, where the code is 0 and there is room: else the code, or 41.
 pub fn write(state: &mut [u8], code: u32, receiver: Receiver) -> u32
     ensures { λ r. ⌜ r ≡ orElse code (short (ltb (length (now (state .entry))) receiverSize)) ⌝ }
@@ -94,19 +82,5 @@ pub fn write(state: &mut [u8], code: u32, receiver: Receiver) -> u32
         receiver.limit.0,
         receiver.ended,
     );
-    kept
-}
-
-// The same of a receiver whose name stands in the bytes already.
-pub fn keep(state: &mut [u8], code: u32, after: Receiver) -> u32
-    ensures { λ r. ⌜ r ≡ orElse code (short (ltb (length (now (state .entry))) receiverSize)) ⌝ }
-    ensures keeps { λ r. ⌜ KeepsReceiver (onCode r) (now (state .entry)) (now (state .exit))
-        (receiver (nameIn (now (state .entry))) (after .next .0) (after .limit .0) (after .ended)) ⌝ }
-{
-    let kept = host_states::with_room(code, state.len(), SIZE);
-    if kept != 0 {
-        return kept;
-    }
-    keep_fields(state, after.next.0, after.limit.0, after.ended);
     kept
 }

@@ -19,7 +19,7 @@ use Rattle.host_states.specs.States.{serverCode, isOpen, openByte, Keeps, State
 use Rattle.host_answers.specs.Answers.{orElse, short}
 use Rattle.host_states.proofs.StateLaws.{state-promises, code-room, keeps-not}
 use Rattle.host_session.specs.Session.{phaseAt, sessionStateSize, SessionFields, sessionFields, sessionStateBytes, sessionStateIn}
-use Rattle.host_states.proofs.StateLaws.{name-ten}
+use Rattle.wire.proofs.PartLaws.{name-ten}
 use Rattle.host_session.proofs.SessionLaws.{length-session, end-kept}
 use Rattle.host_server.specs.Server.{serverStateOf, serverIsOpen, serverPhase, serverBytes, serverIn, KeepsServer}
 

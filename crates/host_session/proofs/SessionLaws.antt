@@ -11,7 +11,8 @@ use Rattle.wire.proofs.Outputs.{length-put}
 use Rattle.host_states.specs.Little.{littleBytes}
 use Rattle.host_states.specs.States.{Keeps, Lays, onCode, frontBytes, nameIn}
 use Rattle.host_states.proofs.LittleLaws.{length-little}
-use Rattle.host_states.proofs.StateLaws.{put-next, length-front, keeps-not, keeps-laid, laid-front, past-field, little-past-field, byte-past-field, little-in-front, name-in-front, name-ten}
+use Rattle.wire.proofs.PartLaws.{name-ten}
+use Rattle.host_states.proofs.StateLaws.{put-next, length-front, keeps-not, keeps-laid, laid-front, past-field, little-past-field, byte-past-field, little-in-front, name-in-front}
 use Rattle.host_session.specs.Session.{phaseAt, sessionStateSize, SessionFields, sessionFields, sessionStateBytes, sessionStateIn}
 
 module _ (first : ℕ) (name : List ℕ) (n b : ℕ) (ten : length name ≡ sessionSize) where

@@ -13,6 +13,7 @@ use Rattle.wire.specs.Bounds.{sessionSize}
 use Rattle.wire.specs.Refusals.{outputShort}
 use Rattle.wire.specs.Output.{put}
 use Rattle.wire.specs.Parts.{firstBytes}
+use Rattle.wire.proofs.PartLaws.{name-ten}
 use Rattle.wire.proofs.Cases.{below-or-not}
 use Rattle.wire.proofs.Outputs.{put-put, put-room, put-none, length-put}
 use Rattle.wire.proofs.PartLaws.{first-there}
@@ -154,13 +155,6 @@ little-in-front n v b h = little-back n v h [] b 0 refl
 pub name-in-front : (k : ℕ) (a b : List ℕ) → length a ≡ k → firstBytes k (a ++ b) ≡ a
 unfolding firstBytes
 name-in-front k a b e = rw (le-ltb (length (a ++ b)) k (omega (arith, length-append a b))) (take-at a b k e)
-
--- a name that was read has ten bytes
-pub name-ten : (l : List ℕ) → length (firstBytes sessionSize l) ≡ sessionSize
-unfolding firstBytes
-name-ten l =
-    below-or-not _ (length l) sessionSize (λ h. rw (lt-ltb (length l) sessionSize h) refl)
-    (λ h. rw (le-ltb (length l) sessionSize h) (length-take-le sessionSize l h))
 
 -- bytes that stand there already
 put-same : (l : List ℕ) (at n : ℕ) → at + n ≤ length l → put l at (take n (drop at l)) ≡ l

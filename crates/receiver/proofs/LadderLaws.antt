@@ -1,15 +1,17 @@
 -- Laws of the refusals: r is the receiver, l the datagram, p what the reader found in it.
-use mathlib.Core.Path.{_≡_, refl, sym, _∙_}
+use mathlib.Core.Path.{_≡_, refl, ap, sym, _∙_}
 use mathlib.Core.List.{List}
 use mathlib.Core.Bool.{Bool, true, false, not, true≢false}
 use Prim.Native.Nat.{ℕ}
-use lib.ListN.{take}
+use native.Mathlib.Omega.{arith}
+use lib.ListN.{length, getD, take, length-take}
 use lib.Dec.{ltb}
-use borrow.Author.Tests.{ne-eqb}
+use borrow.Author.Tests.{ne-eqb, not-false}
 use Rattle.wire.specs.Choice.{if_then_else_}
 use Rattle.wire.specs.Bounds.{blank}
 use Rattle.wire.specs.Bytes.{sameBytes}
 use Rattle.wire.specs.Parts.{firstBytes}
+use Rattle.wire.proofs.PartLaws.{first-there}
 use Rattle.wire.proofs.Same.{same-equal, alike, different}
 use Rattle.wire.specs.declared.refusal.Refusal.{Refusal}
 use Rattle.wire.specs.declared.kinds.SequenceNumber.{SequenceNumber}
@@ -23,8 +25,13 @@ use Rattle.receiver.specs.Receiver.{receiver, nameBy, namedBy, otherSess
 
 -- ---- the name: u is whether there is none yet, h whether the datagram has it
 
-module _ (r : Receiver) (l : List ℕ) (u h : Bool) (e : u ≡ sameBytes (r .session) blank) where
-  module _ (f : h ≡ sameBytes (take 10 l) (r .session)) where
+module _ (r : Receiver) (l : List ℕ) (h : Bool) (f : h ≡ sameBytes (take 10 l) (r .session)) where
+  -- a name that doesn't end in a space
+  pub other-named : (getD (r .session) 9 0 ≡ 32 → ⊥) → not h ≡ otherSession r l
+  unfolding otherSession
+  other-named z = rw (different (r .session) blank (λ e. z (ap (λ (x : List ℕ). getD x 9 0) e)), f)
+
+  module _ (u : Bool) (e : u ≡ sameBytes (r .session) blank) where
     by-name : (t : Bool) → u ≡ t → otherSession r l ≡ if h then t else not t
     unfolding otherSession
     by-name true g = let b = same-equal (r .session) blank (sym e ∙ g) in let k = rw b at f in rw (← e, g, ← k) (turned h)
@@ -44,40 +51,22 @@ module _ (r : Receiver) (l : List ℕ) (u h : Bool) (e : u ≡ sameBytes (r .ses
     pub other-hasnt : h ≡ false → not u ≡ otherSession r l
     other-hasnt g = rw (by-name u refl, g)
 
-  pub name-kept : not u ≡ true → r ≡ namedBy r l
-  unfolding nameBy
-  name-kept g = rw (← e, turned u g)
-    where
-      turned : (x : Bool) → not x ≡ true → x ≡ false
-      turned true z = sym z
-      turned false z = refl
+-- a datagram that isn't of another session begins with the name that is taken
+pub name-taken : (r : Receiver) (l name : List ℕ) → otherSession r l ≡ false → length (r .session) ≡ 10 → name ≡ firstBytes 10 l
+    → receiver name (r .next .0) (r .limit .0) (r .ended) ≡ namedBy r l
+unfolding nameBy otherSession
+name-taken r l name o n f = rw f (by-case (sameBytes (r .session) blank) refl o)
+  where
+    own : not (sameBytes (take 10 l) (r .session)) ≡ false → firstBytes 10 l ≡ r .session
+    own z =
+        let e : take 10 l ≡ r .session = same-equal (take 10 l) (r .session) (not-false _ z) in
+        let k : length (take 10 l) ≡ 10 = ap length e ∙ n in
+        first-there 10 l (omega (arith, length-take 10 l)) ∙ e
 
-  pub name-learned : (name : List ℕ) → not u ≡ false → name ≡ firstBytes 10 l → receiver name (r .next .0) (r .limit .0) (r .ended) ≡ namedBy r l
-  unfolding nameBy
-  name-learned name g f = rw (← e, turned u g, f)
-    where
-      turned : (x : Bool) → not x ≡ false → x ≡ true
-      turned true z = refl
-      turned false z = sym z
-
--- ---- the receiver's own rungs
-
-module _ (r : Receiver) (l : List ℕ) (low b : Bool) (e : b ≡ otherSession r l) where
-  pub own-17 : b ≡ true → 17 ≡ ownRefusal r l low
-  unfolding ownRefusal
-  own-17 f = rw (← e, f)
-
-  pub own-18 : b ≡ false → r .ended ≡ true → 18 ≡ ownRefusal r l low
-  unfolding ownRefusal
-  own-18 f g = rw (← e, f, g)
-
-  pub own-20 : b ≡ false → r .ended ≡ false → low ≡ true → 20 ≡ ownRefusal r l low
-  unfolding ownRefusal
-  own-20 f g h = rw (← e, f, g, h)
-
-  pub own-0 : b ≡ false → r .ended ≡ false → low ≡ false → 0 ≡ ownRefusal r l low
-  unfolding ownRefusal
-  own-0 f g h = rw (← e, f, g, h)
+    by-case : (u : Bool) → sameBytes (r .session) blank ≡ u → (if u then sameBytes (take 10 l) blank else not (sameBytes (take 10 l) (r .session))) ≡ false
+        → receiver (firstBytes 10 l) (r .next .0) (r .limit .0) (r .ended) ≡ receiver (nameBy (r .session) l) (r .next .0) (r .limit .0) (r .ended)
+    by-case true e z = rw e
+    by-case false e z = rw (e, own z)
 
 -- ---- the ladder, by what was read
 
@@ -103,9 +92,23 @@ module _ (r : Receiver) (l : List ℕ) (p : Downstream) (k : ℕ) (e : k ≡ dow
   unfolding refusalRead
   for-read z = rw (← e, ne-eqb _ _ z)
 
-  pub for-own : (low : Bool) (m : ℕ) → k ≡ 0 → low ≡ belowRead r (downstreamWords p) → m ≡ ownRefusal r l low → m ≡ refusalRead r l (downstreamWords p)
-  unfolding refusalRead
-  for-own low m z f g = rw (← f, ← e, z) g
+  module _ (z : k ≡ 0) (b : Bool) (o : b ≡ otherSession r l) where
+    pub own-17 : b ≡ true → 17 ≡ refusalRead r l (downstreamWords p)
+    unfolding refusalRead ownRefusal
+    own-17 f = rw (← e, z, ← o, f)
+
+    pub own-18 : b ≡ false → r .ended ≡ true → 18 ≡ refusalRead r l (downstreamWords p)
+    unfolding refusalRead ownRefusal
+    own-18 f g = rw (← e, z, ← o, f, g)
+
+    module _ (f : b ≡ false) (g : r .ended ≡ false) (low : Bool) (h : low ≡ belowRead r (downstreamWords p)) where
+      pub own-20 : low ≡ true → 20 ≡ refusalRead r l (downstreamWords p)
+      unfolding refusalRead ownRefusal
+      own-20 i = rw (← h, ← e, z, ← o, f, g, i)
+
+      pub own-0 : low ≡ false → 0 ≡ refusalRead r l (downstreamWords p)
+      unfolding refusalRead ownRefusal
+      own-0 i = rw (← h, ← e, z, ← o, f, g, i)
 
 -- ---- what the reader finds in l
 

@@ -25,6 +25,8 @@ use Rattle.receiver.specs.Table.{AnswerKind, deliver, old, quiet, ask, e
 use Rattle.receiver.specs.Receiver.{receiverStartRefusal, nameBy, otherSession, endBelow, ownRefusal, refusalFor, tableRow, answerOf, receiverAfter}
 use Rattle.receiver.specs.Statements.{FollowsTheTable, RequestExactlyWhen, RefusesOnceEnded, NumberNeverFalls, AskIsARequest, StaysGood, LearnsName, KeepsSettings, ReceiverPromises}
 use Rattle.receiver.proofs.StartLaws.{in-bounds, start-good}
+use Rattle.wire.specs.Bytes.{sameBytes}
+use Rattle.wire.proofs.PartLaws.{name-ten}
 use Rattle.wire.proofs.Same.{alike}
 use Rattle.receiver.proofs.LadderLaws.{other-name, own-name, blank-other, blank-own, blank-named}
 use Rattle.receiver.proofs.TableLaws.{refused-stays, row-answer, row-after, row-named}
@@ -224,6 +226,15 @@ learns r l b e =
 
 stays-so : (r : Receiver) (l : List ℕ) → (refusalFor r l ≡ 0 → ⊥) → receiverAfter r l ≡ r
 stays-so r l z = sym (refused-stays r l (refusalFor r l) refl z)
+
+-- a name of ten bytes stays one
+pub after-ten : (r : Receiver) (l : List ℕ) → length (r .session) ≡ 10 → length (receiverAfter r l .session) ≡ 10
+unfolding nameBy
+after-ten r l n = zero-or-not _ (refusalFor r l) (λ e. rw (row-after r l e) (either-way (sameBytes (r .session) blank))) (λ z. rw (stays-so r l z) n)
+  where
+    either-way : (b : Bool) → length (if b then firstBytes 10 l else r .session) ≡ 10
+    either-way true = name-ten l
+    either-way false = n
 
 keeps-settings : KeepsSettings receiverAfter
 keeps-settings =

@@ -7,9 +7,10 @@ use native.Mathlib.Omega.{arith}
 use mir.Val.{Fits}
 use mir.Syntax.{w16, w64}
 use lib.Dec.{eqb}
-use borrow.Author.Tests.{lt-ltb, le-ltb, eqb-true, ne-eqb}
+use borrow.Author.Tests.{lt-ltb, le-ltb, eq-eqb, ne-eqb}
 use Rattle.wire.specs.Choice.{if_then_else_}
 use Rattle.wire.specs.Bounds.{blank}
+use Rattle.wire.proofs.Cases.{zero-or-not}
 use Rattle.wire.proofs.Same.{different}
 use Rattle.wire.specs.Words.{Case, answer, refused}
 use Rattle.wire.specs.declared.refusal.Refusal.{Refusal}
@@ -25,7 +26,7 @@ use Rattle.receiver.specs.declared.receiver.Taken.{Taken}
 use Rattle.receiver.specs.declared.receiver.Answer.{Answer}
 use Rattle.receiver.specs.declared.receiver.Answer.the-variants.{Deliver, Old, Quiet, Ask, Ended, Refused}
 use Rattle.receiver.specs.Table.{answerWords, askOutcome, table, numbered}
-use Rattle.receiver.specs.Receiver.{receiver, nameBy, namedBy, refusalFor, tableRow, afterRow, answerOf, receiverAfter, refusalRead, rowReadAt, rowRead, answerRead, afterRead, TakesRow}
+use Rattle.receiver.specs.Receiver.{receiver, nameBy, namedBy, otherSession, ownRefusal, belowRead, refusalFor, tableRow, afterRow, answerOf, receiverAfter, refusalRead, rowReadAt, rowRead, answerRead, afterRead, TakesRow}
 
 abbrev stays : Receiver → Answer → Taken
 stays r a = record { answer = a; receiver = r }
@@ -133,19 +134,26 @@ module _ (r : Receiver) (l : List ℕ) (p : Downstream) where
   refused-kept k e z = rw (← e, ne-eqb _ _ z)
 
   module _ (k : ℕ) (g : k ≡ refusalRead r l (downstreamWords p)) (z : k ≡ 0) where
-    -- then the reader refused nothing
+    -- then the reader refused nothing, and the datagram isn't of another session
     pub well-read : downstreamWords p .refusal ≡ 0
     unfolding refusalRead
-    well-read = zero (downstreamWords p .refusal) _ (sym g ∙ z)
+    well-read = go (downstreamWords p .refusal) _ (sym g ∙ z)
       where
-        zero : (n m : ℕ) → (if eqb n 0 then m else n) ≡ 0 → n ≡ 0
-        zero n m e = go (eqb n 0) refl e
-          where
-            go : (t : Bool) → eqb n 0 ≡ t → (if t then m else n) ≡ 0 → n ≡ 0
-            go true d e = eqb-true _ _ d
-            go false d e = e
+        go : (n m : ℕ) → (if eqb n 0 then m else n) ≡ 0 → n ≡ 0
+        go n m e = zero-or-not _ n (λ d. d) (λ d. rw (ne-eqb n 0 d) at e)
 
-    -- and the row is taken under the name that the datagram gives, which no row looks at
+    pub own-session : otherSession r l ≡ false
+    unfolding refusalRead ownRefusal
+    own-session = go (otherSession r l) (sym own ∙ sym g ∙ z)
+      where
+        own : refusalRead r l (downstreamWords p) ≡ ownRefusal r l (belowRead r (downstreamWords p))
+        own = rw (eq-eqb _ _ well-read)
+
+        go : (b : Bool) → _≡_ {A = ℕ} (if b then 17 else if r .ended then 18 else if belowRead r (downstreamWords p) then 20 else 0) 0 → b ≡ false
+        go true e = absurd (omega arith)
+        go false e = refl
+
+    -- the row is taken under the name that the datagram gives, which no row looks at
     row-same : (c : Case DownstreamKind) → rowReadAt (namedBy r l) (downstreamWords p) c ≡ rowReadAt r (downstreamWords p) c
     unfolding rowReadAt
     row-same (answer c) = refl

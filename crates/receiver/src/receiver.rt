@@ -12,17 +12,21 @@ use wire::parts;
 use wire::refusal;
 use wire::refusal::Refusal;
 ghost use mathlib.Core.Path.{_≡_};
+ghost use mathlib.Core.Bool.{false};
 ghost use Rattle.wire.specs.Refusals.{badSetting};
 ghost use Rattle.moldudp64.specs.Header.{endCount};
 ghost use Rattle.moldudp64.specs.Downstream.{data-packet, heartbeat, end-of-session, downstreamWords};
 ghost use Rattle.receiver.specs.Table.{askOutcome, table, numbered};
 ghost use Rattle.receiver.specs.Receiver.{receiver, refusedReceiver, unnamed, namedBy, otherSession};
-ghost use Rattle.receiver.specs.Receiver.{ownRefusal, belowRead, refusalRead, rowRead};
+ghost use Rattle.receiver.specs.Receiver.{belowRead, refusalRead, rowRead};
 ghost use Rattle.receiver.specs.Receiver.{ReadAsWhole, Starts, Takes, TakesRead, TakesRow};
 ghost use Rattle.receiver.specs.Statements.{ReceiverPromises};
 ghost use Rattle.receiver.specs.Condition3.{Condition3, RefusedChangeNothing};
 ghost use Rattle.receiver.specs.Witnesses.{NotVacuous, NotWeak};
 ghost use Rattle.receiver.specs.Calls.{CallsDeliverTrue};
+
+// The place of a name's last byte.
+const LAST_OF_NAME: usize = SESSION_SIZE - 1;
 
 // The number stands in front of the name, so that no padding is copied between them.
 pub struct Receiver {
@@ -164,7 +168,16 @@ impl Receiver {
         if refused.number != 0 {
             return refused;
         }
-        self.own_refusal(datagram, self.ends_below(packet))
+        if self.is_other_session(datagram) {
+            return refusal::SESSION_DIFFERS;
+        }
+        if self.ended {
+            return refusal::SESSION_ENDED;
+        }
+        if self.ends_below(packet) {
+            return refusal::END_BELOW_EXPECTED;
+        }
+        refusal::NONE
     }
 
     // Whether it is an end of session below the expected number.
@@ -179,27 +192,15 @@ impl Receiver {
         }
     }
 
-    // 17, 18, 20 for an end of session that lies below, or 0.
-    fn own_refusal(self, datagram: &[u8], below: bool) -> Refusal
-        ensures { λ r. ⌜ r .number ≡ ownRefusal self (now (datagram .entry)) below ⌝ }
-    {
-        if self.is_other_session(datagram) {
-            return refusal::SESSION_DIFFERS;
-        }
-        if self.ended {
-            return refusal::SESSION_ENDED;
-        }
-        if below {
-            return refusal::END_BELOW_EXPECTED;
-        }
-        refusal::NONE
-    }
-
-    // Whether the datagram is of another session; without a name, whether its session is blank.
+    // Whether the datagram is of another session; without a name, whether its session is blank. A name that doesn't end
+    // in a space isn't blank, which is told first: nearly every name is so.
     fn is_other_session(self, datagram: &[u8]) -> bool
         ensures { λ r. ⌜ r ≡ otherSession self (now (datagram .entry)) ⌝ }
     {
         let name = self.session;
+        if name[LAST_OF_NAME] != b' ' {
+            return !header::has_session(datagram, name);
+        }
         if header::has_session(datagram, name) {
             self.is_unnamed()
         } else {
@@ -207,13 +208,12 @@ impl Receiver {
         }
     }
 
-    // The receiver under the datagram's name, where it has none yet: the one place where a name is learned.
+    // The receiver under its name, or the datagram's where it has none yet: the one place where a name is learned. A
+    // datagram that isn't of another session has that name in either case, so nothing is tested.
     fn named_by(self, datagram: &[u8]) -> Receiver
+        requires { ⌜ otherSession self (now datagram) ≡ false ⌝ }
         ensures { λ r. ⌜ r ≡ namedBy self (now (datagram .entry)) ⌝ }
     {
-        if !self.is_unnamed() {
-            return self;
-        }
         let next = self.next;
         let limit = self.limit;
         Receiver {

@@ -1,13 +1,15 @@
 -- Laws of the parts of a slice l.
 use mathlib.Core.Path.{_≡_, refl, ap, sym, _∙_}
-use mathlib.Core.List.{List, [], _∷_}
+use mathlib.Core.List.{List, [], _∷_, append-nil}
 use Prim.Native.Nat.{ℕ, zero, suc, _+_, _-_, _≤_, _<_, min}
 use native.Mathlib.Omega.{arith}
 use lib.ListN.{length, getD, take, drop, replicate, length-drop, drop-of-length-le}
-use lib.Seq.{take-all, take-nil, drop-cons}
+use lib.Seq.{take-all, take-nil, drop-cons, length-take-le}
 use borrow.Author.Tests.{le-ltb, lt-ltb}
 use Rattle.wire.proofs.Cases.{below-or-not}
+use Rattle.wire.specs.Output.{writeOutput}
 use Rattle.wire.specs.Parts.{firstBytes}
+use Rattle.wire.proofs.Outputs.{put-room}
 
 -- ---- the front without its own front
 
@@ -47,6 +49,10 @@ pub too-few : (k : ℕ) (l : List ℕ) → length l < k → replicate k 0 ≡ fi
 unfolding firstBytes
 too-few k l h = simp (lt-ltb _ _ h)
 
+pub name-ten : (l : List ℕ) → length (firstBytes 10 l) ≡ 10
+unfolding firstBytes
+name-ten l = below-or-not _ (length l) 10 (λ h. rw (lt-ltb (length l) 10 h) refl) (λ h. rw (le-ltb (length l) 10 h) (length-take-le 10 l h))
+
 -- so many bytes from a place on, one by one
 bytesFrom : ℕ → ℕ → List ℕ → List ℕ
 bytesFrom i zero l = []
@@ -62,7 +68,18 @@ pub first-six : (l : List ℕ) → 6 ≤ length l
 unfolding bytesFrom
 first-six l h = one-by-one 6 0 l h ∙ sym (first-there 6 l h)
 
-pub first-ten : (l : List ℕ) → 10 ≤ length l
-    → getD l 0 0 ∷ getD l 1 0 ∷ getD l 2 0 ∷ getD l 3 0 ∷ getD l 4 0 ∷ getD l 5 0 ∷ getD l 6 0 ∷ getD l 7 0 ∷ getD l 8 0 ∷ getD l 9 0 ∷ [] ≡ firstBytes 10 l
+pub first-eight : (l : List ℕ) → 8 ≤ length l
+    → getD l 0 0 ∷ getD l 1 0 ∷ getD l 2 0 ∷ getD l 3 0 ∷ getD l 4 0 ∷ getD l 5 0 ∷ getD l 6 0 ∷ getD l 7 0 ∷ [] ≡ take 8 l
 unfolding bytesFrom
-first-ten l h = one-by-one 10 0 l h ∙ sym (first-there 10 l h)
+first-eight l h = one-by-one 8 0 l h
+
+pub two-behind : (l : List ℕ) → 10 ≤ length l → getD l 8 0 ∷ getD l 9 0 ∷ [] ≡ take 2 (drop 8 l)
+unfolding bytesFrom
+two-behind l h = one-by-one 2 8 l h
+
+-- ten, laid over ten others
+pub first-ten : (l z q m : List ℕ) → 10 ≤ length l → q ≡ take 10 (drop 0 l) → m ≡ writeOutput 0 z 0 q → length z ≡ 10 → m ≡ firstBytes 10 l
+first-ten l z q m h f e g =
+    let n : length (take 10 l) ≡ 10 = length-take-le 10 l h in
+    let d : drop 10 z ≡ [] = drop-of-length-le z {i = 10} (omega arith) in
+    e ∙ rw f (put-room z 0 (take 10 l) (omega arith) ∙ rw (n, d) (append-nil (take 10 l))) ∙ sym (first-there 10 l h)

@@ -7,7 +7,7 @@ use Rattle.wire.proofs.Rooms.{no-room, number-room, count-room}
 use Rattle.wire.proofs.Outputs.{output-laws, lay-beyond, lay-over, lay-done, size-bytes}
 use Rattle.wire.proofs.Lowering.{lowering-start, lowering-next, lowering-place, lowering-kept, lowering-end}
 use Rattle.wire.proofs.Copy.{copied-start, copied-step, copied-end, copied-kept}
-use Rattle.wire.proofs.Same.{same-beyond, same-cut, same-there, rest-room, begins-unlike, begins-like, name-unlike, name-whole}
+use Rattle.wire.proofs.Same.{same-beyond, same-cut, same-there, rest-room, eight-so, two-so, begins-unlike, begins-like, name-unlike, name-whole}
 
 pub ruleset rooms = (no-room, number-room, count-room, needs)
 
@@ -19,4 +19,4 @@ pub ruleset outputs = (lowering-start, lowering-next, lowering-place, lowering-k
 
 pub ruleset copies = (copied-start, copied-step, copied-end, copied-kept, lay-beyond, lay-over, lay-done, output-laws, refl, needs)
 
-pub ruleset names = (same-beyond, same-cut, same-there, rest-room, begins-unlike, begins-like, name-unlike, name-whole, needs)
+pub ruleset names = (same-beyond, same-cut, same-there, rest-room, eight-so, two-so, begins-unlike, begins-like, name-unlike, name-whole, needs)

@@ -1,18 +1,20 @@
 -- Names compared: whole ones, and ten bytes as a number of eight and one of two. l is the slice, at the place, m the name.
-use mathlib.Core.Path.{_≡_, refl, ap, sym, _∙_}
+use mathlib.Core.Path.{_≡_, refl, ap, ap₂, sym, _∙_}
 use mathlib.Core.List.{List, [], _∷_, _++_}
 use mathlib.Core.Bool.{Bool, true, false}
-use Prim.Native.Nat.{ℕ, suc, _+_, _-_, _≤_, _<_}
+use Prim.Native.Nat.{ℕ, suc, _+_, _*_, _-_, _≤_, _<_}
 use native.Mathlib.Omega.{arith}
 use mir.Syntax.{w8}
 use mir.Val.{Fits}
-use lib.ListN.{length, getD, take, drop, length-take, length-drop}
-use lib.Seq.{take-all, take-add, getD-drop}
+use lib.ListN.{length, getD, take, drop, length-take, length-drop, List·getD-eq-default}
+use lib.Seq.{take-all, take-add, take-take, getD-take, getD-drop}
 use lib.Dec.{eqb}
 use borrow.Author.Tests.{eq-eqb, eqb-true, eqb-false}
 use Rattle.wire.specs.Choice.{if_then_else_}
-use Rattle.wire.specs.Bytes.{number, bytes, sameBytes, AreBytes}
-use Rattle.wire.proofs.Numbers.{number-drop, number-take, part-to-end, bytes-number}
+use Rattle.wire.specs.Bytes.{sameBytes, AreBytes, asNumber}
+use Rattle.wire.proofs.Cases.{below-or-not}
+use Rattle.wire.proofs.Numbers.{part-to-end}
+use Rattle.wire.proofs.PartLaws.{drop-take, first-eight, two-behind}
 
 -- ---- any two lists
 
@@ -86,17 +88,42 @@ module _ (l : List ℕ) (at : ℕ) (m : List ℕ) where
   pub rest-room : at ≤ length l → 10 ≤ length l - at → 10 ≤ length (take (length l - at) (drop at l))
   rest-room f h = rw (part-to-end at l, length-drop at l) h
 
--- ---- ten bytes as a number of eight and one of two
+-- ---- ten bytes as a number of eight and one of two: bytes make one number alone
+
+one-digit : (x y a b : ℕ) → a < 256 → b < 256 → x * 256 + a ≡ y * 256 + b → (x ≡ y) × (a ≡ b)
+one-digit x y a b h i e = (omega arith, omega arith)
+
+as-number : (l m : List ℕ) → AreBytes l → AreBytes m → length l ≡ length m → asNumber l ≡ asNumber m → l ≡ m
+unfolding asNumber
+as-number [] [] h i n e = refl
+as-number [] (b ∷ m) h i n e = absurd (omega arith)
+as-number (a ∷ l) [] h i n e = absurd (omega arith)
+as-number (a ∷ l) (b ∷ m) h i n e =
+    let d = one-digit (asNumber l) (asNumber m) a b (h 0) (i 0) e in
+    let k = as-number l m (λ j. h (suc j)) (λ j. i (suc j)) (omega arith) (d .0) in
+    ap₂ (λ (x : ℕ) (y : List ℕ). x ∷ y) (d .1) k
 
 bytes-drop : (k : ℕ) (l : List ℕ) → AreBytes l → AreBytes (drop k l)
 bytes-drop k l h i = rw (getD-drop k l i 0) (h (k + i))
 
-two-behind : (l : List ℕ) → AreBytes l → 10 ≤ length l → take 2 (drop 8 l) ≡ bytes 2 (number (drop 8 l) 0 2)
-two-behind l a h = sym (bytes-number 2 (drop 8 l) (bytes-drop 8 l a) (omega (arith, length-drop 8 l)))
+bytes-take : (k : ℕ) (l : List ℕ) → AreBytes l → AreBytes (take k l)
+bytes-take k l h i = below-or-not _ i k (λ j. rw (getD-take k l i 0 j) (h i)) 
+    (λ j. let e : getD (take k l) i 0 ≡ 0 = List·getD-eq-default (take k l) 0 (omega (arith, length-take k l)) in omega arith)
+
+-- as the code reads them
+pub eight-so : (l : List ℕ) (r : ℕ) → 10 ≤ length l
+    → r ≡ ((((((getD l 7 0 * 256 + getD l 6 0) * 256 + getD l 5 0) * 256 + getD l 4 0) * 256 + getD l 3 0) * 256 + getD l 2 0) * 256 + getD l 1 0) * 256 + getD l 0 0
+    → r ≡ asNumber (take 8 l)
+unfolding asNumber
+eight-so l r h e = e ∙ rw (← first-eight l (omega arith)) (omega arith)
+
+pub two-so : (l : List ℕ) (r : ℕ) → 10 ≤ length l → r ≡ getD l 9 0 * 256 + getD l 8 0 → r ≡ asNumber (take 2 (drop 8 l))
+unfolding asNumber
+two-so l r h e = e ∙ rw (← two-behind l h) (omega arith)
 
 -- what the elements of a slice are known to be
 module _ (l m : List ℕ) (y : (i : ℕ) → Fits w8 (getD l i 0)) (z : (i : ℕ) → Fits w8 (getD m i 0)) (h : 10 ≤ length l) (n : length m ≡ 10) (p q : ℕ)
-    (e : p ≡ number l 0 8) (f : q ≡ number m 0 8) where
+    (e : p ≡ asNumber (take 8 l)) (f : q ≡ asNumber (take 8 m)) where
   a : AreBytes l
   a i = y i .fits
 
@@ -107,40 +134,32 @@ module _ (l m : List ℕ) (y : (i : ℕ) → Fits w8 (getD l i 0)) (z : (i : ℕ
   parted : (k : List ℕ) → take 10 k ≡ take 8 k ++ take 2 (drop 8 k)
   parted k = take-add 8 2 k
 
-  whole : m ≡ take 8 m ++ take 2 (drop 8 m)
-  whole = sym (take-all 10 m (omega arith)) ∙ parted m
+  all-ten : take 10 m ≡ m
+  all-ten = take-all 10 m (omega arith)
 
-  first-so : p ≡ q → take 8 l ≡ take 8 m
-  first-so g = sym (bytes-number 8 l a (omega arith)) ∙ rw (← e, g, f) (bytes-number 8 m b (omega arith))
+  -- the parts of bytes that begin with the name are the name's
+  first-same : sameBytes (take 10 l) m ≡ true → take 8 l ≡ take 8 m
+  first-same s = sym (take-take 8 10 l (omega arith)) ∙ ap (take 8) (same-equal (take 10 l) m s)
+
+  rest-same : sameBytes (take 10 l) m ≡ true → take 2 (drop 8 l) ≡ take 2 (drop 8 m)
+  rest-same s = sym (drop-take 8 10 l) ∙ ap (drop 8) (same-equal (take 10 l) m s ∙ sym all-ten) ∙ drop-take 8 10 m
 
   pub begins-unlike : (p ≡ q → ⊥) → false ≡ sameBytes (take 10 l) m
-  begins-unlike d =
-      false-or-true (sameBytes (take 10 l) m)
-      (λ s.
-      let w : take 10 l ≡ m = same-equal (take 10 l) m s in
-      let g : number (take 10 l) 0 8 ≡ number l 0 8 = number-take 10 l 0 8 (omega arith) in
-      d (e ∙ sym g ∙ ap (λ (x : List ℕ). number x 0 8) w ∙ sym f))
+  begins-unlike d = false-or-true (sameBytes (take 10 l) m) (λ s. d (e ∙ ap asNumber (first-same s) ∙ sym f))
 
-  module _ (u v : ℕ) (g : p ≡ q) (i : u ≡ number (take (length l - 8) (drop 8 l)) 0 2) (j : v ≡ number (take (length m - 8) (drop 8 m)) 0 2) where
-    u-is : u ≡ number (drop 8 l) 0 2
-    u-is = rw (part-to-end 8 l) at i
-
-    v-is : v ≡ number (drop 8 m) 0 2
-    v-is = rw (part-to-end 8 m) at j
+  module _ (u v : ℕ) (g : p ≡ q) (i : u ≡ asNumber (take 2 (drop 8 l))) (j : v ≡ asNumber (take 2 (drop 8 m))) where
+    both-so : u ≡ v → take 10 l ≡ m
+    both-so c =
+        let first = as-number (take 8 l) (take 8 m) (bytes-take 8 l a) (bytes-take 8 m b) (omega (arith, length-take 8 l, length-take 8 m)) (sym e ∙ g ∙ f) in
+        let rest =
+        as-number (take 2 (drop 8 l)) (take 2 (drop 8 m)) (bytes-take 2 (drop 8 l) (bytes-drop 8 l a)) (bytes-take 2 (drop 8 m) (bytes-drop 8 m b))
+        (omega (arith, length-take 2 (drop 8 l), length-take 2 (drop 8 m), length-drop 8 l, length-drop 8 m))
+        (sym i ∙ c ∙ j) in
+        parted l ∙ rw (first, rest) (sym (parted m) ∙ all-ten)
 
     pub begins-like : eqb u v ≡ sameBytes (take 10 l) m
     begins-like = go (eqb u v) refl
       where
         go : (t : Bool) → eqb u v ≡ t → t ≡ sameBytes (take 10 l) m
-        go true x =
-            let c : u ≡ v = eqb-true _ _ x in
-            let k : take 2 (drop 8 l) ≡ take 2 (drop 8 m) = two-behind l a h ∙ rw (← u-is, c, v-is) (sym (two-behind m b (omega arith))) in
-            let w : take 10 l ≡ m = parted l ∙ rw (first-so g, k) (sym whole) in
-            rw w (sym (same-refl m))
-        go false x =
-            let c : u ≡ v → ⊥ = eqb-false _ _ x in
-            false-or-true (sameBytes (take 10 l) m)
-            (λ s.
-            let w : take 10 l ≡ m = same-equal (take 10 l) m s in
-            let k : number (take 10 l) 8 2 ≡ number l 8 2 = number-take 10 l 8 2 (omega arith) in
-            c (u-is ∙ number-drop 8 l 0 2 ∙ sym k ∙ ap (λ (x : List ℕ). number x 8 2) w ∙ sym (number-drop 8 m 0 2) ∙ sym v-is))
+        go true x = rw (both-so (eqb-true _ _ x)) (sym (same-refl m))
+        go false x = false-or-true (sameBytes (take 10 l) m) (λ s. eqb-false _ _ x (i ∙ ap asNumber (rest-same s) ∙ sym j))

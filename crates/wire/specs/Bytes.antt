@@ -31,3 +31,11 @@ sameBytes (a ∷ l) (b ∷ m) = if eqb a b then sameBytes l m else false
 -- every element is a byte
 abbrev pub AreBytes : List ℕ → Type 0
 AreBytes l = (i : ℕ) → getD l i 0 < 256
+
+-- ---- for private helpers alone; no public promise uses it
+
+-- all bytes as one number, the least significant first: as they stand in memory, so that two lists are compared without
+-- a swap
+unfoldable pub asNumber : List ℕ → ℕ
+asNumber [] = 0
+asNumber (b ∷ l) = asNumber l * 256 + b

@@ -8,14 +8,15 @@ ghost use Prim.Native.Nat.{_+_, _*_, _≤_};
 ghost use lib.ListN.{length};
 ghost use Rattle.wire.specs.Bytes.{number};
 
-fn join16(a: u8, b: u8) -> u16
+pub(crate) fn join16(a: u8, b: u8) -> u16
     ensures { λ r. ⌜ r ≡ a * 256 + b ⌝ }
 {
     (a as u16) * 256 + (b as u16)
 }
 
-// Each step takes one byte more: in this form the compiler makes one load of eight bytes and one swap of it.
-fn join64(a: u8, b: u8, c: u8, d: u8, e: u8, f: u8, g: u8, h: u8) -> u64
+// Each step takes one byte more: in this form the compiler makes one load of eight bytes, and one swap of it where the
+// first is the most significant.
+pub(crate) fn join64(a: u8, b: u8, c: u8, d: u8, e: u8, f: u8, g: u8, h: u8) -> u64
     ensures { λ r. ⌜ r ≡ ((((((a * 256 + b) * 256 + c) * 256 + d) * 256 + e) * 256 + f) * 256 + g) * 256 + h ⌝ }
 {
     let four = ((a as u64 * 256 + b as u64) * 256 + c as u64) * 256 + d as u64;
@@ -49,19 +50,11 @@ pub fn be64(s: &[u8], at: ByteOffset) -> u64
 }
 
 // The number in front of a slice that has all eight bytes.
-pub(crate) fn in_front(s: &[u8]) -> u64
+fn in_front(s: &[u8]) -> u64
     requires { ⌜ 8 ≤ length (now s) ⌝ }
     ensures { λ r. ⌜ r ≡ number (now (s .entry)) 0 8 ⌝ }
 {
     join64(s[0], s[1], s[2], s[3], s[4], s[5], s[6], s[7])
-}
-
-// The 16-bit number in front of a slice that has both bytes.
-pub(crate) fn two_in_front(s: &[u8]) -> u16
-    requires { ⌜ 2 ≤ length (now s) ⌝ }
-    ensures { λ r. ⌜ r ≡ number (now (s .entry)) 0 2 ⌝ }
-{
-    join16(s[0], s[1])
 }
 
 // The 64-bit number where the slice may end before the number does, byte by byte.

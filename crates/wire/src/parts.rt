@@ -1,5 +1,6 @@
 // A byte of a lent slice, the bytes at a place, and the first bytes as an array.
 use crate::kinds::ByteOffset;
+use crate::output;
 ghost use mathlib.Core.Path.{_≡_};
 ghost use lib.ListN.{getD, take, drop};
 ghost use Rattle.wire.specs.Parts.{firstBytes};
@@ -36,12 +37,14 @@ pub fn six(s: &[u8]) -> [u8; 6]
     [s[0], s[1], s[2], s[3], s[4], s[5]]
 }
 
-// The first ten bytes; all zeros where there are fewer.
+// The first ten bytes; all zeros where there are fewer. Copied as a whole, so that the compiler moves no single byte.
 pub fn ten(s: &[u8]) -> [u8; 10]
     ensures { λ r. ⌜ r ≡ firstBytes 10 (now (s .entry)) ⌝ }
 {
     if s.len() < 10 {
         return [0; 10];
     }
-    [s[0], s[1], s[2], s[3], s[4], s[5], s[6], s[7], s[8], s[9]]
+    let mut first = [0u8; 10];
+    output::put_bytes(&mut first, ByteOffset(0), part(s, ByteOffset(0), 10));
+    first
 }

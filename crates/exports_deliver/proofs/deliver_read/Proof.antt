@@ -10,7 +10,7 @@ deliver-read-spec =
     (λ c κs. search delivering)  -- read-requires
     (λ c κs. search delivering)  -- take-read-requires
     (λ c κs. search delivering)  -- lay-answer-requires
-    (λ c κs. search delivering)  -- keep-requires
+    (λ c κs. search delivering)  -- write-requires
     (λ c. search delivering)  -- same-length
     (λ c. search delivering)  -- same-length-2
     (λ c. search delivering)  -- same-length-3

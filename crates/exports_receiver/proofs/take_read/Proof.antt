@@ -12,7 +12,7 @@ take-read-spec =
     (λ c κs. search receivers)  -- answer-words-requires
     (λ c. search receivers)  -- slice-aggregate-answer
     (λ c κs. search receivers)  -- answer-requires
-    (λ c κs. search receivers)  -- keep-requires
+    (λ c κs. search receivers)  -- write-requires
     (λ c. search receivers)  -- same-length
     (λ c. search receivers)  -- same-length-2
     (λ c. search receivers)  -- returns

@@ -1,4 +1,4 @@
--- All zeros where there are too few, and else the bytes one by one.
+-- All zeros where there are too few, and else ten bytes laid over them.
 use Rattle.wire.proofs.Rules.{parts}
 use Rattle.wire.proofs.parts.ten.Statement.{statement}
 use Rattle.wire.proofs.parts.ten.Tie as tie
@@ -8,15 +8,8 @@ ten-spec =
     tie.close
     (tie.spec
     (λ c. search parts)  -- returns
-    (λ c. search parts)  -- shared-slice-read-t5
-    (λ c. search parts)  -- shared-slice-read-t7
-    (λ c. search parts)  -- shared-slice-read-t9
-    (λ c. search parts)  -- shared-slice-read-t11
-    (λ c. search parts)  -- shared-slice-read-t13
-    (λ c. search parts)  -- shared-slice-read-t15
-    (λ c. search parts)  -- shared-slice-read-t17
-    (λ c. search parts)  -- shared-slice-read-t19
-    (λ c. search parts)  -- shared-slice-read-t21
-    (λ c. search parts)  -- shared-slice-read-t23
+    (λ c. search parts)  -- slice-aggregate-put-bytes
+    (λ c κs. search parts)  -- part-requires
+    (λ c κs. search parts)  -- put-bytes-requires
     (λ c. search parts)  -- returns-2
     )

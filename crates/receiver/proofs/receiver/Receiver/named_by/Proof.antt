@@ -1,4 +1,4 @@
--- It keeps a name that it has, and takes the datagram's where it has none.
+-- The datagram's name is its own, or is learned.
 use Rattle.receiver.proofs.Rules.{names}
 use Rattle.receiver.proofs.receiver.Receiver.named_by.Statement.{statement}
 use Rattle.receiver.proofs.receiver.Receiver.named_by.Tie as tie
@@ -7,8 +7,6 @@ pub named-by-spec : {M : Type 1} → statement M
 named-by-spec =
     tie.close
     (tie.spec
-    (λ c κs. search names)  -- is-unnamed-requires
-    (λ c. search names)  -- returns
     (λ c κs. search names)  -- ten-requires
-    (λ c. search names)  -- returns-2
+    (λ c. search names)  -- returns
     )

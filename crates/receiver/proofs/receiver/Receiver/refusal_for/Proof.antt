@@ -1,4 +1,4 @@
--- What wasn't read comes first, and then the receiver's own rungs.
+-- What wasn't read comes first, then 17, 18 and 20.
 use Rattle.receiver.proofs.Rules.{ladder}
 use Rattle.receiver.proofs.receiver.Receiver.refusal_for.Statement.{statement}
 use Rattle.receiver.proofs.receiver.Receiver.refusal_for.Tie as tie
@@ -9,7 +9,10 @@ refusal-for-spec =
     (tie.spec
     (λ c κs. search ladder)  -- refusal-in-requires
     (λ c. search ladder)  -- returns
-    (λ c κs. search ladder)  -- ends-below-requires
-    (λ c κs. search ladder)  -- own-refusal-requires
+    (λ c κs. search ladder)  -- is-other-session-requires
     (λ c. search ladder)  -- returns-2
+    (λ c. search ladder)  -- returns-3
+    (λ c κs. search ladder)  -- ends-below-requires
+    (λ c. search ladder)  -- returns-4
+    (λ c. search ladder)  -- returns-5
     )
