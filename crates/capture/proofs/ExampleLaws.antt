@@ -15,7 +15,7 @@ use Rattle.moldudp64.specs.Blocks.{blockLength, fits, allFit, afterBlocks, bloc
 use Rattle.moldudp64.specs.Downstream.{kindOfCount, blockCount, refusalOf}
 use Rattle.moldudp64.specs.Written.{encoded, encodedEnd}
 use Rattle.receiver.specs.Table.{table}
-use Rattle.receiver.specs.Receiver.{receiver, otherSession, endBelow, ownRefusal, refusalFor, receiverStartRefusal, startReceiver, answerOf, receiverAfter}
+use Rattle.receiver.specs.Receiver.{receiver, nameBy, otherSession, endBelow, ownRefusal, refusalFor, receiverStartRefusal, startReceiver, answerOf, receiverAfter}
 use Rattle.feed.specs.Session.{Datagram}
 use Rattle.decimal.specs.Decimal.{digitsUpTo, digits}
 use Rattle.capture_settings.specs.Settings.{isPrintable}
@@ -88,7 +88,7 @@ abbrev final : Report
 final = report (receiver readroom 6 100 true) 9 (tally 5 1 1 2 1)
 
 reported-so : over started exampleDatagrams ≡ final
-unfolding over stepOf counted partsIn upTo answerOf receiverAfter refusalFor ownRefusal otherSession endBelow table sameBytes refusalOf blocksRefusal allFit fits afterBlocks blockLength blockCount kindOfCount numberOf countOf encoded encodedEnd header bytes blocksOf number
+unfolding over stepOf counted partsIn upTo answerOf receiverAfter refusalFor ownRefusal nameBy otherSession endBelow table sameBytes refusalOf blocksRefusal allFit fits afterBlocks blockLength blockCount kindOfCount numberOf countOf encoded encodedEnd header bytes blocksOf number
 reported-so = refl
 
 start-so : startReceiver readroom 1 100 ≡ receiver readroom 1 100 false

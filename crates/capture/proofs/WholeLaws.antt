@@ -23,7 +23,7 @@ use Rattle.receiver.specs.Receiver.{receiverStartRefusal, startReceiver, receiv
 use Rattle.feed.specs.Session.{Datagram}
 use Rattle.feed.specs.Machine.{after}
 use Rattle.receiver.specs.Condition3.{plain}
-use Rattle.receiver.proofs.TableLaws.{row-after, refused-stays}
+use Rattle.receiver.proofs.Promises.{after-ten}
 use Rattle.capture_settings.specs.Settings.{settingsOf}
 use Rattle.capture_settings.specs.Statements.{Good}
 use Rattle.capture_settings.proofs.TextLaws.{settings-promises}
@@ -190,24 +190,19 @@ start-takes-settings : StartTakesSettings
 unfolding StartTakesSettings
 start-takes-settings l z = good-start _ _ _ (good-read l z)
 
--- the receiver keeps its name
-after-session : (r : Receiver) (d : Datagram) → receiverAfter r d .session ≡ r .session
-after-session r d =
-    zero-or-not _ (refusalFor r d) (λ z. ap (λ (x : Receiver). x .session) (row-after r d z))
-    (λ z. ap (λ (x : Receiver). x .session) (sym (refused-stays r d (refusalFor r d) refl z)))
-
-keeps-session : (r : Receiver) (ds : List Datagram) → after plain r ds .session ≡ r .session
+-- the receiver's name stays one of ten bytes
+ten-after : (r : Receiver) (ds : List Datagram) → length (r .session) ≡ 10 → length (after plain r ds .session) ≡ 10
 unfolding after
-keeps-session r [] = refl
-keeps-session r (d ∷ ds) = keeps-session (receiverAfter r d) ds ∙ after-session r d
+ten-after r [] e = e
+ten-after r (d ∷ ds) e = ten-after (receiverAfter r d) ds (after-ten r d e)
 
-report-session : (r : Receiver) (l : List ℕ) → recordsReport r l .receiver .session ≡ r .session
+report-ten : (r : Receiver) (l : List ℕ) → length (r .session) ≡ 10 → length (recordsReport r l .receiver .session) ≡ 10
 unfolding recordsReport
-report-session r l = go (isCut l)
+report-ten r l e = go (isCut l)
   where
-    go : (b : Bool) → (if b then summedCut r (recordsOf l) else summed r (recordsOf l)) .receiver .session ≡ r .session
-    go true = keeps-session r (recordsOf l)
-    go false = keeps-session r (recordsOf l)
+    go : (b : Bool) → length ((if b then summedCut r (recordsOf l) else summed r (recordsOf l)) .receiver .session) ≡ 10
+    go true = ten-after r (recordsOf l) e
+    go false = ten-after r (recordsOf l) e
 
 started-session : (name : List ℕ) (n limit : ℕ) → Good name n limit → startReceiver name n limit .session ≡ name
 unfolding startReceiver
@@ -227,9 +222,8 @@ capture-fits l = zero-or-not _ (settingsOf l .refusal .number) fit not-read
     fit : settingsOf l .refusal .number ≡ 0 → length (textOf (captureOf l)) ≤ room
     fit z =
         let g = good-read l z in
-        let s : recordsReport (startedOf (settingsOf l .settings)) (drop (settingsOf l .size) l) .receiver .session ≡ settingsOf l .settings .session =
-        report-session (startedOf (settingsOf l .settings)) (drop (settingsOf l .size) l) ∙ started-session _ _ _ g in
-        let n = report-fits (recordsReport (startedOf (settingsOf l .settings)) (drop (settingsOf l .size) l)) (ap length s ∙ g .ten-bytes) in
+        let ten = report-ten (startedOf (settingsOf l .settings)) (drop (settingsOf l .size) l) (ap length (started-session _ _ _ g) ∙ g .ten-bytes) in
+        let n = report-fits (recordsReport (startedOf (settingsOf l .settings)) (drop (settingsOf l .size) l)) ten in
         rw (eq-eqb _ _ z) (omega arith)
 
     not-read : (settingsOf l .refusal .number ≡ 0 → ⊥) → length (textOf (captureOf l)) ≤ room

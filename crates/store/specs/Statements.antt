@@ -4,7 +4,7 @@ use mathlib.Core.List.{List, [], _∷_, List·Memᴰ}
 use mathlib.Core.Bool.{true, false}
 use mathlib.Core.Path.{_≡_}
 use lib.ListN.{length, take, drop}
-use Rattle.wire.specs.Bounds.{sessionSize}
+use Rattle.wire.specs.Bounds.{sessionSize, blank}
 use Rattle.wire.specs.Words.{says}
 use Rattle.wire.specs.Output.{wrote}
 use Rattle.moldudp64.specs.Header.{numberOf, countOf}
@@ -45,10 +45,11 @@ pub record HeartbeatOf (st : Store) (h : List ℕ) : Type 0 where
   pub kind : kindOf h ≡ heartbeat
   pub name : take sessionSize h ≡ st .session
 
--- a started, unended receiver of the store's session; a store and a size not refused 19 or 44; every missing number,
--- from the receiver's to just below the heartbeat's, is in the store and fits
+-- a started, unended receiver of the store's session, whose name isn't blank; a store and a size not refused 19 or 44;
+-- every missing number, from the receiver's to just below the heartbeat's, is in the store and fits
 pub record Serves (st : Store) (size : ℕ) (h : List ℕ) (r : Receiver) : Type 0 where
   pub ten : length (st .session) ≡ sessionSize
+  pub named : st .session ≡ blank → ⊥
   pub good : storeGround st size ≡ 0
   pub beat : HeartbeatOf st h
   pub started : receiverStartRefusal (r .next .0) (r .limit .0) ≡ 0
