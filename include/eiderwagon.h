@@ -190,10 +190,10 @@ enum {
     EIDERWAGON_CURSOR_OPEN = 0xE1   /* the code of a cursor */
 };
 
-/* A receiver. Its session still matters once it is ended: another one is 17, its own is 18. */
+/* A receiver. Its session still matters once it is ended: 17 is given as before, and 18 to every other datagram. */
 enum {
     EIDERWAGON_RECEIVER_CODE_AT = 0,    /* its code, or it is ended (1) */
-    EIDERWAGON_RECEIVER_SESSION_AT = 1, /* session (10) */
+    EIDERWAGON_RECEIVER_SESSION_AT = 1, /* session, ten spaces while it isn't known (10) */
     EIDERWAGON_RECEIVER_NEXT_AT = 11,   /* number of the next message (8) */
     EIDERWAGON_RECEIVER_LIMIT_AT = 19,  /* asking limit (2) */
     EIDERWAGON_RECEIVER_SIZE = 21,      /* a receiver */
@@ -375,7 +375,8 @@ uint32_t eiderwagon_mold_write_request(const uint8_t *session, size_t session_si
 /* ---- The MoldUDP64 receiver -------------------------------------------------------------------------------------- */
 
 /* Starts a receiver of a session at the number of the next message, 1 or more. It asks for at most `limit` messages at
- * once, 1 to 65,534.
+ * once, 1 to 65,534. A session that isn't known yet is ten spaces: the receiver then takes that of the first datagram
+ * that it doesn't refuse, whatever it answers, and keeps it. It stands in the state (EIDERWAGON_RECEIVER_SESSION_AT).
  *   session:   EIDERWAGON_SESSION_SIZE bytes
  *   state:     EIDERWAGON_RECEIVER_SIZE bytes, written
  *   refusals:  19, 41. 19 also for a session that isn't ten bytes */
@@ -405,7 +406,8 @@ enum {
  * EIDERWAGON_RECEIVER_ASK. Send the first, and another only where its first number differs or a while has passed.
  *   state:     EIDERWAGON_RECEIVER_SIZE bytes, read and written
  *   words:     EIDERWAGON_TAKE_WORDS
- *   refusals:  11, 12, 13, 14, 15, 16, 41, 17, 18, 20, 41 */
+ *   refusals:  11, 12, 13, 14, 15, 16, 41, 17, 18, 20, 41. 17 for another session than the receiver's, and while that
+ *              isn't known for ten spaces alone */
 uint32_t eiderwagon_receiver_take(uint8_t *state, size_t state_size, const uint8_t *datagram, size_t datagram_size,
                                   uint64_t *words, size_t words_size);
 
@@ -712,11 +714,11 @@ uint32_t eiderwagon_client_step(uint8_t *state, size_t state_size, const uint8_t
 
 /* ---- Captures ---------------------------------------------------------------------------------------------------- */
 
-/* A capture is three lines, `session=` with ten bytes from 0x20 to 0x7E, `next=` with 1 to 2^64 - 1 and `limit=` with 1
- * to 65534, each ended by one line feed, numbers without leading zeros; and then records, each a length of 2 bytes,
- * big-endian, and so many bytes: one datagram as it came. Its report is eight lines: `session=`, `next=`, `ended=` (yes
- * or no), `delivered=` (messages), `old=`, `quiet=`, `asked=`, `refused=` (answers); or the one line
- * `settings=refused`, which is no refusal of these functions. */
+/* A capture is three lines, `session=` with ten bytes from 0x20 to 0x7E that aren't all spaces, `next=` with 1 to
+ * 2^64 - 1 and `limit=` with 1 to 65534, each ended by one line feed, numbers without leading zeros; and then records,
+ * each a length of 2 bytes, big-endian, and so many bytes: one datagram as it came. Its report is eight lines:
+ * `session=`, `next=`, `ended=` (yes or no), `delivered=` (messages), `old=`, `quiet=`, `asked=`, `refused=` (answers);
+ * or the one line `settings=refused`, which is no refusal of these functions. */
 
 /* Starts the reading of a capture in pieces. Until settings are read its receiver is an ended one, its name ten spaces,
  * its next number and its limit 1; bad settings leave it as it is.

@@ -1,4 +1,5 @@
-/* A feed: a MoldUDP64 receiver that shows each message once and in order, and asks for what was lost.
+/* A feed: a MoldUDP64 receiver that learns its session's name, shows each message once and in order, and asks for what
+ * was lost.
  *
  *   cc -I ../../include feed.c ../../target/staticlib/libeiderwagon.a -o feed && ./feed
  *
@@ -10,11 +11,15 @@
 #include <stdio.h>
 #include <string.h>
 
-static const uint8_t session[EIDERWAGON_SESSION_SIZE] = {'R', 'E', 'A', 'D', 'R', 'O', 'O', 'M', '0', '1'};
+/* A session that isn't known yet is ten spaces. Where it is known, start with its name instead. */
+static const uint8_t unknown[EIDERWAGON_SESSION_SIZE] = {' ', ' ', ' ', ' ', ' ', ' ', ' ', ' ', ' ', ' '};
 
 static uint8_t receiver[EIDERWAGON_RECEIVER_SIZE];
 
 /* ---- The receiver's host ----------------------------------------------------------------------------------------- */
+
+/* Its session's name, which stands in the state. */
+static const uint8_t *const session = receiver + EIDERWAGON_RECEIVER_SESSION_AT;
 
 /* Shows the messages that an answer delivers. They stand in the datagram: nothing is copied. */
 static void deliver(const uint8_t *datagram, size_t size, const uint64_t *answer) {
@@ -44,8 +49,8 @@ static void ask(uint64_t first, uint16_t count) {
         return;
     }
     asked = first;
-    eiderwagon_mold_write_request(receiver + EIDERWAGON_RECEIVER_SESSION_AT, EIDERWAGON_SESSION_SIZE, first, count,
-                                  request, sizeof request, words, EIDERWAGON_WRITE_WORDS);
+    eiderwagon_mold_write_request(session, EIDERWAGON_SESSION_SIZE, first, count, request, sizeof request, words,
+                                  EIDERWAGON_WRITE_WORDS);
     printf("a request of %" PRIu64 " bytes: %u messages from %" PRIu64 " on\n", words[EIDERWAGON_WRITE_SIZE],
            (unsigned)count, first);
 }
@@ -53,10 +58,14 @@ static void ask(uint64_t first, uint16_t count) {
 /* Takes one datagram as it came. */
 static void take(const uint8_t *datagram, size_t size) {
     uint64_t answer[EIDERWAGON_TAKE_WORDS];
+    int learns = memcmp(session, unknown, sizeof unknown) == 0;
     uint32_t code = eiderwagon_receiver_take(receiver, sizeof receiver, datagram, size, answer, EIDERWAGON_TAKE_WORDS);
     if (EIDERWAGON_NUMBER(code) != EIDERWAGON_OK) {
         printf("refused: %s\n", eiderwagon_ground(code)); /* nothing has changed: the next one may be good */
         return;
+    }
+    if (learns) {
+        printf("the session is %.*s\n", EIDERWAGON_SESSION_SIZE, (const char *)session); /* from any answer */
     }
     switch (answer[EIDERWAGON_TAKE_ANSWER]) {
     case EIDERWAGON_RECEIVER_DELIVER:
@@ -75,11 +84,13 @@ static void take(const uint8_t *datagram, size_t size) {
 
 /* ---- In place of a socket ---------------------------------------------------------------------------------------- */
 
+static const uint8_t tonight[EIDERWAGON_SESSION_SIZE] = {'R', 'E', 'A', 'D', 'R', 'O', 'O', 'M', '0', '1'};
+
 /* A datagram with the messages from number `first` on, as they stand in `joined`. */
 static void data(uint64_t first, const uint16_t *lengths, size_t count, const char *joined) {
     uint8_t datagram[EIDERWAGON_LARGEST_DATAGRAM];
     uint64_t words[EIDERWAGON_WRITE_WORDS];
-    eiderwagon_mold_write_data(session, sizeof session, first, lengths, count, (const uint8_t *)joined, strlen(joined),
+    eiderwagon_mold_write_data(tonight, sizeof tonight, first, lengths, count, (const uint8_t *)joined, strlen(joined),
                                datagram, sizeof datagram, words, EIDERWAGON_WRITE_WORDS);
     take(datagram, (size_t)words[EIDERWAGON_WRITE_SIZE]);
 }
@@ -87,7 +98,7 @@ static void data(uint64_t first, const uint16_t *lengths, size_t count, const ch
 static void end_of_session(uint64_t next, size_t cut) {
     uint8_t datagram[EIDERWAGON_MOLD_HEADER_SIZE];
     uint64_t words[EIDERWAGON_WRITE_WORDS];
-    eiderwagon_mold_write_end(session, sizeof session, next, datagram, sizeof datagram, words, EIDERWAGON_WRITE_WORDS);
+    eiderwagon_mold_write_end(tonight, sizeof tonight, next, datagram, sizeof datagram, words, EIDERWAGON_WRITE_WORDS);
     take(datagram, (size_t)words[EIDERWAGON_WRITE_SIZE] - cut);
 }
 
@@ -98,7 +109,7 @@ int main(void) {
         return 1;
     }
     /* The receiver is all zeros, as a state is to be before its start: a refused start changes no byte. */
-    code = eiderwagon_receiver_start(session, sizeof session, 1, 100, receiver, sizeof receiver);
+    code = eiderwagon_receiver_start(unknown, sizeof unknown, 1, 100, receiver, sizeof receiver);
     if (EIDERWAGON_NUMBER(code) != EIDERWAGON_OK) {
         fprintf(stderr, "no receiver: %s\n", eiderwagon_ground(code));
         return 1;

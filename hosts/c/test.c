@@ -706,6 +706,56 @@ static void refuse_to_deliver(void) {
                                                        FEWER(TAKE), PLACES(0)));
 }
 
+/* A receiver of a session that isn't known is named by any answer, and by no refusal: until then 17 is ten spaces, and
+ * from then on every other name. */
+static void learn_a_name(void) {
+    static const uint8_t unknown[] = {' ', ' ', ' ', ' ', ' ', ' ', ' ', ' ', ' ', ' '};
+    const Bytes below = end_of_session(4);
+    const Bytes by_answer[] = {
+        [EIDERWAGON_RECEIVER_DELIVER] = data(4, 3, (const uint16_t[]){4, 0, 3}, "foursix"),
+        [EIDERWAGON_RECEIVER_OLD] = data(4, 1, (const uint16_t[]){4}, "four"),
+        [EIDERWAGON_RECEIVER_QUIET] = heartbeat(5),
+        [EIDERWAGON_RECEIVER_ASK] = heartbeat(7),
+        [EIDERWAGON_RECEIVER_ENDED] = end_of_session(5),
+    };
+    const uint8_t *session = lent.state + EIDERWAGON_RECEIVER_SESSION_AT;
+    for (uint64_t answer = EIDERWAGON_RECEIVER_DELIVER; answer <= EIDERWAGON_RECEIVER_ENDED; answer++) {
+        const Bytes known = by_answer[answer];
+        Bytes blank = known;
+        Bytes other = known;
+        memset(blank.bytes, ' ', EIDERWAGON_SESSION_SIZE);
+        other.bytes[9] = '2';
+        for (int at_once = 0; at_once <= 1; at_once++) {
+            DONE(eiderwagon_receiver_start(LEND(unknown), 5, 100, LEND(lent.state)));
+            REFUSED(SESSION_DIFFERS, eiderwagon_receiver_take(LEND(lent.state), blank.bytes, blank.size, WORDS(TAKE)));
+            REFUSED(SESSION_DIFFERS, eiderwagon_receiver_deliver(LEND(lent.state), blank.bytes, blank.size, WORDS(TAKE),
+                                                                 PLACES(4)));
+            REFUSED(DATAGRAM_SHORT, eiderwagon_receiver_take(LEND(lent.state), known.bytes, 19, WORDS(TAKE)));
+            REFUSED(END_BELOW_EXPECTED,
+                    eiderwagon_receiver_take(LEND(lent.state), below.bytes, below.size, WORDS(TAKE)));
+            REFUSED(OUTPUT_SHORT, eiderwagon_receiver_take(LEND(lent.state), known.bytes, known.size, FEWER(TAKE)));
+            CHECK(memcmp(session, unknown, sizeof unknown) == 0);
+            if (at_once) {
+                DONE(eiderwagon_receiver_deliver(LEND(lent.state), known.bytes, known.size, WORDS(TAKE), PLACES(4)));
+            } else {
+                DONE(eiderwagon_receiver_take(LEND(lent.state), known.bytes, known.size, WORDS(TAKE)));
+            }
+            CHECK(LENT(TAKE_ANSWER) == answer && memcmp(session, name, sizeof name) == 0);
+            REFUSED(SESSION_DIFFERS, eiderwagon_receiver_take(LEND(lent.state), other.bytes, other.size, WORDS(TAKE)));
+            REFUSED(SESSION_DIFFERS, eiderwagon_receiver_deliver(LEND(lent.state), other.bytes, other.size, WORDS(TAKE),
+                                                                 PLACES(4)));
+            REFUSED(SESSION_DIFFERS, eiderwagon_receiver_take(LEND(lent.state), blank.bytes, blank.size, WORDS(TAKE)));
+        }
+
+        /* Ended without a name, as a reading's receiver is before its settings: every other name is 18. */
+        DONE(eiderwagon_receiver_start(LEND(unknown), 5, 100, LEND(lent.state)));
+        lent.state[EIDERWAGON_RECEIVER_CODE_AT] = 0;
+        REFUSED(SESSION_DIFFERS, eiderwagon_receiver_take(LEND(lent.state), blank.bytes, blank.size, WORDS(TAKE)));
+        REFUSED(SESSION_ENDED, eiderwagon_receiver_take(LEND(lent.state), known.bytes, known.size, WORDS(TAKE)));
+        REFUSED(SESSION_ENDED, eiderwagon_receiver_take(LEND(lent.state), other.bytes, other.size, WORDS(TAKE)));
+    }
+}
+
 /* A store's call with the parts that a test changes: its name, first number, size, request, output and words. */
 #define ANSWER(session, first, size, request, out, words) \
     eiderwagon_store_answer(session, first, LEND(kept_lengths), TEXT(kept), size, request, out, words)
@@ -1771,6 +1821,7 @@ int main(void) {
     refuse_requests();
     refuse_at_a_receiver();
     refuse_to_deliver();
+    learn_a_name();
     refuse_at_a_store();
     refuse_at_a_transmitter();
     refuse_packets();

@@ -69,6 +69,17 @@ OF_RECEIVER = [
 ]
 
 
+# of one at number 2 without a name, and an end of session
+OF_UNNAMED = [
+    *OF_DATAGRAM,
+    short(RECEIVER_SIZE),
+    ("17", dict(a=end(2, session=BLANK))),
+    ("18", dict(s=receiver_bytes(Receiver(BLANK, 2, 9, True)))),
+    ("20", dict(s=receiver_bytes(Receiver(BLANK, 3, 9, False)))),
+    FEW_WORDS,
+]
+
+
 def of_stream(key, letter, other, bad_field):
     """21 to 25, in the field of the stream."""
     streams = (raw(0, letter), raw(4098, letter), packet(other), raw(48, letter), bad_field)
@@ -140,6 +151,8 @@ LADDERS = [
             FEW_WORDS,
         ],
     ),
+    ("receiver_take", dict(a=end(2), s=receiver_bytes(Receiver(BLANK, 2, 9, False))), OF_UNNAMED),
+    ("receiver_deliver", dict(a=end(2), d=b"", s=receiver_bytes(Receiver(BLANK, 2, 9, False))), OF_UNNAMED),
     # the same with no place needed, and where two messages are delivered
     (
         "receiver_deliver",

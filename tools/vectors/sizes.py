@@ -48,16 +48,19 @@ CALLS = {
     "receiver_start": [
         dict(a=ROOM, n=1, m=100, s=room(RECEIVER_SIZE)),
         dict(a=ROOM, n=0, m=0, s=room(RECEIVER_SIZE)),
+        dict(a=BLANK, n=1, m=100, s=room(RECEIVER_SIZE)),
     ],
     "receiver_take": [
         dict(a=data_of(5, 1), s=receiver_bytes(Receiver(ROOM, 5, 9, False))),
         dict(a=data_of(5, 1), s=receiver_bytes(Receiver(ROOM, 5, 9, True))),
+        dict(a=data_of(5, 1), s=receiver_bytes(Receiver(BLANK, 5, 9, False))),
         dict(a=b"", s=room(RECEIVER_SIZE)),
     ],
     "receiver_deliver": [
         dict(a=data_of(4, 3), d=places_room(4), s=receiver_bytes(Receiver(ROOM, 5, 9, False))),
         dict(a=data_of(5, 1), d=places_room(2), s=receiver_bytes(Receiver(ROOM, 5, 9, True))),
         dict(a=heartbeat(5), d=b"", s=receiver_bytes(Receiver(ROOM, 5, 9, False))),
+        dict(a=data_of(5, 1), d=places_room(2), s=receiver_bytes(Receiver(BLANK, 5, 9, False))),
         dict(a=b"", d=places_room(2), s=room(RECEIVER_SIZE)),
     ],
     "receiver_walk": [dict(a=TWO, n=1, m=0, s=room(CURSOR_SIZE))],

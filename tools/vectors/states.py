@@ -14,12 +14,13 @@ from boundary import (
     cursor_bytes,
     places_room,
     reading_bytes,
+    reading_in,
     receiver_bytes,
     server_bytes,
     server_in,
     transmitter_bytes,
 )
-from capture_rules import Reading, Report
+from capture_rules import START, Reading, Report
 from captures import record
 from datagrams import ROOM, TWO, data_of, heartbeat
 from lines import room
@@ -81,6 +82,11 @@ def kinds(v):
     inside = dict(a=data_of(1, 2), s=KINDS["a reading"][2:23])
     v.ask("receiver_take", ("deliver", 1, 2, 0), **inside)
     v.ask("receiver_deliver", ("deliver", 1, 2, 0), d=places_room(4), **inside)
+    v.heading("before its settings it is blank and ended, as after a refused start")
+    inside = dict(s=reading_bytes(START)[2:23])
+    for session, number in ((BLANK, 17), (ROOM, 18)):
+        v.ask("receiver_take", (number,), a=data_of(1, 2, session=session), **inside)
+        v.ask("receiver_deliver", (number,), a=data_of(1, 2, session=session), d=places_room(4), **inside)
     v.section("every kind's bytes, lent to the call that lays places: what isn't a receiver changes no byte")
     for kind, state in (*KINDS.items(), ("bytes of zero", bytes(CAPTURE_SIZE))):
         v.heading(kind)
@@ -128,6 +134,19 @@ def phases(v):
     for first in (*CODES, NOT_OPEN, NOT_OPEN_TOO):
         state = reading[:2] + by_hand(KINDS["a receiver"], first) + reading[23:]
         v.ask("capture_feed", (22,), a=record(heartbeat(1)), s=state)
+    v.section("the receiver of a reading, made by hand without a name: a record names it, and the report has the name")
+    blank = reading_bytes(Reading("records", Report(OPEN_RECEIVER._replace(session=BLANK))))
+    for datagram, name in (
+        (heartbeat(1), ROOM),
+        (data_of(1, 2), ROOM),
+        (data_of(5, 2), ROOM),
+        (heartbeat(1, session=BLANK), BLANK),
+        (heartbeat(1)[:19], BLANK),
+    ):
+        fed = v.ask("capture_feed", a=record(datagram), s=blank).lent
+        assert reading_in(fed).report.receiver.session == name
+        v.ask("capture_write", a=fed, s=room(120))
+        v.ask("capture_finish", a=record(datagram)[:-1], s=blank)
     v.section("no message is there: no byte changes, whatever the cursor was made of")
     cursor = KINDS["a cursor"]
     for data, state in (

@@ -20,10 +20,12 @@ mold_write_request: written | 13 | 48 | 41 session | 41 output | 41 words
 receiver_start: started | 19 size | 19 | 41 state
 receiver_take: deliver all | deliver the rest | old data | old heartbeat | quiet | ask for all, data |
     ask for all, heartbeat | ask for all, end | ask to the limit, data | ask to the limit, heartbeat |
-    ask to the limit, end | ended | 11 | 12 | 13 | 14 | 15 | 16 | 41 state | 17 | 18 | 20 | 41 words
+    ask to the limit, end | ended | named by deliver | named by old | named by quiet | named by ask |
+    named by ended | 11 | 12 | 13 | 14 | 15 | 16 | 41 state | 17 | 17 blank | 18 | 20 | 41 words
 receiver_deliver: deliver all | deliver the rest | old data | old heartbeat | quiet | ask for all, data |
     ask for all, heartbeat | ask for all, end | ask to the limit, data | ask to the limit, heartbeat |
-    ask to the limit, end | ended | 11 | 12 | 13 | 14 | 15 | 16 | 41 state | 17 | 18 | 20 | 41 places | 41 words
+    ask to the limit, end | ended | named by deliver | named by old | named by quiet | named by ask |
+    named by ended | 11 | 12 | 13 | 14 | 15 | 16 | 41 state | 17 | 17 blank | 18 | 20 | 41 places | 41 words
 receiver_walk: delivered messages | not of this datagram | 41 state
 store_answer: all that is wanted | to the store's end | as many as fit | 19 packet | 19 numbers | 44 | 47 | 13 | 48 |
     41 session | 53 | 51 | 52 | 41 output | 41 words
@@ -203,6 +205,8 @@ fn are_apart(function: &str, (first, second): &Pair) -> bool {
     match (one, other) {
         // Without a header there is no number, no block and no session.
         (11, 12..=17 | 20) => true,
+        // A receiver has a name, or none yet.
+        (17, 17) => true,
         // A number is 0, or too high; a block is missing, or there is more behind the last; an end of session has no
         // blocks.
         (13, 14) | (15, 16) | (14 | 15, 20) => true,

@@ -161,6 +161,61 @@ fn ahead(datagram: &[u8], state: &[u8]) -> u64 {
     u64::from_be_bytes(datagram[10..18].try_into().expect("eight bytes")) - next
 }
 
+/// A name of ten spaces.
+const BLANK: &[u8] = &[b' '; 10];
+
+/// The name in a state that is whole.
+fn name_in(state: &[u8]) -> Option<&[u8]> {
+    (state.len() >= 21).then(|| &state[1..11])
+}
+
+/// What a receiver's call lends a datagram by; none of another function, nor with a receiver that is too short.
+fn taken<'c>(call: &Call<'c>, before: &Lent) -> Option<&'c [u8]> {
+    let (Call::ReceiverTake { datagram } | Call::ReceiverDeliver { datagram }) = *call else {
+        return None;
+    };
+    name_in(&before.state).map(|_| datagram)
+}
+
+/// Whether a call by a receiver without a name was answered so.
+fn answered_unnamed(call: &Call, before: &Lent, code: u32, after: &Lent, answer: u64) -> bool {
+    let is_unnamed = name_in(&before.state) == Some(BLANK);
+    taken(call, before).is_some() && is_unnamed && code == 0 && after.words[0] == answer
+}
+
+/// Forgets the name that an answer gave.
+fn forget(answer: u64, call: &Call, before: &Lent, code: u32, after: &mut Lent) {
+    if answered_unnamed(call, before, code, after, answer) {
+        after.state[1..11].copy_from_slice(BLANK);
+    }
+}
+
+/// Names a receiver without a name by a datagram that was refused so.
+fn name_by_a_refused_one(
+    refusals: std::ops::RangeInclusive<u32>,
+    call: &Call,
+    before: &Lent,
+    code: u32,
+    after: &mut Lent,
+) {
+    let Some(name) = taken(call, before).and_then(|datagram| datagram.get(..10)) else {
+        return;
+    };
+    if name_in(&before.state) == Some(BLANK) && refusals.contains(&code) {
+        after.state[1..11].copy_from_slice(name);
+    }
+}
+
+/// Answers as with another name in the state, or in the datagram; a refusal leaves the state as it was.
+fn call_with(call: &Call, name: &[u8], before: &Lent, code: &mut u32, after: &mut Lent) {
+    after.clone_from(before);
+    after.state[1..11].copy_from_slice(name);
+    *code = StandIn.call(call, after);
+    if *code != 0 {
+        after.clone_from(before);
+    }
+}
+
 /// Takes back an answer, and gives a refusal instead.
 fn refuse(number: u32, before: &Lent, code: &mut u32, after: &mut Lent) {
     *code = number;
@@ -453,6 +508,93 @@ const RULES: &[(&str, Fault)] = &[
             }
         }
     }),
+    (
+        "a datagram that isn't well-formed names a receiver",
+        |call, before, code, after| name_by_a_refused_one(11..=16, call, before, *code, after),
+    ),
+    (
+        "a datagram after the end names a receiver",
+        |call, before, code, after| name_by_a_refused_one(18..=18, call, before, *code, after),
+    ),
+    (
+        "an end below the number names a receiver",
+        |call, before, code, after| name_by_a_refused_one(20..=20, call, before, *code, after),
+    ),
+    (
+        "too few places name a receiver",
+        |call, before, code, after| name_by_a_refused_one(41..=41, call, before, *code, after),
+    ),
+    ("what delivers names nobody", |call, before, code, after| {
+        forget(1, call, before, *code, after)
+    }),
+    ("what is old names nobody", |call, before, code, after| {
+        forget(2, call, before, *code, after)
+    }),
+    ("what is quiet names nobody", |call, before, code, after| {
+        forget(3, call, before, *code, after)
+    }),
+    ("what asks names nobody", |call, before, code, after| {
+        forget(4, call, before, *code, after)
+    }),
+    ("what ends names nobody", |call, before, code, after| {
+        forget(5, call, before, *code, after)
+    }),
+    ("a name is learned twice", |call, before, code, after| {
+        if *code == 17 && taken(call, before).is_some() {
+            call_with(call, BLANK, before, code, after);
+        }
+    }),
+    (
+        "a blank name is a name like any other",
+        |call, before, code, after| {
+            let Some(datagram) = taken(call, before) else {
+                return;
+            };
+            let is_well_formed = !(11..=16).contains(code);
+            if is_well_formed && name_in(&before.state) == Some(BLANK) {
+                if &datagram[..10] != BLANK {
+                    return refuse(17, before, code, after);
+                }
+                // One that has the datagram's name, before and after.
+                let named = [b"READROOM01", &datagram[10..]].concat();
+                let datagram = named.as_slice();
+                let call = match call {
+                    Call::ReceiverTake { .. } => Call::ReceiverTake { datagram },
+                    _ => Call::ReceiverDeliver { datagram },
+                };
+                call_with(&call, b"READROOM01", before, code, after);
+                after.state[1..11].copy_from_slice(BLANK);
+            }
+        },
+    ),
+    (
+        "a name that begins with a space is blank",
+        |call, before, code, after| {
+            let is_spaced = name_in(&before.state).is_some_and(|name| name[0] == b' ');
+            if *code == 17 && taken(call, before).is_some() && is_spaced {
+                call_with(call, BLANK, before, code, after);
+            }
+        },
+    ),
+    (
+        "an ended receiver without a name has another one",
+        |call, before, code, after| {
+            let is_unnamed = name_in(&before.state) == Some(BLANK);
+            if *code == 18 && taken(call, before).is_some() && is_unnamed {
+                refuse(17, before, code, after);
+            }
+        },
+    ),
+    (
+        "a start without a name is refused",
+        |call, before, code, after| {
+            if let Call::ReceiverStart { session, .. } = call {
+                if *code == 0 && *session == BLANK {
+                    refuse(19, before, code, after);
+                }
+            }
+        },
+    ),
     ("a last number falls", |call, before, code, after| {
         if let Call::ServerSetLast { last } = call {
             if *code == 19 && *last < u64::MAX {

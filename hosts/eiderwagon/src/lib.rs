@@ -19,7 +19,8 @@
 //! A receiver, a transmitter, a server, a client or a reading is had from a start that succeeded,
 //! and in no other way; it can't be copied or made of bytes. So the state that a call is given is
 //! always the one that the call before left, as the proofs want it. To go on after a restart, keep
-//! a receiver's [`next`](receiver::Receiver::next) number, and start a new one there.
+//! a receiver's [`session`](receiver::Receiver::session) and its
+//! [`next`](receiver::Receiver::next) number, and start a new one there.
 //!
 //! The archive has to be of this crate's version, [`raw::VERSION`]: the first call says so where it
 //! isn't, and panics.
@@ -82,8 +83,8 @@ mod header_test;
 
 pub use refusal::{Fault, Ground, Refusal};
 
-/// The name of a session. In MoldUDP64 it is any ten bytes; in SoupBinTCP it is spaces, then
-/// letters or digits.
+/// The name of a session. In MoldUDP64 it is any ten bytes, of which a receiver takes ten spaces for
+/// none; in SoupBinTCP it is spaces, then letters or digits.
 pub type Session = [u8; raw::SESSION_SIZE];
 
 /// A state is had from a start alone: it isn't made of bytes, and it isn't copied.

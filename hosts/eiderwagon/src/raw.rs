@@ -99,6 +99,8 @@ macro_rules! exported {
         $(#[$doc])*
         // Compiled into its caller: else each call of the library goes through one more.
         #[inline]
+        // They are those that the header declares.
+        #[allow(clippy::too_many_arguments)]
         pub fn $name($($parameters)*) -> u32 {
             meet_the_version();
             extern "C" {

@@ -27,6 +27,38 @@
 //! # Ok::<(), eiderwagon::Refusal>(())
 //! ```
 //!
+//! # A session whose name isn't known
+//!
+//! A receiver can be started without a name. The first datagram that it doesn't refuse then names
+//! it, whatever it answers: one that is old or ahead, a heartbeat and an end too. Its name never
+//! changes again. Until it has one, a datagram of any session is good but for one whose name is ten
+//! spaces, which is refusal 17.
+//!
+//! ```
+//! use eiderwagon::mold;
+//! use eiderwagon::receiver::{Answer, Receiver};
+//!
+//! let mut receiver = Receiver::start_unnamed(1, 100)?;
+//! let mut out = [0; 64];
+//! assert_eq!(receiver.session(), None);
+//!
+//! // Ten spaces are no name.
+//! let blank = mold::write_heartbeat(b"          ", 1, &mut out)?;
+//! assert_eq!(receiver.take(blank).unwrap_err().number(), 17);
+//! assert_eq!(receiver.session(), None);
+//!
+//! // Tonight's name, from a heartbeat that says that message 1 was missed.
+//! let heartbeat = mold::write_heartbeat(b"READROOM17", 2, &mut out)?;
+//! let Answer::Ask(request) = receiver.take(heartbeat)? else { panic!("something is missing") };
+//! assert_eq!(&request.session, b"READROOM17");
+//! assert_eq!(receiver.session(), Some(*b"READROOM17"));
+//!
+//! // From now on every other name is refused.
+//! let other = mold::write_data(b"READROOM16", 1, &[b"one"], &mut out)?;
+//! assert_eq!(receiver.take(other).unwrap_err().number(), 17);
+//! # Ok::<(), eiderwagon::Refusal>(())
+//! ```
+//!
 //! # Requests are paced by the host
 //!
 //! A datagram ahead isn't kept, and the receiver keeps no time: so by its table each datagram ahead
@@ -50,6 +82,9 @@ use crate::call::{check, count, field, number, received, small_number, unknown};
 use crate::mold::{Messages, Request};
 use crate::{raw, Refusal, Session};
 use std::fmt;
+
+/// What stands for a session's name while there is none.
+const NO_NAME: &Session = &[b' '; raw::SESSION_SIZE];
 
 /// A receiver of one session.
 #[derive(PartialEq, Eq)]
@@ -83,11 +118,18 @@ pub enum Answer<M> {
 
 impl Receiver {
     /// Starts a receiver at the number of the next message, 1 or more. It asks for at most `limit`
-    /// messages at once, 1 to 65,534.
+    /// messages at once, 1 to 65,534. A session of ten spaces has no name yet, as in
+    /// [`start_unnamed`](Self::start_unnamed).
     pub fn start(session: &Session, next: u64, limit: u16) -> Result<Self, Refusal> {
         let mut state = [0; raw::RECEIVER_SIZE];
         check(raw::receiver_start(session, next, limit, &mut state))?;
         Ok(Receiver { state })
+    }
+
+    /// Starts a receiver that [learns its session's name](self#a-session-whose-name-isnt-known). To
+    /// go on after a restart, [`start`](Self::start) with the name that was learned.
+    pub fn start_unnamed(next: u64, limit: u16) -> Result<Self, Refusal> {
+        Self::start(NO_NAME, next, limit)
     }
 
     /// Takes one datagram as it came, whatever its bytes are. The messages are found one by one, as
@@ -145,15 +187,20 @@ impl Receiver {
             raw::RECEIVER_OLD => Answer::Old,
             raw::RECEIVER_QUIET => Answer::Quiet,
             raw::RECEIVER_ASK => {
-                Answer::Ask(Request { session: self.session(), first, count: count(many) })
+                Answer::Ask(Request { session: self.name(), first, count: count(many) })
             }
             raw::RECEIVER_ENDED => Answer::Ended,
             other => unknown(other),
         }
     }
 
-    /// The session.
-    pub fn session(&self) -> Session {
+    /// The session; none until its name is known.
+    pub fn session(&self) -> Option<Session> {
+        let name = self.name();
+        (&name != NO_NAME).then_some(name)
+    }
+
+    fn name(&self) -> Session {
         field(&self.state, raw::RECEIVER_SESSION_AT)
     }
 
@@ -181,7 +228,7 @@ impl Receiver {
 impl fmt::Debug for Receiver {
     fn fmt(&self, f: &mut fmt::Formatter<'_>) -> fmt::Result {
         f.debug_struct("Receiver")
-            .field("session", &format_args!("\"{}\"", self.session().escape_ascii()))
+            .field("session", &format_args!("\"{}\"", self.name().escape_ascii()))
             .field("next", &self.next())
             .field("limit", &self.limit())
             .field("ended", &self.is_ended())

@@ -2,6 +2,8 @@
 
 mod feed;
 
+use crate::mold::{BLANK, HEADER};
+use crate::LATER;
 use feed::Feed;
 use std::ops::Range;
 
@@ -99,6 +101,23 @@ pub fn everything(seed: u64, datagrams: usize) -> Capture {
     capture.push(&feed.end());
     for _ in 0..after_the_end {
         capture.push(&feed.anything());
+    }
+    capture
+}
+
+/// A few datagrams for a receiver at `LATER` that has no name yet: anything that a line may bring, or the end, each time
+/// perhaps with a blank name.
+pub fn for_unnamed(seed: u64) -> Capture {
+    let (mut feed, mut capture) = (Feed::at(seed, LATER), Capture::default());
+    for _ in 0..6 {
+        let mut datagram = match feed.random.below(6) {
+            0 => feed.end(),
+            _ => feed.anything(),
+        };
+        if feed.random.one_in(3) && datagram.len() >= HEADER {
+            datagram[..BLANK.len()].copy_from_slice(BLANK);
+        }
+        capture.push(&datagram);
     }
     capture
 }

@@ -4,13 +4,14 @@ pub mod delivery;
 mod drawn;
 pub mod fronts;
 mod in_words;
+pub mod names;
 pub mod sessions;
 
 pub use drawn::Drawn;
 
 use crate::captures::Capture;
 use crate::host::{Delivered, Host, TakeWords};
-use crate::mold::{Messages, Refusal};
+use crate::mold::{Messages, Refusal, Session};
 use crate::receiver::{Answer, Receiver};
 use crate::{LIMIT, NEXT, SESSION};
 use eiderwagon::raw;
@@ -22,27 +23,45 @@ pub const OUTCOMES: [&str; 14] = [
 
 /// Feeds a capture to both. Panics at the first difference.
 pub fn compare(capture: &Capture) -> Drawn {
-    let mut host = Host::start();
-    let mut receiver = Receiver::start(*SESSION, NEXT, LIMIT).expect("the start is good");
     let mut drawn = Drawn::new(&OUTCOMES);
+    compare_from(SESSION, NEXT, capture, |_, answer| {
+        drawn.add(name(answer));
+        if let Ok(Answer::Deliver { count, .. }) = answer {
+            drawn.messages += usize::from(count);
+        }
+    });
+    drawn
+}
+
+/// Starts both on a name and a number, and feeds them a capture. The receiver before each datagram and its answer are
+/// handed on.
+fn compare_from(
+    session: &Session,
+    next: u64,
+    capture: &Capture,
+    mut note: impl FnMut(&Receiver, Result<Answer, Refusal>),
+) {
+    let mut host = Host::start_on(session, next);
+    let mut receiver = Receiver::start(*session, next, LIMIT).expect("the start is good");
     for (place, datagram) in capture.datagrams().enumerate() {
+        let before = receiver.clone();
         let words = host.take(datagram);
         let answer = receiver.take(datagram);
         assert_eq!(words, in_words(answer), "the answers to datagram {place}");
-        assert_eq!(host.next(), receiver.next(), "n after datagram {place}");
-        assert_eq!(
-            host.is_ended(),
-            receiver.is_ended(),
-            "ended after datagram {place}"
-        );
-        drawn.add(name(answer));
+        assert_alike(&host, &receiver);
+        note(&before, answer);
         if let Ok(Answer::Deliver { count, skipped, .. }) = answer {
-            drawn.messages += usize::from(count);
             let messages = Messages::new(datagram, count, skipped);
             compare_messages(Delivered::new(datagram, &words.1), messages, place);
         }
     }
-    drawn
+}
+
+/// The two are the same receiver.
+fn assert_alike(host: &Host, receiver: &Receiver) {
+    assert_eq!(host.session(), receiver.session());
+    assert_eq!(host.next(), receiver.next());
+    assert_eq!(host.is_ended(), receiver.is_ended());
 }
 
 /// Each is the same bytes at the same place of the datagram, and neither has more.

@@ -2,6 +2,7 @@
 
 pub mod sessions;
 
+use crate::mold::{Session, BLANK};
 use crate::{LIMIT, NEXT, SESSION};
 use eiderwagon::raw;
 
@@ -14,8 +15,12 @@ pub struct Host {
 
 impl Host {
     pub fn start() -> Host {
+        Host::start_on(SESSION, NEXT)
+    }
+
+    pub fn start_on(session: &Session, next: u64) -> Host {
         let mut state = [0; raw::RECEIVER_SIZE];
-        let code = raw::receiver_start(SESSION, NEXT, LIMIT, &mut state);
+        let code = raw::receiver_start(session, next, LIMIT, &mut state);
         assert_eq!(code, raw::OK, "the start is refused");
         Host { state }
     }
@@ -34,6 +39,12 @@ impl Host {
         let mut words = [0; raw::TAKE_WORDS];
         let code = raw::receiver_deliver(&mut self.state, datagram, &mut words, places);
         (code, words)
+    }
+
+    /// None until it is learned.
+    pub fn session(&self) -> Option<&Session> {
+        let (_, bytes) = self.state.split_at(raw::RECEIVER_SESSION_AT);
+        bytes.first_chunk().filter(|&name| name != BLANK)
     }
 
     pub fn next(&self) -> u64 {

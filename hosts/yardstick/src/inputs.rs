@@ -2,6 +2,7 @@
 
 use yardstick::captures::{everything, heartbeats, in_order, in_order_of_size, troubled, Capture};
 use yardstick::compare::fronts::{compare_fronts, FRONTS};
+use yardstick::compare::names::compare_names;
 use yardstick::compare::sessions::{
     compare_client, compare_server, compare_talks, CLIENTS, SERVERS,
 };
@@ -64,8 +65,18 @@ fn compared_in_one_call(name: &str, capture: &Capture) -> Drawn {
     drawn
 }
 
+/// Receivers that are only compared, each of which has to learn its session's name.
+const UNNAMED: usize = 20_000;
+
+fn compared_names() {
+    let drawn = compare_names(SEED, UNNAMED);
+    drawn.assert_everything();
+    println!("without a name: equal at {UNNAMED} starts: {drawn}");
+}
+
 /// The captures to be timed, in cache and from memory. They were compared, and longer ones too.
 pub fn compared_captures() -> (Captures, Capture) {
+    compared_names();
     Captures::of(COMPARED).compare();
     let (short, long) = (Captures::of(IN_CACHE), in_order_of_size(SEED, FROM_MEMORY));
     short.compare();

@@ -14,9 +14,13 @@ pub mod report;
 pub mod soup;
 pub mod talks;
 
-/// What every receiver here is started with.
+/// What the receivers here are started with.
 pub const SESSION: &mold::Session = b"READROOM01";
 pub const NEXT: u64 = 1;
+
+/// Where those are started that have to learn their session's name: something may be old there.
+pub const LATER: u64 = 51;
+
 pub const LIMIT: u16 = 100;
 
 /// The seed of the captures, unless another is chosen.

@@ -2,6 +2,9 @@
 
 pub type Session = [u8; 10];
 
+/// No session's name: a login under it takes any, and a receiver that is started on it has to learn one.
+pub const BLANK: &Session = b"          ";
+
 pub const HEADER: usize = 20;
 pub const LARGEST: usize = 65_507;
 
@@ -34,7 +37,7 @@ pub enum Kind {
 /// A datagram that is exactly its header and its blocks.
 #[derive(Clone, Copy, Debug, PartialEq, Eq)]
 pub struct Datagram<'a> {
-    pub session: &'a [u8],
+    pub session: &'a Session,
     pub number: u64,
     pub kind: Kind,
 }
@@ -62,7 +65,7 @@ impl<'a> Datagram<'a> {
         }
         check_blocks(blocks, count)?;
         Ok(Datagram {
-            session: &header[..10],
+            session: header[..10].try_into().unwrap(),
             number,
             kind,
         })

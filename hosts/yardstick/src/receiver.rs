@@ -1,6 +1,6 @@
-//! The plain receiver in ordinary Rust: document 01's table.
+//! The plain receiver in ordinary Rust: document 01's table, and the name that order 12 lets it learn.
 
-use crate::mold::{Datagram, Kind, Messages, Place, Refusal, Session};
+use crate::mold::{Datagram, Kind, Messages, Place, Refusal, Session, BLANK};
 
 pub const LARGEST_LIMIT: u16 = 65_534;
 
@@ -23,7 +23,8 @@ pub enum Answer {
 
 #[derive(Clone, Debug, PartialEq, Eq)]
 pub struct Receiver {
-    session: Session,
+    /// None until it is learned.
+    session: Option<Session>,
     next: u64,
     limit: u16,
     ended: bool,
@@ -35,15 +36,15 @@ impl Receiver {
             return Err(Refusal::BadSetting);
         }
         Ok(Receiver {
-            session,
+            session: (session != *BLANK).then_some(session),
             next,
             limit,
             ended: false,
         })
     }
 
-    pub fn session(&self) -> &Session {
-        &self.session
+    pub fn session(&self) -> Option<&Session> {
+        self.session.as_ref()
     }
 
     pub fn next(&self) -> u64 {
@@ -61,9 +62,27 @@ impl Receiver {
             number,
             kind,
         } = Datagram::read(datagram)?;
-        if session != self.session {
+        match &self.session {
+            Some(name) if name == session => self.answer(number, kind),
+            Some(_) => Err(Refusal::SessionDiffers),
+            None => self.learn(session, number, kind),
+        }
+    }
+
+    /// Any answer names a receiver that has no name yet.
+    #[cold]
+    fn learn(&mut self, session: &Session, number: u64, kind: Kind) -> Result<Answer, Refusal> {
+        if session == BLANK {
             return Err(Refusal::SessionDiffers);
         }
+        let answer = self.answer(number, kind)?;
+        self.session = Some(*session);
+        Ok(answer)
+    }
+
+    /// A datagram of its own session.
+    #[inline]
+    fn answer(&mut self, number: u64, kind: Kind) -> Result<Answer, Refusal> {
         if self.ended {
             return Err(Refusal::SessionEnded);
         }

@@ -95,7 +95,8 @@ impl Tally {
 
 impl Display for Tally {
     fn fmt(&self, f: &mut Formatter<'_>) -> fmt::Result {
-        let session = String::from_utf8_lossy(self.receiver.session());
+        let session = self.receiver.session().expect("settings have a name");
+        let session = String::from_utf8_lossy(session);
         writeln!(f, "session={session}")?;
         writeln!(f, "next={}", self.receiver.next())?;
         let ended = if self.receiver.is_ended() {

@@ -8,10 +8,7 @@ pub mod front;
 pub mod login;
 pub mod server;
 
-use crate::mold::Session;
-
-/// The session of a login that takes any.
-pub const BLANK: &Session = b"          ";
+pub use crate::mold::BLANK;
 
 /// Why a start, a packet or a step is refused, by document 01's numbers.
 #[derive(Clone, Copy, Debug, PartialEq, Eq)]

@@ -1,6 +1,7 @@
 //! Equal answers on every capture, and everything drawn. No test here judges a time.
 
 use yardstick::captures::{everything, heartbeats, in_order, troubled, Capture};
+use yardstick::compare::names::compare_names;
 use yardstick::compare::{compare, Drawn};
 use yardstick::receiver::Receiver;
 use yardstick::{LIMIT, NEXT, SEED, SESSION};
@@ -44,6 +45,11 @@ fn every_answer_and_every_refusal_is_drawn() {
 #[should_panic(expected = "never drawn")]
 fn what_was_not_drawn_is_noticed() {
     compare(&in_order(SEED, DATAGRAMS)).assert_everything();
+}
+
+#[test]
+fn a_name_is_learned_alike() {
+    compare_names(SEED, DATAGRAMS).assert_everything();
 }
 
 #[test]

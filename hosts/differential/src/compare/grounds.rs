@@ -16,6 +16,7 @@ use crate::reference::session::{ClientState, ServerState};
 use crate::reference::soup::{self, Front, Packet, Sender, LARGEST_PAYLOAD, PAYLOAD};
 use crate::reference::store::{blocks, is_size};
 use crate::reference::text;
+use crate::reference::Name;
 
 pub const SHORT_STATE: &str = "41 state";
 pub const OTHER_SESSION_SIZE: &str = "41 session";
@@ -28,6 +29,8 @@ pub const LAST_TOO_HIGH: &str = "19 too high";
 pub const LAST_FALLS: &str = "19 falls";
 pub const BAD_SIZE: &str = "19 packet";
 pub const BAD_NUMBERS: &str = "19 numbers";
+/// While a receiver has no name.
+pub const BLANK_NAME: &str = "17 blank";
 
 /// The number of a ground.
 pub fn number(ground: &str) -> u32 {
@@ -273,10 +276,16 @@ fn of_state(call: &Call, state: &[u8], ladder: &mut Ladder) {
         Call::ReceiverTake { datagram } | Call::ReceiverDeliver { datagram } => {
             let receiver = layout::receiver(state);
             let fields = (datagram.len() >= HEADER).then(|| mold::header(datagram));
-            ladder.rung(
-                fields.is_some_and(|(session, _, _)| session != receiver.session),
-                "17",
-            );
+            let ground = if receiver.is_named() {
+                "17"
+            } else {
+                BLANK_NAME
+            };
+            let differs = |(session, _, _): (Name, u64, u16)| match receiver.is_named() {
+                true => session != receiver.session,
+                false => text::is_blank(&session),
+            };
+            ladder.rung(fields.is_some_and(differs), ground);
             ladder.rung(receiver.ended, "18");
             let ends_below = |(_, number, count)| count == END && number < receiver.next;
             ladder.rung(fields.is_some_and(ends_below), "20");

@@ -1,6 +1,6 @@
 //! The MoldUDP64 receiver's functions.
 
-use super::{name, Expected};
+use super::{grounds, name, Expected};
 use crate::call::Call;
 use crate::layout::{self, Cursor};
 use crate::reference::mold::{self, Kind};
@@ -33,9 +33,16 @@ fn start(started: Result<Receiver, u32>) -> Expected {
 
 fn take(state: &[u8], datagram: &[u8]) -> Expected {
     let mut receiver = layout::receiver(state);
+    let named = receiver.is_named();
     let answer = match receiver.take(datagram) {
         Ok(answer) => answer,
-        Err(refusal) => return Expected::refusal(refusal),
+        Err(number) => {
+            let mut refusal = Expected::refusal(number);
+            if number == 17 && !named {
+                refusal.outcome = grounds::BLANK_NAME;
+            }
+            return refusal;
+        }
     };
     let words = match answer {
         Answer::Deliver {
@@ -48,7 +55,11 @@ fn take(state: &[u8], datagram: &[u8]) -> Expected {
         Answer::Ask { first, count } => [4, first, count, 0],
         Answer::Ended => [5, 0, 0, 0],
     };
-    Expected::answer(outcome(&answer, &receiver, datagram))
+    let outcome = match named {
+        true => outcome(&answer, &receiver, datagram),
+        false => naming(&answer),
+    };
+    Expected::answer(outcome)
         .words(&words)
         .state(layout::receiver_bytes(&receiver))
 }
@@ -93,6 +104,17 @@ fn outcome(answer: &Answer, receiver: &Receiver, datagram: &[u8]) -> &'static st
             _ => "ask for all, end",
         },
         Answer::Ended => "ended",
+    }
+}
+
+/// The answer that a receiver without a name is named by.
+fn naming(answer: &Answer) -> &'static str {
+    match answer {
+        Answer::Deliver { .. } => "named by deliver",
+        Answer::Old => "named by old",
+        Answer::Quiet => "named by quiet",
+        Answer::Ask { .. } => "named by ask",
+        Answer::Ended => "named by ended",
     }
 }
 

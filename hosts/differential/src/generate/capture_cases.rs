@@ -8,6 +8,7 @@ use crate::layout;
 use crate::random::Random;
 use crate::reference::capture::{Capture, Stage};
 use crate::reference::receiver::Receiver;
+use crate::reference::BLANK;
 use crate::run::Run;
 
 pub fn single(run: &mut Run, random: &mut Random) {
@@ -27,10 +28,11 @@ pub fn single(run: &mut Run, random: &mut Random) {
     }
 }
 
-/// The state of a reading in any stage, its counts at their ends now and then.
+/// The state of a reading in any stage, its counts at their ends now and then; sometimes its receiver has no name, as no
+/// settings leave it.
 pub fn by_hand(random: &mut Random, feed: &Feed) -> Vec<u8> {
     let receiver = Receiver {
-        session: feed.name,
+        session: random.pick(&[feed.name, feed.name, feed.name, BLANK]),
         next: feed.first,
         limit: bytes::count(random),
         ended: random.one_in(8),

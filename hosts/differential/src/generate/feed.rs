@@ -1,11 +1,13 @@
-//! A feed over a bad line: datagrams of one session lost, doubled, swapped and damaged, taken one by one by one receiver.
+//! A feed over a bad line: datagrams of one session lost, doubled, swapped and damaged, taken one by one by one receiver,
+//! which knows the session's name or learns it.
 
 use super::{bytes, lend, mold};
 use crate::call::{hex, Call};
 use crate::layout;
 use crate::random::Random;
 use crate::reference::mold::{read, END};
-use crate::reference::Name;
+use crate::reference::receiver::Receiver;
+use crate::reference::{Name, BLANK};
 use crate::run::Run;
 
 /// A session's messages; the first one's number is 1 in document 01, and here sometimes a higher one.
@@ -102,6 +104,8 @@ struct Line<'f> {
     feed: &'f Feed,
     state: Vec<u8>,
     taken: Vec<Vec<u8>>,
+    /// From which place on condition 3 speaks of what came: behind the datagram that named the receiver, if one had to.
+    named: Option<usize>,
     delivered: Vec<Vec<u8>>,
 }
 
@@ -111,8 +115,9 @@ const WALKED: u64 = 200;
 pub fn case(run: &mut Run, random: &mut Random) {
     let feed = Feed::new(random);
     let from = random.below(feed.messages.len() + 1);
+    let name = random.pick(&[feed.name, feed.name, BLANK]);
     let start = Call::ReceiverStart {
-        session: &feed.name,
+        session: &name,
         next: feed.first + from as u64,
         limit: random.pick(&[1, 2, 5, 100, 65_534]),
     };
@@ -122,17 +127,22 @@ pub fn case(run: &mut Run, random: &mut Random) {
         feed: &feed,
         state: started.clone(),
         taken: vec![],
+        named: (name != BLANK).then_some(0),
         delivered: vec![],
     };
-    let honest = !random.one_in(3);
+    // A session's own name isn't blank.
+    let honest = feed.name != BLANK && !random.one_in(3);
     for _ in 0..random.between(5, 40) {
-        let datagram = feed.datagram(random, line.next());
-        if !honest || feed.is_true(&datagram) {
+        let mut datagram = feed.datagram(random, line.receiver().next);
+        if line.named.is_none() && datagram.len() > 10 && random.one_in(2) {
+            datagram[..10].copy_from_slice(&BLANK);
+        }
+        if !honest || line.may_take(&datagram) {
             line.take(run, random, datagram);
         }
     }
     if honest {
-        let true_ones = &feed.messages[from..(line.next() - feed.first) as usize];
+        let true_ones = &feed.messages[from..(line.receiver().next - feed.first) as usize];
         if line.delivered != true_ones {
             run.fail("condition 3: other messages were delivered than the session's");
         }
@@ -141,8 +151,18 @@ pub fn case(run: &mut Run, random: &mut Random) {
 }
 
 impl Line<'_> {
-    fn next(&self) -> u64 {
-        layout::receiver(&self.state).next
+    fn receiver(&self) -> Receiver {
+        layout::receiver(&self.state)
+    }
+
+    /// Whether the datagram may come next in one of condition 3's lists. Until the receiver is named that is what it refuses,
+    /// and then the one that gives it the session's name.
+    fn may_take(&self, datagram: &[u8]) -> bool {
+        let unnamed = self.named.is_none();
+        if unnamed && self.receiver().take(datagram).is_err() {
+            return true;
+        }
+        self.feed.is_true(datagram) && (!unnamed || datagram.starts_with(&self.feed.name))
     }
 
     fn take(&mut self, run: &mut Run, random: &mut Random, datagram: Vec<u8>) {
@@ -154,6 +174,9 @@ impl Line<'_> {
         };
         let (code, lent) = lend::chained(run, random, &call, &mut self.state);
         self.taken.push(datagram.clone());
+        if code == 0 && self.named.is_none() {
+            self.named = Some(self.taken.len());
+        }
         match (code, lent.words[0]) {
             (0, 1) if at_once => self.deliver_at(&datagram, lent.words[2], &lent.places),
             (0, 1) => self.deliver(run, random, &datagram, lent.words[2], lent.words[3]),
@@ -198,10 +221,11 @@ impl Line<'_> {
         }
     }
 
-    /// Sends the request; the answer to it is one datagram with some of what was asked for, or is lost.
+    /// Sends the request under the receiver's name; the answer to it is one datagram with some of what was asked for, or is
+    /// lost.
     fn ask(&mut self, run: &mut Run, random: &mut Random, first: u64, count: u64) {
         let call = Call::MoldWriteRequest {
-            session: &self.feed.name,
+            session: &self.receiver().session,
             first,
             count: count as u16,
         };
@@ -218,12 +242,16 @@ impl Line<'_> {
         }
     }
 
-    /// Condition 3's second half: one more true datagram anywhere in the list delivers no less, and still ends what ended.
+    /// Condition 3's second half: one more true datagram anywhere in the list, though not before the one that names the
+    /// receiver, delivers no less, and still ends what ended.
     fn put_one_in(&self, run: &mut Run, random: &mut Random, started: Vec<u8>) {
+        let Some(named) = self.named else {
+            return;
+        };
         let anywhere = self.feed.first + random.below(self.feed.messages.len()) as u64;
         let one_more = self.feed.data_near(random, anywhere);
         let mut longer = self.taken.clone();
-        longer.insert(random.below(longer.len() + 1), one_more);
+        longer.insert(random.between(named, longer.len()), one_more);
         let mut state = started;
         for datagram in &longer {
             lend::chained(run, random, &Call::ReceiverTake { datagram }, &mut state);

@@ -3,7 +3,7 @@
 use super::bytes;
 use crate::random::Random;
 use crate::reference::mold::{END, HEADER, LARGEST};
-use crate::reference::Name;
+use crate::reference::{Name, BLANK};
 
 /// Names that differ in little: by case, by one byte, by zero bytes and spaces.
 const NAMES: &[&Name] = &[
@@ -11,7 +11,9 @@ const NAMES: &[&Name] = &[
     b"READROOM02",
     b"readroom01",
     b"READROOM0\0",
-    b"          ",
+    &BLANK,
+    b"         1",
+    b" \0        ",
     &[0; 10],
     &[0xFF; 10],
 ];
@@ -21,6 +23,24 @@ pub fn name(random: &mut Random) -> Name {
         0..4 => *NAMES[0],
         4..7 => *random.pick(NAMES),
         _ => random.array(),
+    }
+}
+
+/// The name of a receiver: one time in four it isn't known yet.
+pub fn receivers_name(random: &mut Random) -> Name {
+    match random.one_in(4) {
+        true => BLANK,
+        false => name(random),
+    }
+}
+
+/// The name that a datagram for a receiver of this name has: mostly the same, and where that isn't known any, every third
+/// time a blank one.
+pub fn sent_name(random: &mut Random, receivers: &Name) -> Name {
+    match *receivers == BLANK {
+        true if random.one_in(3) => BLANK,
+        false if !random.one_in(12) => *receivers,
+        _ => name(random),
     }
 }
 

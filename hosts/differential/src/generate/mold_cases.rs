@@ -6,7 +6,7 @@ use crate::layout::{self, Cursor};
 use crate::random::Random;
 use crate::reference::mold::{HEADER, LARGEST};
 use crate::reference::receiver::Receiver;
-use crate::reference::Name;
+use crate::reference::{Name, BLANK};
 use crate::run::Run;
 
 /// One datagram: read, looked into by place, and walked.
@@ -187,7 +187,7 @@ fn around_the_largest(random: &mut Random) -> Vec<u16> {
 
 /// One datagram at a receiver: started, made by hand, or of random bytes.
 pub fn receive(run: &mut Run, random: &mut Random) {
-    let session = mold::name(random);
+    let session = mold::receivers_name(random);
     let next = bytes::number(random);
     let limit = bytes::count(random);
     start(run, random, &session, next, limit);
@@ -198,11 +198,7 @@ pub fn receive(run: &mut Run, random: &mut Random) {
         ended: random.one_in(8),
     });
     for _ in 0..3 {
-        let sent = if random.one_in(12) {
-            mold::name(random)
-        } else {
-            session
-        };
+        let sent = mold::sent_name(random, &session);
         let number = match random.below(4) {
             0 => bytes::number(random),
             _ => bytes::near(random, next),
@@ -218,9 +214,10 @@ pub fn receive(run: &mut Run, random: &mut Random) {
     deliver(run, random, &session, next.max(1));
 }
 
-/// A datagram that delivers, with exactly the places that it needs, and with one word less.
+/// A datagram that delivers, with exactly the places that it needs, and with one word less. It names a receiver whose
+/// name isn't known.
 fn deliver(run: &mut Run, random: &mut Random, session: &Name, next: u64) {
-    let many = match random.below(200) {
+    let many = match random.below(60) {
         0 => (LARGEST - HEADER) / 2,
         _ => random.between(1, 6),
     };
@@ -228,7 +225,11 @@ fn deliver(run: &mut Run, random: &mut Random, session: &Name, next: u64) {
     let old = random.below(many.min(next as usize));
     let length = if many > 6 { 0 } else { random.below(4) };
     let number = next - old as u64;
-    let datagram = mold::raw(session, number, many as u16, &vec![vec![7; length]; many]);
+    let sent = match *session == BLANK {
+        true => b"READROOM01",
+        false => session,
+    };
+    let datagram = mold::raw(sent, number, many as u16, &vec![vec![7; length]; many]);
     let call = Call::ReceiverDeliver {
         datagram: &datagram,
     };

@@ -8,7 +8,7 @@ use crate::random::Random;
 use crate::reference::mold::{END, HEADER, LARGEST};
 use crate::reference::receiver::Receiver;
 use crate::reference::session::{Client, ClientState, Server, ServerState};
-use crate::reference::Name;
+use crate::reference::{Name, BLANK};
 use crate::run::Run;
 
 pub fn case(run: &mut Run, random: &mut Random) {
@@ -77,11 +77,12 @@ fn datagram(random: &mut Random, session: &Name) -> Vec<u8> {
 
 fn datagrams(run: &mut Run, random: &mut Random) {
     let session = *b"READROOM01";
-    let datagram = datagram(random, &session);
+    let sent = random.pick(&[session, session, BLANK]);
+    let datagram = datagram(random, &sent);
     let datagram = datagram.as_slice();
     check(run, random, &Call::MoldRead { datagram }, None);
     let receiver = Receiver {
-        session: random.pick(&[session, session, *b"READROOM02"]),
+        session: random.pick(&[session, session, *b"READROOM02", BLANK]),
         next: random.pick(&[1, 5, 6, u64::MAX]),
         limit: 100,
         ended: random.one_in(3),

@@ -26,5 +26,5 @@ pub type Refusal = u32;
 /// The name of a session: any ten bytes in MoldUDP64, right-justified text in SoupBinTCP.
 pub type Name = [u8; 10];
 
-/// A name of spaces: "any" in a login request, and what a refused start leaves.
+/// A name of spaces: "any" in a login request, "not known yet" at a receiver, and what a refused start leaves.
 pub const BLANK: Name = *b"          ";

@@ -1,12 +1,13 @@
-//! Document 01, "The receiver": its start, and its table.
+//! Document 01, "The receiver": its start, and its table; and order 12, how it learns its session's name.
 
-use super::mold::{self, Kind};
+use super::mold::{self, Datagram, Kind};
 use super::{Name, Refusal, BLANK};
 
 pub const LARGEST_LIMIT: u16 = 65_534;
 
 #[derive(Clone, Debug, PartialEq, Eq)]
 pub struct Receiver {
+    /// Blank until it is learned.
     pub session: Name,
     /// The expected number, n in document 01.
     pub next: u64,
@@ -54,14 +55,33 @@ impl Receiver {
         }
     }
 
+    pub fn is_named(&self) -> bool {
+        self.session != BLANK
+    }
+
+    /// A receiver without a name takes that of the first datagram that neither the reader nor the receiver refuses,
+    /// whatever it answers.
     pub fn take(&mut self, datagram: &[u8]) -> Result<Answer, Refusal> {
         let datagram = mold::read(datagram)?;
-        if datagram.session != self.session {
+        let differs = match self.is_named() {
+            true => datagram.session != self.session,
+            false => datagram.session == BLANK,
+        };
+        if differs {
             return Err(17);
         }
         if self.ended {
             return Err(18);
         }
+        let answer = self.answer(&datagram)?;
+        if !self.is_named() {
+            self.session = datagram.session;
+        }
+        Ok(answer)
+    }
+
+    /// The table; 20 stands beside it.
+    fn answer(&mut self, datagram: &Datagram) -> Result<Answer, Refusal> {
         let number = datagram.number;
         if number > self.next {
             let count = (number - self.next).min(u64::from(self.limit));

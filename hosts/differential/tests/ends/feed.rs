@@ -1,8 +1,10 @@
-//! MoldUDP64: a transmitter made of the library's writers, and a receiver, over a line that loses, doubles and swaps in both directions.
+//! MoldUDP64: a transmitter made of the library's writers, and a receiver, over a line that loses, doubles and swaps in
+//! both directions. Half of the receivers have to learn the session's name.
 
 use differential::random::Random;
 use eiderwagon::mold::{self, Request};
 use eiderwagon::receiver::{Answer, Receiver, Requests};
+use eiderwagon::Ground;
 use std::collections::VecDeque;
 use std::time::Duration;
 
@@ -142,6 +144,8 @@ fn written(result: Result<&[u8], eiderwagon::Refusal>) -> Vec<u8> {
 /// How a feed is sent and received.
 struct Settings {
     seed: u64,
+    /// Whether the receiver has to learn the session's name.
+    unnamed: bool,
     first: u64,
     messages: Vec<Vec<u8>>,
     /// How many messages a datagram has at most.
@@ -174,9 +178,13 @@ struct Host {
 
 impl Host {
     fn new(settings: &Settings) -> Host {
-        let first = settings.first;
+        let (first, limit) = (settings.first, settings.limit);
+        let receiver = match settings.unnamed {
+            true => Receiver::start_unnamed(first, limit),
+            false => Receiver::start(NAME, first, limit),
+        };
         Host {
-            receiver: Receiver::start(NAME, first, settings.limit).expect("a start"),
+            receiver: receiver.expect("a start"),
             requests: Requests::new(settings.pause),
             first,
             delivered: vec![],
@@ -184,8 +192,22 @@ impl Host {
         }
     }
 
+    /// A datagram of a blank name is refused whether the receiver has a name or not; one of another name once it has.
+    fn refuse_others(&mut self) {
+        let others: &[&[u8; 10]] = match self.receiver.session() {
+            None => &[b"          "],
+            Some(_) => &[b"          ", b"READROOM02"],
+        };
+        for other in others {
+            let heartbeat = written(mold::write_heartbeat(other, self.first, &mut [0; 20]));
+            let refusal = self.receiver.take(&heartbeat).unwrap_err();
+            assert_eq!(refusal.ground(), Ground::SessionDiffers);
+        }
+    }
+
     /// Takes a datagram, and hands back the request to send for it, if one is due.
     fn take(&mut self, datagram: &[u8], now: u64) -> Option<Vec<u8>> {
+        self.refuse_others();
         match self.receiver.take(datagram).expect("nothing is damaged") {
             Answer::Deliver { first, messages } => {
                 assert_eq!(first, self.first + self.delivered.len() as u64);
@@ -224,6 +246,7 @@ fn run(settings: &Settings) -> Counts {
                 requested += 1;
                 up.send(&mut random, now, &request);
             }
+            assert_eq!(host.receiver.session(), Some(*NAME));
             if host.receiver.is_ended() {
                 assert!(
                     host.delivered == settings.messages,
@@ -250,6 +273,7 @@ fn settings(seed: u64) -> Settings {
     let highest = u64::MAX - messages.len() as u64;
     Settings {
         seed,
+        unnamed: random.one_in(2),
         first: random.pick(&[1, 1, 7, highest - 1, highest]),
         messages,
         most: random.pick(&[1, 3, 8]),
@@ -283,6 +307,7 @@ fn what_is_delivered_is_what_was_sent() {
 fn a_pause_spares_requests() {
     let with = |pause| Settings {
         seed: 7,
+        unnamed: false,
         first: 1,
         messages: (0..2_000u32).map(|n| n.to_be_bytes().to_vec()).collect(),
         most: 1,

@@ -10,6 +10,8 @@ const NAME: &[u8; 10] = b"READROOM01";
 /// A store of drawn messages, and the bounds within which it answers.
 struct Settings {
     seed: u64,
+    /// Whether the receiver learns the store's name from the first heartbeat.
+    unnamed: bool,
     first: u64,
     messages: Vec<Vec<u8>>,
     /// The first message that the receiver misses, by its place.
@@ -28,6 +30,7 @@ fn settings(seed: u64) -> Settings {
     let highest = u64::MAX - messages.len() as u64;
     Settings {
         seed,
+        unnamed: random.one_in(2),
         first: random.pick(&[1, 1, 7, highest - 1, highest]),
         missing_from: random.below(messages.len() + 1),
         limit: random.pick(&[1, 2, 10, 100, 65_534]),
@@ -61,7 +64,10 @@ fn run(settings: &Settings) -> Counts {
         .expect("it can be written")
         .to_vec();
     let from = settings.first + settings.missing_from as u64;
-    let mut receiver = Receiver::start(NAME, from, settings.limit).expect("a start");
+    let mut receiver = match settings.unnamed {
+        true => Receiver::start_unnamed(from, settings.limit).expect("a start"),
+        false => Receiver::start(NAME, from, settings.limit).expect("a start"),
+    };
     let missing = settings.messages.len() - settings.missing_from;
     let (mut counts, mut delivered) = (Counts::default(), vec![]);
     counts.missing = missing;
@@ -98,6 +104,7 @@ fn run(settings: &Settings) -> Counts {
     }
     assert!(delivered == settings.messages[settings.missing_from..]);
     assert_eq!(receiver.take(&heartbeat), Ok(Answer::Quiet));
+    assert_eq!(receiver.session(), Some(*NAME));
     counts
 }
 
@@ -124,6 +131,7 @@ fn a_store_serves_a_receiver_until_nothing_is_missing() {
 fn one_message_a_round_needs_a_round_for_each() {
     let settings = Settings {
         seed: 1,
+        unnamed: false,
         first: 1,
         messages: vec![vec![7; 4]; 25],
         missing_from: 5,

@@ -20,9 +20,13 @@ pub fn heartbeat(number: u64) -> Vec<u8> {
 
 impl Feed {
     pub fn new(seed: u64) -> Feed {
+        Feed::at(seed, NEXT)
+    }
+
+    pub fn at(seed: u64, next: u64) -> Feed {
         Feed {
             random: Random::new(seed, 0),
-            next: NEXT,
+            next,
         }
     }
 

@@ -1,10 +1,10 @@
 //! One call for a datagram, by the library and by the yardstick: the same answer as `take`, and the
 //! places of the same messages.
 
-use super::{in_words, name, Drawn};
+use super::{assert_alike, in_words, name, Drawn};
 use crate::captures::Capture;
 use crate::host::Host;
-use crate::mold::Place;
+use crate::mold::{Place, Session};
 use crate::receiver::{Answer, Receiver};
 use crate::{LIMIT, NEXT, SESSION};
 
@@ -20,9 +20,14 @@ const UNTOUCHED: u64 = 0xA5;
 
 /// Feeds a capture to both. Panics at the first difference.
 pub fn compare_in_one_call(capture: &Capture) -> Drawn {
+    compare_in_one_call_from(SESSION, NEXT, capture)
+}
+
+/// Starts both on a name and a number, and feeds them a capture.
+pub fn compare_in_one_call_from(session: &Session, next: u64, capture: &Capture) -> Drawn {
     let mut pair = Pair {
-        host: Host::start(),
-        receiver: Receiver::start(*SESSION, NEXT, LIMIT).expect("the start is good"),
+        host: Host::start_on(session, next),
+        receiver: Receiver::start(*session, next, LIMIT).expect("the start is good"),
         drawn: Drawn::new(OUTCOMES),
     };
     for datagram in capture.datagrams() {
@@ -71,8 +76,7 @@ impl Pair {
             .iter()
             .flat_map(|p| [p.offset as u64, p.length as u64]);
         assert!(words.iter().copied().eq(places), "at {datagram:?}");
-        assert_eq!(self.host.next(), self.receiver.next());
-        assert_eq!(self.host.is_ended(), self.receiver.is_ended());
+        assert_alike(&self.host, &self.receiver);
         self.drawn.add(name(answer));
     }
 }

@@ -1,5 +1,6 @@
 //! The three lines in front of a capture's records.
 
+use crate::mold::BLANK;
 use crate::receiver::Receiver;
 
 /// So many bytes hold all three lines, with a session of ten bytes and the longest numbers.
@@ -10,7 +11,7 @@ pub fn read(bytes: &[u8]) -> Option<(Receiver, usize)> {
     let (session, rest) = bytes.strip_prefix(b"session=")?.split_first_chunk()?;
     let (next, rest) = number(rest.strip_prefix(b"\nnext=")?)?;
     let (limit, rest) = number(rest.strip_prefix(b"limit=")?)?;
-    if !session.iter().all(|byte| matches!(byte, b' '..=b'~')) || *session == [b' '; 10] {
+    if !session.iter().all(|byte| matches!(byte, b' '..=b'~')) || session == BLANK {
         return None;
     }
     let limit = u16::try_from(limit).ok()?;

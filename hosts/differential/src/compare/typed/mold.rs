@@ -6,6 +6,7 @@ use crate::compare::Expected;
 use crate::layout;
 use crate::reference::mold as reference;
 use crate::reference::receiver::{self, Receiver};
+use crate::reference::BLANK;
 use eiderwagon::mold::{self, Datagram, Kind, Request};
 use eiderwagon::receiver as typed;
 use eiderwagon::Refusal;
@@ -132,17 +133,23 @@ fn read(bytes: &[u8]) -> Option<String> {
 
 fn as_reference(receiver: &typed::Receiver) -> Receiver {
     Receiver {
-        session: receiver.session(),
+        session: receiver.session().unwrap_or(BLANK),
         next: receiver.next(),
         limit: receiver.limit(),
         ended: receiver.is_ended(),
     }
 }
 
+/// A blank name can be left out.
 fn start(session: &[u8; 10], next: u64, limit: u16) -> Option<String> {
-    let typed = typed::Receiver::start(session, next, limit);
-    let typed = numbered(typed).map(|receiver| as_reference(&receiver));
-    same("receiver", typed, Receiver::start(*session, next, limit))
+    let differs = |typed: Result<typed::Receiver, Refusal>| {
+        let typed = numbered(typed).map(|receiver| as_reference(&receiver));
+        same("receiver", typed, Receiver::start(*session, next, limit))
+    };
+    differs(typed::Receiver::start(session, next, limit)).or_else(|| {
+        let unnamed = (*session == BLANK).then(|| typed::Receiver::start_unnamed(next, limit));
+        unnamed.and_then(differs)
+    })
 }
 
 /// An answer's number, its first number and messages if it delivers, and its request if it asks.
@@ -172,8 +179,9 @@ fn taken<'a>(
 ) -> Option<String> {
     let mut typed = reach::receiver(state)?;
     let mut receiver = layout::receiver(state);
+    let wanted = receiver.take(datagram);
     let session = receiver.session;
-    let wanted = receiver.take(datagram).map(|answer| match answer {
+    let wanted = wanted.map(|answer| match answer {
         receiver::Answer::Deliver { first, skipped, .. } => {
             let messages = reference::read(datagram).expect("delivered").messages;
             let new = parts(datagram, &messages[skipped as usize..]);

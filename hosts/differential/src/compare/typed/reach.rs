@@ -12,6 +12,10 @@ pub fn receiver(state: &[u8; RECEIVER]) -> Option<Receiver> {
     let wanted = layout::receiver(state);
     let mut receiver = Receiver::start(&wanted.session, wanted.next, wanted.limit).ok()?;
     if wanted.ended {
+        // What ends a receiver names it too.
+        if !wanted.is_named() {
+            return None;
+        }
         let mut out = [0; 20];
         let end = mold::write_end_of_session(&wanted.session, wanted.next, &mut out);
         receiver.take(end.expect("an end")).expect("it ends");
