@@ -50,7 +50,7 @@ def faults_of(function, promises, refused, why, edits):
 def statements_of(crate):
     """The names of the statements of a crate's specs/."""
     texts = [path.read_text() for path in (ROOT / "crates" / crate / "specs").glob("*.antt")]
-    return set(re.findall(r"^(?:pub record|unfoldable pub|abbrev pub) ([A-Z]\w*)", "\n".join(texts), re.M))
+    return set(re.findall(r"^ *(?:pub record|unfoldable pub|abbrev pub) ([A-Z]\w*)", "\n".join(texts), re.M))
 
 
 def section(crate, faults):
@@ -73,11 +73,11 @@ def section(crate, faults):
         faults += [f"{crate}::{f.title} {fault}" for fault in faults_of(f, promises, count, why, edits[f])]
         shown = "; ".join(f"`{text}`" for text in promises).replace("|", "\\|")
         rows.append(f"| `{f.title}` | {shown} | {count} | {', '.join(f'`{label}`' for label in edits[f])} |")
-    if not rows:
+    if not rows and not broken:
         return ""
+    head = ["\n| function | promises | refused | edits |", "|---|---|---|---|"] if rows else []
     also = [f"\nEdits of a statement: {', '.join(broken)}."] if broken else []
-    head = [f"\n## `{crate}`\n", "| function | promises | refused | edits |", "|---|---|---|---|"]
-    return "\n".join([*head, *rows, *also]) + "\n"
+    return "\n".join([f"\n## `{crate}`", *head, *rows, *also]) + "\n"
 
 
 def main():

@@ -17,7 +17,7 @@ use Rattle.soupbintcp_client.proofs.StatementLaws.{client-promises}
 use Rattle.soupbintcp.proofs.StableLaws.{front-promises}
 use Rattle.soupbintcp.proofs.ScanLaws.{scan-promises}
 use Rattle.host_answers.proofs.PromiseLaws.{host-promises}
-use Rattle.acceptance.specs.Conditions.{Condition1, Condition2, Condition2IsMeant, Condition3, Condition3IsMeant}
+use Rattle.acceptance.specs.Conditions.{Condition1, Condition2, Condition2IsMeant, Condition3, RefusedChangeNothing, Condition3IsMeant}
 use Rattle.exports_reply.proofs.CallLaws.{refused-reply}
 use Rattle.acceptance.proofs.LayoutLaws.{every-layout}
 use Rattle.acceptance.proofs.StateLaws.{host-states, open-by-code}
@@ -83,6 +83,7 @@ condition-2 =
       client-any-cutting = client-promises .any-cutting;
       follows-the-table = receiver-promises .follows-the-table;
       request-exactly-when = receiver-promises .request-exactly-when;
+      keeps-settings = receiver-promises .keeps-settings;
     }
 
 pub condition-2-is-meant : Condition2IsMeant
@@ -90,6 +91,9 @@ condition-2-is-meant = record { wrong-locks = login-promises .wrong-locks }
 
 pub condition-3 : Condition3
 condition-3 = receiver.condition-3
+
+pub refused-change-nothing : RefusedChangeNothing
+refused-change-nothing = receiver.refused-change-nothing
 
 pub condition-3-is-meant : Condition3IsMeant
 condition-3-is-meant = record { not-vacuous = not-vacuous; not-weak = not-weak }

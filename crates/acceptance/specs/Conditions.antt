@@ -10,7 +10,7 @@ use Rattle.wire.specs.Output.{RefusalWritesNothing}
 use Rattle.moldudp64_writer.specs.RoundTrips.{PacketRoundTrip, EndRoundTrip, RequestRoundTrip}
 use Rattle.receiver.specs.declared.receiver.Receiver.{Receiver}
 use Rattle.receiver.specs.Receiver.{refusalFor, answerOf, receiverAfter}
-use Rattle.receiver.specs.Statements.{Refuses, FollowsTheTable, RequestExactlyWhen}
+use Rattle.receiver.specs.Statements.{Refuses, FollowsTheTable, RequestExactlyWhen, KeepsSettings}
 use Rattle.receiver.specs.Condition3 as receiver
 use Rattle.receiver.specs.Witnesses.{NotVacuous, NotWeak}
 use Rattle.soupbintcp_writer.specs.RoundTrips.{EveryPacketWritesBack, PayloadRoundTrip, LetterRoundTrip}
@@ -133,14 +133,21 @@ pub record Condition2 : Type 0 where
   pub follows-the-table : FollowsTheTable answerOf receiverAfter
   -- an accepted datagram draws a request exactly when its number lies above the expected one
   pub request-exactly-when : RequestExactlyWhen answerOf
+  -- its name is learned once, from blank, by an accepted datagram, and then stays; so does its limit
+  pub keeps-settings : KeepsSettings receiverAfter
 
 -- what is shown of its rules of a login: the locks that document 01 names break them
 pub record Condition2IsMeant : Type 0 where
   pub wrong-locks : WrongLocks
 
--- Condition 3, one claim about every list of datagrams
+-- Condition 3, one claim about every list of datagrams, for a receiver that is started on the session's name and for one
+-- that learns it
 abbrev pub Condition3 : Type 0
 Condition3 = receiver.Condition3
+
+-- what is refused before the naming datagram, and every list that is refused, changes nothing and delivers nothing
+abbrev pub RefusedChangeNothing : Type 0
+RefusedChangeNothing = receiver.RefusedChangeNothing
 
 -- what is shown of that claim: it speaks of something, and idle and wrong receivers break it or the table
 pub record Condition3IsMeant : Type 0 where

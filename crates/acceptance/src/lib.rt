@@ -3,7 +3,7 @@
 ghost use Rattle.receiver.specs.Calls.{CallsDeliverTrue};
 ghost use Rattle.exports_receiver.specs.Run.{HostGetsTrue};
 ghost use Rattle.acceptance.specs.Conditions.{Condition1, Condition2, Condition2IsMeant};
-ghost use Rattle.acceptance.specs.Conditions.{Condition3, Condition3IsMeant};
+ghost use Rattle.acceptance.specs.Conditions.{Condition3, RefusedChangeNothing, Condition3IsMeant};
 ghost use Rattle.acceptance.specs.Examples.{EveryExample};
 ghost use Rattle.acceptance.specs.Layouts.{EveryLayout};
 
@@ -22,6 +22,7 @@ pub fn condition_2()
 // functions, and of what a host gets by calls of the exported ones.
 pub fn condition_3()
     ensures { λ _. ⌜ Condition3 ⌝ }
+    ensures refused { λ _. ⌜ RefusedChangeNothing ⌝ }
     ensures by_calls { λ _. ⌜ CallsDeliverTrue ⌝ }
     ensures for_hosts { λ _. ⌜ HostGetsTrue ⌝ }
     ensures is_meant { λ _. ⌜ Condition3IsMeant ⌝ }

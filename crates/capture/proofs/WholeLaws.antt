@@ -19,7 +19,7 @@ use Rattle.wire.proofs.Words.{which-of}
 use Rattle.wire.proofs.Outputs.{no-write-refusal, wrote-so, wrote-front}
 use Rattle.wire.proofs.Cases.{below-or-not, zero-or-not}
 use Rattle.receiver.specs.declared.receiver.Receiver.{Receiver}
-use Rattle.receiver.specs.Receiver.{receiverStartRefusal, startReceiver, receiverAfter, refusedReceiver, refusalFor}
+use Rattle.receiver.specs.Receiver.{receiverStartRefusal, startReceiver, receiverAfter, refusedReceiver}
 use Rattle.feed.specs.Session.{Datagram}
 use Rattle.feed.specs.Machine.{after}
 use Rattle.receiver.specs.Condition3.{plain}

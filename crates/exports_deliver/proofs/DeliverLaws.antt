@@ -16,7 +16,7 @@ use Rattle.receiver.specs.Table.{answerWords}
 use Rattle.receiver.specs.Receiver.{receiver, answerOf, answerRead, afterRead}
 use Rattle.host_answers.specs.Answers.{orElse, short, stateLadder}
 use Rattle.host_answers.proofs.AnswerLaws.{or-first, or-next, or-short-no, short-yes, no-success}
-use Rattle.host_states.specs.States.{onCode, nameIn}
+use Rattle.host_states.specs.States.{onCode}
 use Rattle.host_receiver.specs.Receiver.{receiverSize, receiverIn, KeepsReceiver}
 use Rattle.host_receiver.proofs.TakenLaws.{not-taken, taken-answer, taken-left, taken-ladder}
 use Rattle.exports_deliver.specs.Calls.{DeliversDatagram, BlocksThere, LaysAnswer}

@@ -15,7 +15,7 @@ use Rattle.wire.proofs.Outputs.{length-put}
 use Rattle.receiver.specs.declared.receiver.Receiver.{Receiver}
 use Rattle.receiver.specs.Receiver.{receiver, refusedReceiver}
 use Rattle.host_states.specs.Little.{little, littleBytes}
-use Rattle.host_states.specs.States.{receiverCode, isOpen, openByte, Lays, onCode, StatePromises, frontBytes, nameIn}
+use Rattle.host_states.specs.States.{receiverCode, isOpen, openByte, Lays, onCode, StatePromises, frontBytes}
 use Rattle.host_states.proofs.LittleLaws.{length-little}
 use Rattle.wire.proofs.PartLaws.{name-ten}
 use Rattle.host_states.proofs.StateLaws.{open-back, put-next, length-front, keeps-not, keeps-laid, laid-front, past-field, little-past-field, little-in-front, name-in-front, state-promises}

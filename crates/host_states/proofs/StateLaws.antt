@@ -14,7 +14,6 @@ use Rattle.wire.specs.Refusals.{outputShort}
 use Rattle.wire.specs.Output.{put}
 use Rattle.wire.specs.Parts.{firstBytes}
 use Rattle.wire.proofs.PartLaws.{name-ten}
-use Rattle.wire.proofs.Cases.{below-or-not}
 use Rattle.wire.proofs.Outputs.{put-put, put-room, put-none, length-put}
 use Rattle.wire.proofs.PartLaws.{first-there}
 use Rattle.host_answers.specs.Answers.{orElse, short}

@@ -105,8 +105,9 @@ answerOf r l = if accepted r l then tableRow r l .reply else refuses (refusalFor
 unfoldable pub receiverAfter : Receiver → List ℕ → Receiver
 receiverAfter r l = if accepted r l then afterRow (namedBy r l) (tableRow r l) else r
 
--- ---- the same by what a reader found, in its words w; l is the datagram whose session is compared and taken. Anyone can make the
--- words up, or take another datagram's: data then has as many messages as can be numbered
+-- ---- the same by what a reader found, in its words w; l is the datagram whose session is compared and taken. Anyone can
+-- make the words up, or take another datagram's: data then has as many messages as can be numbered, a refusal of
+-- number 0 is handed up as a row, and a name that is too short is taken as ten zeros. No reader's words come to that
 
 -- the number and the count in them
 abbrev pub numberRead : Words DownstreamKind → ℕ

@@ -107,7 +107,7 @@ bytes-drop : (k : ℕ) (l : List ℕ) → AreBytes l → AreBytes (drop k l)
 bytes-drop k l h i = rw (getD-drop k l i 0) (h (k + i))
 
 bytes-take : (k : ℕ) (l : List ℕ) → AreBytes l → AreBytes (take k l)
-bytes-take k l h i = below-or-not _ i k (λ j. rw (getD-take k l i 0 j) (h i)) 
+bytes-take k l h i = below-or-not _ i k (λ j. rw (getD-take k l i 0 j) (h i))
     (λ j. let e : getD (take k l) i 0 ≡ 0 = List·getD-eq-default (take k l) 0 (omega (arith, length-take k l)) in omega arith)
 
 -- as the code reads them
