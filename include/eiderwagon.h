@@ -406,8 +406,8 @@ enum {
  * EIDERWAGON_RECEIVER_ASK. Send the first, and another only where its first number differs or a while has passed.
  *   state:     EIDERWAGON_RECEIVER_SIZE bytes, read and written
  *   words:     EIDERWAGON_TAKE_WORDS
- *   refusals:  11, 12, 13, 14, 15, 16, 41, 17, 18, 20, 41. 17 for another session than the receiver's, and while that
- *              isn't known for ten spaces alone */
+ *   refusals:  11, 12, 13, 14, 15, 16, 41, 17, 18, 20, 41. 17 for another session than the receiver's, and, while that
+ *              isn't known, for ten spaces alone */
 uint32_t eiderwagon_receiver_take(uint8_t *state, size_t state_size, const uint8_t *datagram, size_t datagram_size,
                                   uint64_t *words, size_t words_size);
 

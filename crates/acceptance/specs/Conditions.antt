@@ -133,7 +133,7 @@ pub record Condition2 : Type 0 where
   pub follows-the-table : FollowsTheTable answerOf receiverAfter
   -- an accepted datagram draws a request exactly when its number lies above the expected one
   pub request-exactly-when : RequestExactlyWhen answerOf
-  -- its name is learned once, from blank, by an accepted datagram, and then stays; so does its limit
+  -- its limit stays; its name changes once, from blank, by an accepted datagram
   pub keeps-settings : KeepsSettings receiverAfter
 
 -- what is shown of its rules of a login: the locks that document 01 names break them

@@ -1,4 +1,4 @@
--- What the settings read are, plainly: the one text that document 01 gives.
+-- What the settings read are, plainly: the one text that document 01 gives, and a name that isn't blank (order 12).
 use Prim.Native.Nat.{ℕ, _+_, _≤_}
 use mathlib.Core.List.{List, [], _∷_, _++_}
 use mathlib.Core.Bool.{true}

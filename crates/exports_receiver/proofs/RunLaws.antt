@@ -124,7 +124,7 @@ unfolding firstBytes
 own-name name ten = rw (le-ltb (length name) sessionSize (omega arith)) (take-all sessionSize name (omega arith))
 
 -- the receiver in a started state's bytes, and condition 3 of it
-module _ {s : Session} {start : ℕ} {m : List ℕ} {refused first : List Datagram} (c : StartCall s start m refused first) where
+module _ {s : Session} {start : ℕ} {m : List ℕ} {refused naming : List Datagram} (c : StartCall s start m refused naming) where
   good-start : Good (c .name) start (c .limit)
   good-start = good (c .name) start (c .limit) (c .lent) m (c .call)
 
@@ -134,34 +134,34 @@ module _ {s : Session} {start : ℕ} {m : List ℕ} {refused first : List Datagr
   enough : receiverSize ≤ length m
   enough = let size : length m ≡ length (c .lent) = kept-size (c .call .keeps) refl in let h = c .room in omega arith
 
-  faithful : Faithful plain s start (receiverIn m) refused first
+  faithful : Faithful plain s start (receiverIn m) refused naming
   unfolding Condition3For
   faithful =
       rw fresh
-      (condition-3 s (c .name) start (c .limit) refused first (good-start .taken) (c .from-one) (c .to-past-last)
-      (subst (λ (x : Receiver). Opens s (c .name) (refusalFor x) refused first) fresh (c .opens)))
+      (condition-3 s (c .name) start (c .limit) refused naming (good-start .taken) (c .from-one) (c .to-past-last)
+      (subst (λ (x : Receiver). Opens s (c .name) (refusalFor x) refused naming) fresh (c .opens)))
 
-gets-true : (s : Session) (start : ℕ) (m n : List ℕ) (refused first ds : List Datagram) (ms : List Message) → StartCall s start m refused first → AllOfKind s (first ++ ds)
-    → Handed m (refused ++ (first ++ ds)) n ms → GetsTrue s start n ms
-gets-true s start m n refused first ds ms c kind handed =
+gets-true : (s : Session) (start : ℕ) (m n : List ℕ) (refused naming ds : List Datagram) (ms : List Message) → StartCall s start m refused naming → AllOfKind s (naming ++ ds)
+    → Handed m (refused ++ (naming ++ ds)) n ms → GetsTrue s start n ms
+gets-true s start m n refused naming ds ms c kind handed =
     let hands = run (enough c) handed in
     let true-ones = faithful c .delivers-true ds kind in
-    let number : numberIn n ≡ numberAfter plain (receiverIn m) (refused ++ (first ++ ds)) = ap (λ (r : Receiver). r .next .0) (hands .leaves) in
+    let number : numberIn n ≡ numberAfter plain (receiverIn m) (refused ++ (naming ++ ds)) = ap (λ (r : Receiver). r .next .0) (hands .leaves) in
     record {
       from-start = rw number (true-ones .from-start);
       to-last = rw number (true-ones .to-last);
       exactly = hands .gives ∙ true-ones .exactly ∙ ap (messagesFrom s start) (sym number);
     }
 
-one-more : (s : Session) (start : ℕ) (m n n′ : List ℕ) (refused first before rest : List Datagram) (d : Datagram) (ms ms′ : List Message) → StartCall s start m refused first
-    → AllOfKind s (first ++ (before ++ rest)) → OfKind s d → Handed m (refused ++ (first ++ (before ++ rest))) n ms → Handed m (refused ++ (first ++ (before ++ d ∷ rest))) n′ ms′
+one-more : (s : Session) (start : ℕ) (m n n′ : List ℕ) (refused naming before rest : List Datagram) (d : Datagram) (ms ms′ : List Message) → StartCall s start m refused naming
+    → AllOfKind s (naming ++ (before ++ rest)) → OfKind s d → Handed m (refused ++ (naming ++ (before ++ rest))) n ms → Handed m (refused ++ (naming ++ (before ++ d ∷ rest))) n′ ms′
     → NoWorse n n′ ms ms′
-one-more s start m n n′ refused first before rest d ms ms′ c kind this shorter longer =
+one-more s start m n n′ refused naming before rest d ms ms′ c kind this shorter longer =
     let hands = run (enough c) shorter in
     let more = run (enough c) longer in
     let worse = faithful c .one-more before rest d kind this in
-    let was : endedIn n ≡ after plain (receiverIn m) (refused ++ (first ++ (before ++ rest))) .ended = ap (λ (r : Receiver). r .ended) (hands .leaves) in
-    let is : endedIn n′ ≡ after plain (receiverIn m) (refused ++ (first ++ (before ++ d ∷ rest))) .ended = ap (λ (r : Receiver). r .ended) (more .leaves) in
+    let was : endedIn n ≡ after plain (receiverIn m) (refused ++ (naming ++ (before ++ rest))) .ended = ap (λ (r : Receiver). r .ended) (hands .leaves) in
+    let is : endedIn n′ ≡ after plain (receiverIn m) (refused ++ (naming ++ (before ++ d ∷ rest))) .ended = ap (λ (r : Receiver). r .ended) (more .leaves) in
     record { as-many = rw (hands .gives, more .gives) (worse .as-many); ended-too = λ e. is ∙ worse .ended-too (sym was ∙ e) }
 
 pub host-gets-true : HostGetsTrue

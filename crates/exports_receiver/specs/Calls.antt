@@ -14,7 +14,7 @@ use Rattle.host_states.specs.States.{onCode}
 use Rattle.host_receiver.specs.Receiver.{receiverSize, receiverIn, KeepsReceiver}
 use Rattle.host_receiver.specs.Replies.{answerNumber}
 
--- a receiver is started on a session's name; 19 where that isn't ten bytes too
+-- a receiver is started on a session's name, or on a blank one; 19 where that isn't ten bytes too
 pub record StartsReceiver (r : ℕ) (name : List ℕ) (n limit : ℕ) (l m : List ℕ) : Type 0 where
   pub returns : r ≡ orElse (unlessSized (length name) sessionSize badSetting (receiverStartRefusal n limit))
       (short (ltb (length l) receiverSize))

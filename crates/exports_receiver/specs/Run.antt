@@ -68,14 +68,14 @@ HandsOn = (l m : List ℕ) (ds : List Datagram) (ms : List Message) → receiver
 -- ---- condition 3 of what a host gets
 
 -- a start that isn't refused, at a number from 1 to one past the session's last: the state's bytes become m. It was given
--- the session's name, or a blank one, and then lists begin with what is refused and the first that names the receiver
-pub record StartCall (s : Session) (start : ℕ) (m : List ℕ) (refused first : List Datagram) : Type 0 where
+-- the session's name, or a blank one, and then lists begin with what is refused and the one that names the receiver
+pub record StartCall (s : Session) (start : ℕ) (m : List ℕ) (refused naming : List Datagram) : Type 0 where
   pub name : List ℕ
   pub limit : ℕ
   pub lent : List ℕ
   pub room : receiverSize ≤ length lent
   pub call : StartsReceiver 0 name start limit lent m
-  pub opens : Opens s name (refusalFor (receiverIn m)) refused first
+  pub opens : Opens s name (refusalFor (receiverIn m)) refused naming
   pub from-one : 1 ≤ start
   pub to-past-last : start ≤ lastOf s + 1
 
@@ -97,16 +97,17 @@ pub record NoWorse (n n′ : List ℕ) (ms ms′ : List Message) : Type 0 where
   pub as-many : length ms ≤ length ms′
   pub ended-too : endedIn n ≡ true → endedIn n′ ≡ true
 
--- over every list of datagrams of condition 3's kind; and one more of them, at any place behind the first, does no worse
+-- over every list of datagrams, of condition 3's kind from the naming one on; and one more of them does no worse, at any
+-- place, behind the naming one where there is one
 pub record HostGetsTrue : Type 0 where
-  pub gets-true : (s : Session) (start : ℕ) (m n : List ℕ) (refused first ds : List Datagram) (ms : List Message)
-      → StartCall s start m refused first → AllOfKind s (first ++ ds) → Handed m (refused ++ (first ++ ds)) n ms
+  pub gets-true : (s : Session) (start : ℕ) (m n : List ℕ) (refused naming ds : List Datagram) (ms : List Message)
+      → StartCall s start m refused naming → AllOfKind s (naming ++ ds) → Handed m (refused ++ (naming ++ ds)) n ms
       → GetsTrue s start n ms
-  pub one-more : (s : Session) (start : ℕ) (m n n′ : List ℕ) (refused first before rest : List Datagram) (d : Datagram)
+  pub one-more : (s : Session) (start : ℕ) (m n n′ : List ℕ) (refused naming before rest : List Datagram) (d : Datagram)
       (ms ms′ : List Message)
-      → StartCall s start m refused first
-      → AllOfKind s (first ++ (before ++ rest))
+      → StartCall s start m refused naming
+      → AllOfKind s (naming ++ (before ++ rest))
       → OfKind s d
-      → Handed m (refused ++ (first ++ (before ++ rest))) n ms
-      → Handed m (refused ++ (first ++ (before ++ d ∷ rest))) n′ ms′
+      → Handed m (refused ++ (naming ++ (before ++ rest))) n ms
+      → Handed m (refused ++ (naming ++ (before ++ d ∷ rest))) n′ ms′
       → NoWorse n n′ ms ms′

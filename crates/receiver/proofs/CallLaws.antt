@@ -26,27 +26,27 @@ runs (call t c cs) =
       gives = rw (← c .1, ← c .0, i .gives);
     }
 
-start-faithful : (s : Session) (start : ℕ) (r : Receiver) (refused first : List Datagram) → StartCall s start r refused first → Faithful plain s start r refused first
+start-faithful : (s : Session) (start : ℕ) (r : Receiver) (refused naming : List Datagram) → StartCall s start r refused naming → Faithful plain s start r refused naming
 unfolding Condition3For
-start-faithful s start r refused first c =
+start-faithful s start r refused naming c =
     let fresh : r ≡ startReceiver (c .name) start (c .limit) = c .leaves ∙ c .call .1 in
     rw fresh
-    (condition-3 s (c .name) start (c .limit) refused first (sym (c .call .0) ∙ c .not-refused) (c .from-one) (c .to-past-last)
-    (subst (λ (x : Receiver). Opens s (c .name) (refusalFor x) refused first) fresh (c .opens)))
+    (condition-3 s (c .name) start (c .limit) refused naming (sym (c .call .0) ∙ c .not-refused) (c .from-one) (c .to-past-last)
+    (subst (λ (x : Receiver). Opens s (c .name) (refusalFor x) refused naming) fresh (c .opens)))
 
 pub calls-deliver-true : CallsDeliverTrue
 calls-deliver-true =
     record {
-      delivers-true = λ s start r x refused first ds ms c all cs.
-          let f = start-faithful s start r refused first c .delivers-true ds all in
+      delivers-true = λ s start r x refused naming ds ms c all cs.
+          let f = start-faithful s start r refused naming c .delivers-true ds all in
           let i = runs cs in
           record {
             from-start = rw (← i .ends-at) (f .from-start);
             to-last = rw (← i .ends-at) (f .to-last);
             exactly = rw (← i .gives, ← i .ends-at) (f .exactly);
           };
-      one-more = λ s start r x y refused first before rest d ms ns c all o cs cs′.
-          let f = start-faithful s start r refused first c .one-more before rest d all o in
+      one-more = λ s start r x y refused naming before rest d ms ns c all o cs cs′.
+          let f = start-faithful s start r refused naming c .one-more before rest d all o in
           let i = runs cs in
           let j = runs cs′ in
           record {

@@ -18,7 +18,7 @@ use Rattle.receiver.specs.Condition3.{plain, Condition3For, Condition3, 
 use Rattle.receiver.proofs.StartLaws.{started}
 use Rattle.receiver.proofs.LadderLaws.{own-name}
 use Rattle.receiver.proofs.TableLaws.{row-answer, row-after, row-named}
-use Rattle.receiver.proofs.Promises.{also-open, receiver-promises}
+use Rattle.receiver.proofs.Promises.{names-it, also-open, receiver-promises}
 use Rattle.receiver.proofs.NamedLaws.{refusal-stays, Inv, Behind, keeps}
 
 -- ---- a receiver that has the session's name, and one that learns it
@@ -63,13 +63,14 @@ refused-change-nothing = refused-all
 
 pub condition-3 : Condition3
 unfolding Condition3For
-condition-3 s name start limit refused first e h l o = rw (started name start limit e) (by-opening (rw (started name start limit e) at o))
+condition-3 s name start limit refused naming e h l o = rw (started name start limit e) (by-opening (rw (started name start limit e) at o))
   where
-    by-opening : {refused first : List Datagram} → Opens s name (refusalFor (receiver name start limit false)) refused first
-        → Faithful plain s start (receiver name start limit false) refused first
+    by-opening : {refused naming : List Datagram} → Opens s name (refusalFor (receiver name start limit false)) refused naming
+        → Faithful plain s start (receiver name start limit false) refused naming
     by-opening (on-its-name b n) = rw n (on-name s start limit b h l)
-    by-opening (learns-it {refused} {d} b n a f m) =
-        let g = rw n at f in
+    by-opening (learns-it {refused} {d} n a f m) =
+        let g : refusalFor (receiver blank start limit false) d ≡ 0 = rw n at f in
+        let b : s .name ≡ blank → ⊥ = λ e. names-it (receiver blank start limit false) d g refl (m ∙ e) in
         let c = refused-all _ refused (rw n at a) in
         rw n
         (led plain s start (unnamed s start limit b h l) (fresh s start limit b h l) refused d (c .stays) (c .nothing) (same-after s start limit b h l d g m)

@@ -23,7 +23,7 @@ use Rattle.receiver.specs.declared.receiver.Answer.{Answer}
 use Rattle.receiver.specs.declared.receiver.Answer.the-variants.{Deliver, Old, Quiet, Ask, Ended, Refused}
 use Rattle.receiver.specs.Table.{AnswerKind, deliver, old, quiet, ask, ended, Outcome, Row, data-reaches, data-below, heartbeat-below, heartbeat-at, any-above, end-at, answerWords, askFor, deliverOutcome, oldOutcome, quietOutcome, askOutcome, endedOutcome, table}
 use Rattle.receiver.specs.Receiver.{receiverStartRefusal, nameBy, otherSession, endBelow, ownRefusal, refusalFor, tableRow, answerOf, receiverAfter}
-use Rattle.receiver.specs.Statements.{FollowsTheTable, RequestExactlyWhen, RefusesOnceEnded, NumberNeverFalls, AskIsARequest, StaysGood, LearnsName, KeepsSettings, ReceiverPromises}
+use Rattle.receiver.specs.Statements.{FollowsTheTable, RequestExactlyWhen, RefusesOtherSessions, RefusesOnceEnded, NumberNeverFalls, AskIsARequest, StaysGood, LearnsName, KeepsSettings, ReceiverPromises}
 use Rattle.receiver.proofs.StartLaws.{in-bounds, start-good}
 use Rattle.wire.specs.Bytes.{sameBytes}
 use Rattle.wire.proofs.PartLaws.{name-ten}
@@ -163,14 +163,19 @@ ended-stays r l e = zero-or-not _ (refusalFor r l) open-still (λ z. sym (refuse
 by-ladder : (r : Receiver) (l : List ℕ) (k : ℕ) → refusalFor r l ≡ k → (k ≡ 0 → ⊥) → answerOf r l ≡ refuses k
 by-ladder r l k e z = rw (← e) (refused-answers r l (λ x. z (sym e ∙ x)))
 
+refuses-other-sessions : RefusesOtherSessions answerOf
+refuses-other-sessions =
+    record {
+      named = λ r l b w z. by-ladder r l _ (ladder-other r l w (other-name r l b z)) (λ x. omega arith);
+      unnamed = λ r l b w n. by-ladder r l _ (ladder-other r l w (blank-other r l b n)) (λ x. omega arith);
+    }
+
 refuses-once-ended : RefusesOnceEnded answerOf receiverAfter
 refuses-once-ended =
     record {
       not-well-formed = λ r l e z. by-ladder r l _ (ladder-bad r l z) z;
-      of-another-session = λ r l e b w z. by-ladder r l _ (ladder-other r l w (other-name r l b z)) (λ x. omega arith);
-      of-its-session = λ r l e b w n. by-ladder r l _ (ladder-ended r l w (own-name r l b n) e) (λ x. omega arith);
-      unnamed-to-blank = λ r l e b w n. by-ladder r l _ (ladder-other r l w (blank-other r l b n)) (λ x. omega arith);
-      unnamed-to-any-other = λ r l e b w z. by-ladder r l _ (ladder-ended r l w (blank-own r l b z) e) (λ x. omega arith);
+      named = λ r l e b w n. by-ladder r l _ (ladder-ended r l w (own-name r l b n) e) (λ x. omega arith);
+      unnamed = λ r l e b w z. by-ladder r l _ (ladder-ended r l w (blank-own r l b z) e) (λ x. omega arith);
       stays = ended-stays;
     }
 
@@ -310,6 +315,7 @@ receiver-promises =
     record {
       follows-the-table = follows-the-table;
       request-exactly-when = request-exactly-when;
+      refuses-other-sessions = refuses-other-sessions;
       refuses-once-ended = refuses-once-ended;
       number-never-falls = number-never-falls;
       ask-is-a-request = ask-is-a-request;

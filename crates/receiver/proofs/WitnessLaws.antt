@@ -14,17 +14,17 @@ use Rattle.moldudp64.specs.Blocks.{blockLength, fits, allFit, afterBlocks, mess
 use Rattle.moldudp64.specs.Downstream.{DownstreamKind, data-packet, kindOfCount, kindOf, blockCount, refusalOf, messagesOf}
 use Rattle.moldudp64.specs.Written.{encoded, encodedEnd}
 use Rattle.receiver.specs.declared.receiver.Receiver.{Receiver}
-use Rattle.receiver.specs.Table.{Outcome, Row, data-reaches, data-below, heartbeat-below, heartbeat-at, any-above, end-at, deliverOutcome, table}
+use Rattle.receiver.specs.Table.{Outcome, Row, data-reaches, data-below, heartbeat-below, heartbeat-at, any-above, end-at, deliverOutcome, askOutcome, table}
 use Rattle.wire.specs.Bounds.{blank}
 use Rattle.receiver.specs.Receiver.{receiver, nameBy, otherSession, endBelow, ownRefusal, refusalFor, afterRow, receiverStartRefusal, startReceiver, answerOf, receiverAfter}
 use Rattle.receiver.proofs.StartLaws.{started}
-use Rattle.receiver.specs.Statements.{AnswerRule, StepRule}
+use Rattle.receiver.specs.Statements.{AnswerRule, StepRule, Follows}
 use Rattle.receiver.specs.Delivery.{messagesDeliveredAt, messagesDelivered}
 use Rattle.feed.specs.Session.{Datagram, Message, Session, lastOf, IsMessage, messagesFrom, OfKind, not-well-formed, another-name, any-heartbeat, true-data, true-end, All, AllOfKind}
 use Rattle.feed.specs.Machine.{after, delivered}
 use Rattle.feed.specs.Faithful.{Opens, on-its-name, learns-it, Faithful}
 use Rattle.receiver.specs.Condition3.{machineOf, Condition3For}
-use Rattle.receiver.specs.Witnesses.{name, a, b, c, session, dataAt, heartbeatAt, endAt, fresh, feed, unnamedFresh, otherName, endBelowIt, refusedFirst, naming, behindNaming, NotVacuous, staysPut, refusesAll, oldToAll, asksAlways, allAtOnce, movesPastAll, overlapOld, overlapStays, jumpDelivers, jumps, learnsRefused, answersAll, learnsTwice, FollowsAtFirst, NotWeak}
+use Rattle.receiver.specs.Witnesses.{name, a, b, c, session, dataAt, heartbeatAt, endAt, fresh, feed, unnamedFresh, otherName, endBelowIt, refusedFirst, naming, behindNaming, NotVacuous, staysPut, refusesAll, oldToAll, asksAlways, allAtOnce, movesPastAll, overlapOld, overlapStays, jumpDelivers, jumps, refusesBlank, staysBlank, learnsRefused, answersAll, learnsTwice, FollowsAtFirst, NotWeak}
 use Rattle.feed.proofs.FeedLaws.{none-from, Keeps, faithful, led}
 
 -- ---- datagrams of the session
@@ -82,9 +82,9 @@ broken-true : OfKind session (replicate 19 0)
 unfolding refusalOf
 broken-true = not-well-formed (λ e. let z : _≡_ {A = ℕ} 11 0 = e in omega arith)
 
-other-true : OfKind session (encoded blank 1 (c ∷ []))
+other-true : (f : ℕ) (m : Message) → OfKind session (encoded otherName f (m ∷ []))
 unfolding header bytes blocksOf encoded
-other-true = another-name (λ e. let z : _≡_ {A = ℕ} 32 82 = ap (λ (l : List ℕ). getD l 0 0) e in omega arith)
+other-true f m = another-name (λ e. let z : _≡_ {A = ℕ} 79 82 = ap (λ (l : List ℕ). getD l 0 0) e in omega arith)
 
 -- ---- the feed
 
@@ -96,7 +96,7 @@ none m = absurd (List·Memᴰ·not-nil m)
 
 feed-true : AllOfKind session feed
 feed-true d m =
-    in-front last-true (in-front two-true (in-front other-true (in-front heartbeat-true (in-front broken-true (in-front two-true (in-front end-true (in-front overlap-true (in-front end-true none)))))))) m
+    in-front last-true (in-front two-true (in-front (other-true 1 c) (in-front heartbeat-true (in-front broken-true (in-front two-true (in-front end-true (in-front overlap-true (in-front end-true none)))))))) m
 
 -- ---- the blank start
 
@@ -135,12 +135,8 @@ and-none d m = absurd (List·Memᴰ·not-nil m)
 first-refused : All IsRefused refusedFirst
 first-refused = and-first blank-refused (and-first broken-refused (and-first end-refused and-none))
 
-foreign-true : OfKind session (encoded otherName 2 (a ∷ []))
-unfolding header bytes blocksOf encoded
-foreign-true = another-name (λ e. let z : _≡_ {A = ℕ} 79 82 = ap (λ (l : List ℕ). getD l 0 0) e in omega arith)
-
 behind-true : AllOfKind session (naming ∷ behindNaming)
-behind-true d m = in-front heartbeat-true (in-front foreign-true (in-front two-true (in-front last-true (in-front end-true none)))) m
+behind-true d m = in-front heartbeat-true (in-front (other-true 2 a) (in-front two-true (in-front last-true (in-front end-true none)))) m
 
 pub not-vacuous : NotVacuous
 unfolding number bytes header blocksOf encoded encodedEnd numberOf countOf kindOfCount blockCount blockLength fits allFit afterBlocks messages blocksRefusal refusalOf messagesOf sameBytes nameBy firstBytes otherSession endBelow ownRefusal refusalFor table answerOf receiverAfter messagesDeliveredAt after delivered receiverStartRefusal startReceiver
@@ -152,8 +148,9 @@ not-vacuous =
       of-kind = feed-true;
       delivers = refl;
       ends = refl;
+      not-refused-blank = refl;
       starts-blank = refl;
-      opens-blank = learns-it not-blank refl first-refused naming-taken naming-name;
+      opens-blank = learns-it refl first-refused naming-taken naming-name;
       of-kind-behind = behind-true;
       delivers-behind = refl;
       ends-behind = refl;
@@ -208,7 +205,7 @@ idle answers nothing s name start limit refused first e h l o = rw (started name
     by-opening : {refusal : Datagram → ℕ} {refused first : List Datagram} → Opens s name refusal refused first
         → Faithful (machineOf answers staysPut) s start r refused first
     by-opening (on-its-name b n) = of-kind
-    by-opening (learns-it {refused} {d} b n a f m) =
+    by-opening (learns-it {refused} {d} n a f m) =
         led (machineOf answers staysPut) s start r r refused d (still answers nothing s r refused) (none-at-all answers nothing s r refused) refl refl of-kind
 
 -- ---- the table at a fresh receiver and the first message
@@ -242,7 +239,7 @@ from-blank : (answers : AnswerRule) (step : StepRule) (refused : List Datagram) 
     → Faithful (machineOf answers step) session 2 unnamedFresh refused (naming ∷ [])
 unfolding Condition3For receiverStartRefusal startReceiver
 from-blank answers step refused all f =
-    f session blank 2 100 refused (naming ∷ []) refl (omega arith) (omega arith) (learns-it not-blank refl all naming-taken naming-name)
+    f session blank 2 100 refused (naming ∷ []) refl (omega arith) (omega arith) (learns-it refl all naming-taken naming-name)
 
 never-moves-breaks : Condition3For answerOf staysPut → ⊥
 unfolding number bytes header blocksOf encoded numberOf countOf kindOfCount blockCount blockLength fits allFit afterBlocks messages blocksRefusal refusalOf messagesOf sameBytes otherSession endBelow ownRefusal refusalFor table answerOf messagesDeliveredAt after delivered messagesFrom
@@ -266,7 +263,7 @@ jump-breaks f =
 
 -- the foreign message is delivered as the session's second, which has no bytes
 foreign-behind : AllOfKind session (naming ∷ encoded otherName 2 (a ∷ []) ∷ [])
-foreign-behind d m = in-front heartbeat-true (in-front foreign-true none) m
+foreign-behind d m = in-front heartbeat-true (in-front (other-true 2 a) none) m
 
 learns-refused-breaks : Condition3For answerOf learnsRefused → ⊥
 unfolding number bytes header blocksOf encoded encodedEnd numberOf countOf kindOfCount blockCount blockLength fits allFit afterBlocks messages blocksRefusal refusalOf messagesOf sameBytes nameBy firstBytes otherSession endBelow ownRefusal refusalFor table answerOf receiverAfter messagesDeliveredAt after delivered messagesFrom
@@ -282,6 +279,23 @@ learns-twice-breaks f =
     let w : _≡_ {A = ℕ} 1 0 = ap (λ (l : List Message). length (getD l 0 [])) e in
     omega arith
 
+-- one that never learns the name refuses the heartbeat that asks
+asked : (limit n : ℕ) (k : DownstreamKind) (f x : ℕ) (o : Outcome) → Row limit n k f x o → n < f → o ≡ askOutcome limit n f
+asked limit n k f x o (data-reaches p q r e) h = absurd (omega arith)
+asked limit n k f x o (data-below p q e) h = absurd (omega arith)
+asked limit n k f x o (heartbeat-below p q e) h = absurd (omega arith)
+asked limit n k f x o (heartbeat-at p q e) h = absurd (omega arith)
+asked limit n k f x o (any-above q e) h = e
+asked limit n k f x o (end-at p q e) h = absurd (omega arith)
+
+never-learns-breaks : Follows refusesBlank staysBlank unnamedFresh naming → ⊥
+unfolding number bytes header blocksOf encoded numberOf sameBytes
+never-learns-breaks t =
+    let e = asked 100 2 (kindOf naming) 9 (countOf naming) (t .outcome) (t .its-row) (omega arith) in
+    let w = which-of (t .its-answer ∙ ap (λ (o : Outcome). o .reply) e) in
+    let z : _≡_ {A = ℕ} 0 1 = cc in
+    omega arith
+
 pub not-weak : NotWeak
 unfolding messagesDeliveredAt
 not-weak =
@@ -293,6 +307,7 @@ not-weak =
       asks-always = idle asksAlways (λ r d. refl);
       asks-always-breaks = λ t. let w = which-of (first-row asksAlways staysPut t .0) in let z : _≡_ {A = ℕ} 0 1 = cc in omega arith;
       all-at-once-breaks = λ t. let n : _≡_ {A = ℕ} 4 2 = ap (λ (r : Receiver). r .next .0) (first-row allAtOnce movesPastAll t .1) in omega arith;
+      never-learns-breaks = never-learns-breaks;
       never-moves-breaks = never-moves-breaks;
       overlap-old-breaks = overlap-breaks;
       jumps-breaks = jump-breaks;

@@ -22,15 +22,15 @@ pub data Calls : Receiver → List Datagram → Receiver → List Message → Ty
       → Calls r (d ∷ ds) x (messagesDelivered (answerWords (t .answer)) d ++ ms)
 
 -- a call of `new` that returned the receiver r and no refusal, at a number from 1 to one past the session's last; it was
--- given the session's name, or a blank one, and then lists begin with what it refuses and the first that names it
-pub record StartCall (s : Session) (start : ℕ) (r : Receiver) (refused first : List Datagram) : Type 0 where
+-- given the session's name, or a blank one, and then lists begin with what it refuses and the one that names it
+pub record StartCall (s : Session) (start : ℕ) (r : Receiver) (refused naming : List Datagram) : Type 0 where
   pub name : List ℕ
   pub limit : ℕ
   pub returned : Started
   pub call : Starts returned name start limit
   pub not-refused : returned .refusal .number ≡ 0
   pub leaves : r ≡ returned .receiver
-  pub opens : Opens s name (refusalFor r) refused first
+  pub opens : Opens s name (refusalFor r) refused naming
   pub from-one : 1 ≤ start
   pub to-past-last : start ≤ lastOf s + 1
 
@@ -47,18 +47,19 @@ pub record NoWorse (x y : Receiver) (ms ns : List Message) : Type 0 where
   pub ended-too : x .ended ≡ true → y .ended ≡ true
 
 -- condition 3: the calls deliver exactly the true messages from the start number to just below the number of the
--- receiver that the last one returned; one more datagram at any place behind the first does no worse
+-- receiver that the last one returned; one more datagram at any place does no worse; behind the naming
+-- one, where there is one
 pub record CallsDeliverTrue : Type 0 where
-  pub delivers-true : (s : Session) (start : ℕ) (r x : Receiver) (refused first ds : List Datagram) (ms : List Message)
-      → StartCall s start r refused first
-      → AllOfKind s (first ++ ds)
-      → Calls r (refused ++ (first ++ ds)) x ms
+  pub delivers-true : (s : Session) (start : ℕ) (r x : Receiver) (refused naming ds : List Datagram) (ms : List Message)
+      → StartCall s start r refused naming
+      → AllOfKind s (naming ++ ds)
+      → Calls r (refused ++ (naming ++ ds)) x ms
       → AreTrue s start x ms
-  pub one-more : (s : Session) (start : ℕ) (r x y : Receiver) (refused first before rest : List Datagram) (d : Datagram)
+  pub one-more : (s : Session) (start : ℕ) (r x y : Receiver) (refused naming before rest : List Datagram) (d : Datagram)
       (ms ns : List Message)
-      → StartCall s start r refused first
-      → AllOfKind s (first ++ (before ++ rest))
+      → StartCall s start r refused naming
+      → AllOfKind s (naming ++ (before ++ rest))
       → OfKind s d
-      → Calls r (refused ++ (first ++ (before ++ rest))) x ms
-      → Calls r (refused ++ (first ++ (before ++ d ∷ rest))) y ns
+      → Calls r (refused ++ (naming ++ (before ++ rest))) x ms
+      → Calls r (refused ++ (naming ++ (before ++ d ∷ rest))) y ns
       → NoWorse x y ms ns

@@ -29,11 +29,11 @@ plain = machineOf answerOf receiverAfter
 -- session's name, or blank and then named by its first accepted datagram. Which datagrams are refused before that one
 -- is document 01's ladder at the fresh receiver, whatever this one answers
 unfoldable pub Condition3For : AnswerRule → StepRule → Type 0
-Condition3For answers step = (s : Session) (name : List ℕ) (start limit : ℕ) (refused first : List Datagram)
+Condition3For answers step = (s : Session) (name : List ℕ) (start limit : ℕ) (refused naming : List Datagram)
     → receiverStartRefusal start limit ≡ 0 → 1 ≤ start
     → start ≤ lastOf s + 1
-    → Opens s name (refusalFor (startReceiver name start limit)) refused first
-    → Faithful (machineOf answers step) s start (startReceiver name start limit) refused first
+    → Opens s name (refusalFor (startReceiver name start limit)) refused naming
+    → Faithful (machineOf answers step) s start (startReceiver name start limit) refused naming
 
 -- condition 3 of the receiver of the table
 abbrev pub Condition3 : Type 0

@@ -60,7 +60,7 @@ namedBy r l = receiver (nameBy (r .session) l) (r .next .0) (r .limit .0) (r .en
 
 -- ---- a datagram l
 
--- the ground of 17: the session is another one, or a blank one where the receiver has no name yet
+-- the ground of 17: the session is another one; while the receiver has no name, a blank one instead
 unfoldable pub otherSession : Receiver → List ℕ → Bool
 otherSession r l =
     if unnamed (r .session) then unnamed (take sessionSize l) else not (sameBytes (take sessionSize l) (r .session))
@@ -107,7 +107,8 @@ receiverAfter r l = if accepted r l then afterRow (namedBy r l) (tableRow r l) e
 
 -- ---- the same by what a reader found, in its words w; l is the datagram whose session is compared and taken. Anyone can
 -- make the words up, or take another datagram's: data then has as many messages as can be numbered, a refusal of
--- number 0 is handed up as a row, and a name that is too short is taken as ten zeros. No reader's words come to that
+-- number 0 is handed up as a row, and a name that is too short is taken as ten zeros. A datagram's own words come to none
+-- of that
 
 -- the number and the count in them
 abbrev pub numberRead : Words DownstreamKind → ℕ

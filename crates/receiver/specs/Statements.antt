@@ -74,18 +74,21 @@ pub record KeepsSettings (step : StepRule) : Type 0 where
   pub refused : (r : Receiver) (l : List ℕ) → (refusalFor r l ≡ 0 → ⊥) → step r l .session ≡ r .session
   pub learns : (r : Receiver) (l : List ℕ) → r .session ≡ blank → refusalFor r l ≡ 0 → LearnsName (step r l) l
 
--- an ended receiver refuses every datagram and stays as it is: 11 to 16 where it isn't well-formed, 17 where it is of
--- another session, else 18; one without a name, as a refused start leaves it, 17 where the datagram's is blank, else 18
+-- 17: a receiver refuses a well-formed datagram of another session; while it has no name, one of a blank session
+pub record RefusesOtherSessions (answers : AnswerRule) : Type 0 where
+  pub named : (r : Receiver) (l : List ℕ) → (r .session ≡ blank → ⊥) → refusalOf l ≡ 0
+      → (take sessionSize l ≡ r .session → ⊥) → answers r l ≡ refuses sessionDiffers
+  pub unnamed : (r : Receiver) (l : List ℕ) → r .session ≡ blank → refusalOf l ≡ 0
+      → take sessionSize l ≡ blank → answers r l ≡ refuses sessionDiffers
+
+-- an ended receiver refuses every datagram and stays as it is: 11 to 16 where it isn't well-formed, 17 as ever, else 18;
+-- one without a name, as a refused start leaves it, has 18 for every name that isn't blank
 pub record RefusesOnceEnded (answers : AnswerRule) (step : StepRule) : Type 0 where
   pub not-well-formed : (r : Receiver) (l : List ℕ) → r .ended ≡ true → (refusalOf l ≡ 0 → ⊥)
       → answers r l ≡ refuses (refusalOf l)
-  pub of-another-session : (r : Receiver) (l : List ℕ) → r .ended ≡ true → (r .session ≡ blank → ⊥) → refusalOf l ≡ 0
-      → (take sessionSize l ≡ r .session → ⊥) → answers r l ≡ refuses sessionDiffers
-  pub of-its-session : (r : Receiver) (l : List ℕ) → r .ended ≡ true → (r .session ≡ blank → ⊥) → refusalOf l ≡ 0
+  pub named : (r : Receiver) (l : List ℕ) → r .ended ≡ true → (r .session ≡ blank → ⊥) → refusalOf l ≡ 0
       → take sessionSize l ≡ r .session → answers r l ≡ refuses sessionEnded
-  pub unnamed-to-blank : (r : Receiver) (l : List ℕ) → r .ended ≡ true → r .session ≡ blank → refusalOf l ≡ 0
-      → take sessionSize l ≡ blank → answers r l ≡ refuses sessionDiffers
-  pub unnamed-to-any-other : (r : Receiver) (l : List ℕ) → r .ended ≡ true → r .session ≡ blank → refusalOf l ≡ 0
+  pub unnamed : (r : Receiver) (l : List ℕ) → r .ended ≡ true → r .session ≡ blank → refusalOf l ≡ 0
       → (take sessionSize l ≡ blank → ⊥) → answers r l ≡ refuses sessionEnded
   pub stays : (r : Receiver) (l : List ℕ) → r .ended ≡ true → step r l ≡ r
 
@@ -93,6 +96,7 @@ pub record RefusesOnceEnded (answers : AnswerRule) (step : StepRule) : Type 0 wh
 pub record ReceiverPromises : Type 0 where
   pub follows-the-table : FollowsTheTable answerOf receiverAfter
   pub request-exactly-when : RequestExactlyWhen answerOf
+  pub refuses-other-sessions : RefusesOtherSessions answerOf
   pub refuses-once-ended : RefusesOnceEnded answerOf receiverAfter
   pub number-never-falls : NumberNeverFalls receiverAfter
   pub ask-is-a-request : AskIsARequest answerOf

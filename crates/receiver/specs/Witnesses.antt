@@ -6,7 +6,7 @@ use mathlib.Core.Bool.{Bool, true, false}
 use lib.ListN.{replicate}
 use lib.Dec.{ltb, eqb}
 use Rattle.wire.specs.Choice.{if_then_else_}
-use Rattle.wire.specs.Refusals.{datagramShort}
+use Rattle.wire.specs.Refusals.{datagramShort, sessionDiffers}
 use Rattle.wire.specs.Words.{says, refuses}
 use Rattle.moldudp64.specs.Header.{numberOf, countOf}
 use Rattle.moldudp64.specs.Downstream.{DownstreamKind, data-packet, heartbeat, end-of-session, kindOf}
@@ -15,8 +15,8 @@ use Rattle.receiver.specs.declared.receiver.Receiver.{Receiver}
 use Rattle.receiver.specs.Table.{deliver, old, ask, deliverOutcome}
 use Rattle.wire.specs.Text.{ascii, readroom}
 use Rattle.wire.specs.Bounds.{blank}
-use Rattle.receiver.specs.Receiver.{receiver, receiverStartRefusal, startReceiver, namedBy, refusalFor, accepted}
-use Rattle.receiver.specs.Receiver.{afterRow, answerOf, receiverAfter}
+use Rattle.receiver.specs.Receiver.{receiver, receiverStartRefusal, startReceiver, unnamed, namedBy, refusalFor}
+use Rattle.receiver.specs.Receiver.{accepted, afterRow, answerOf, receiverAfter}
 use Rattle.receiver.specs.Statements.{AnswerRule, StepRule, Follows}
 use Rattle.feed.specs.Session.{Datagram, Message, Session, AllOfKind}
 use Rattle.feed.specs.Machine.{after, delivered}
@@ -53,6 +53,10 @@ endAt f = encodedEnd name f
 abbrev pub fresh : Receiver
 fresh = receiver name 1 100 false
 
+-- another session's name
+abbrev pub otherName : List ℕ
+otherName = ascii "OTHERROOM1"
+
 -- ---- one list of condition 3's kind: a datagram lost because it came early, a doubled one, another session's data,
 -- a heartbeat that is far off, broken bytes and an end; and what it delivers
 
@@ -60,7 +64,7 @@ abbrev pub feed : List Datagram
 feed =
     dataAt 3 (c ∷ [])
     ∷ dataAt 1 (a ∷ b ∷ [])
-    ∷ encoded blank 1 (c ∷ [])
+    ∷ encoded otherName 1 (c ∷ [])
     ∷ heartbeatAt 9
     ∷ replicate 19 0
     ∷ dataAt 1 (a ∷ b ∷ [])
@@ -74,10 +78,6 @@ feed =
 
 abbrev pub unnamedFresh : Receiver
 unnamedFresh = receiver blank 2 100 false
-
--- another session's name
-abbrev pub otherName : List ℕ
-otherName = ascii "OTHERROOM1"
 
 -- 20: an end of another session, below its number
 abbrev pub endBelowIt : Datagram
@@ -103,6 +103,7 @@ pub record NotVacuous : Type 0 where
   pub of-kind : AllOfKind session feed
   pub delivers : delivered plain fresh feed ≡ a ∷ b ∷ c ∷ []
   pub ends : after plain fresh feed ≡ receiver name 4 100 true
+  pub not-refused-blank : receiverStartRefusal 2 100 ≡ 0
   pub starts-blank : startReceiver blank 2 100 ≡ unnamedFresh
   pub opens-blank : Opens session blank (refusalFor unnamedFresh) refusedFirst (naming ∷ [])
   pub of-kind-behind : AllOfKind session (naming ∷ behindNaming)
@@ -163,6 +164,13 @@ jumps r d = if ahead r d then afterRow r (deliverOutcome (numberOf d) (numberOf 
 
 -- ---- receivers that learn the name wrongly
 
+-- never learns it: refuses all that comes without one
+abbrev pub refusesBlank : AnswerRule
+refusesBlank r d = if unnamed (r .session) then refuses sessionDiffers else answerOf r d
+
+abbrev pub staysBlank : StepRule
+staysBlank r d = if unnamed (r .session) then r else receiverAfter r d
+
 -- learns it from a datagram that is refused
 abbrev pub learnsRefused : StepRule
 learnsRefused r d = if accepted r d then receiverAfter r d else namedBy r d
@@ -184,8 +192,9 @@ abbrev pub FollowsAtFirst : AnswerRule → StepRule → Type 0
 FollowsAtFirst answers step = Follows answers step fresh (dataAt 1 (a ∷ []))
 
 -- the idle receivers meet condition 3 and break the table's row at the first message; the one that claims everything
--- there breaks that row; the one that delivers and never moves its number, the one that calls an overlap old, the one
--- that jumps, and those that learn the name from a refused datagram, or twice, break condition 3
+-- there breaks that row, and the one that never learns the name breaks the row at the naming datagram; the one that
+-- delivers and never moves its number, the one that calls an overlap old, the one that jumps, and those that learn the
+-- name from a refused datagram, or twice, break condition 3
 pub record NotWeak : Type 0 where
   pub refuses-all : Condition3For refusesAll staysPut
   pub refuses-all-breaks : FollowsAtFirst refusesAll staysPut → ⊥
@@ -194,6 +203,7 @@ pub record NotWeak : Type 0 where
   pub asks-always : Condition3For asksAlways staysPut
   pub asks-always-breaks : FollowsAtFirst asksAlways staysPut → ⊥
   pub all-at-once-breaks : FollowsAtFirst allAtOnce movesPastAll → ⊥
+  pub never-learns-breaks : Follows refusesBlank staysBlank unnamedFresh naming → ⊥
   pub never-moves-breaks : Condition3For answerOf staysPut → ⊥
   pub overlap-old-breaks : Condition3For overlapOld overlapStays → ⊥
   pub jumps-breaks : Condition3For jumpDelivers jumps → ⊥

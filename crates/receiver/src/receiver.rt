@@ -128,14 +128,6 @@ impl Receiver {
         }
     }
 
-    // Whether its name is still to be learned.
-    pub fn is_unnamed(self) -> bool
-        ensures { λ r. ⌜ r ≡ unnamed (self .session) ⌝ }
-    {
-        let name = self.session;
-        compare::is_name(&name, kinds::BLANK)
-    }
-
     // Takes a datagram, with one walk over its blocks: the table works on what the reader found.
     pub fn take(self, datagram: &[u8]) -> Taken
         ensures { λ r. ⌜ Takes r self (now (datagram .entry)) ⌝ }
@@ -193,7 +185,7 @@ impl Receiver {
     }
 
     // Whether the datagram is of another session; without a name, whether its session is blank. A name that doesn't end
-    // in a space isn't blank, which is told first: nearly every name is so.
+    // in a space isn't blank, which is told first.
     fn is_other_session(self, datagram: &[u8]) -> bool
         ensures { λ r. ⌜ r ≡ otherSession self (now (datagram .entry)) ⌝ }
     {
@@ -206,6 +198,14 @@ impl Receiver {
         } else {
             !self.is_unnamed()
         }
+    }
+
+    // Whether its name is still to be learned.
+    fn is_unnamed(self) -> bool
+        ensures { λ r. ⌜ r ≡ unnamed (self .session) ⌝ }
+    {
+        let name = self.session;
+        compare::is_name(&name, kinds::BLANK)
     }
 
     // The receiver under its name, or the datagram's where it has none yet: the one place where a name is learned. A
@@ -240,7 +240,7 @@ impl Receiver {
         }
     }
 
-    // The receiver with another number, and ended or not: the one place where the next receiver is made.
+    // The receiver with another number, and ended or not: the one place where its number moves, or it ends.
     fn moved(self, next: SequenceNumber, ended: bool) -> Receiver
         ensures { λ r. ⌜ r ≡ receiver (self .session) (next .0) (self .limit .0) ended ⌝ }
     {

@@ -20,7 +20,7 @@ unfoldable pub sent : Store → ℕ → List ℕ → List ℕ → List ℕ
 sent st size q o =
     take (getD (replied st size q o .values) 0 0) (writeOutput (answerGround st size q) o 0 (answerBytes st size q))
 
--- the request of an ask, as its writer writes it
+-- the request of an ask, as its writer writes it; the receiver has its name already (`Serves`)
 unfoldable pub requestFor : Receiver → List ℕ → List ℕ
 requestFor r vs = header (r .session) (getD vs 0 0) (getD vs 1 0)
 

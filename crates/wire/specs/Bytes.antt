@@ -1,4 +1,4 @@
--- Big-endian numbers in a list of bytes.
+-- Numbers in a list of bytes, and lists compared.
 use Prim.Native.Nat.{ℕ, zero, suc, _+_, _*_, _/_, _%_, _<_}
 use mathlib.Core.List.{List, [], _∷_, _++_}
 use mathlib.Core.Bool.{Bool, true, false}

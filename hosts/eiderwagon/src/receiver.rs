@@ -31,8 +31,7 @@
 //!
 //! A receiver can be started without a name. The first datagram that it doesn't refuse then names
 //! it, whatever it answers: one that is old or ahead, a heartbeat and an end too. Its name never
-//! changes again. Until it has one, a datagram of any session is good but for one whose name is ten
-//! spaces, which is refusal 17.
+//! changes again. Until it has one, 17 is for a name of ten spaces alone.
 //!
 //! ```
 //! use eiderwagon::mold;
