@@ -1,0 +1,1 @@
+// Condition 3 and order 13 of the receiver that keeps early messages.

@@ -1,0 +1,3 @@
+// What a datagram will deliver to the receiver that keeps early messages, had before the step: each message by its place
+// from 0, as a part of the slots if it is held there, else of the datagram.
+pub mod message;

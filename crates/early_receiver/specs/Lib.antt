@@ -1,0 +1,4 @@
+pub mod Answers
+pub mod Early
+pub mod Read
+pub mod Statements

@@ -1,0 +1,345 @@
+// The receiver's start, and its taking of a datagram.
+use early_holding::holding;
+use early_holding::holding::EarlyReceiver;
+use early_holding::holding::LENGTH_BYTES;
+use early_holding::holding::SLOT_BYTES;
+use early_holding::holding::SLOTS;
+use early_word::Held;
+use moldudp64::downstream;
+use moldudp64::downstream::Downstream;
+use moldudp64_messages::cursor::Cursor;
+use receiver::receiver as plain;
+use receiver::receiver::Receiver;
+use wire::kinds::MessageCount;
+use wire::kinds::MessagePlace;
+use wire::kinds::SESSION_SIZE;
+use wire::kinds::SequenceNumber;
+use wire::refusal;
+use wire::refusal::Refusal;
+ghost use mathlib.Core.Path.{_≡_};
+ghost use Rattle.moldudp64.specs.Downstream.{downstreamWords};
+ghost use Rattle.early_holding.specs.Holding.{lent};
+ghost use Rattle.early_receiver.specs.Early.{StartsEarly, TakesEarly};
+ghost use Rattle.early_receiver.specs.Read.{TakesEarlyRead, EarlyReadAsWhole};
+ghost use Rattle.early_receiver.specs.Statements.{EarlyPromises};
+
+// What the receiver answers to a datagram, by the table.
+pub enum Answer {
+    // Messages to deliver: the number of the first, how many, held ones too, and how many of the datagram's are skipped
+    // before it.
+    Deliver {
+        first: SequenceNumber,
+        count: MessageCount,
+        skipped: MessagePlace,
+    },
+    Old,
+    Quiet,
+    // The datagram's number lies above the expected one.
+    Ahead,
+    Ended,
+    Refused(Refusal),
+}
+
+// A request to send, beside the answer.
+pub enum Request {
+    Nothing,
+    // The first number wanted, and how many.
+    Ask {
+        from: SequenceNumber,
+        count: MessageCount,
+    },
+}
+
+// The answer to a datagram, the request that it draws, and the receiver to use next.
+pub struct Taken {
+    pub answer: Answer,
+    pub request: Request,
+    pub receiver: EarlyReceiver,
+}
+
+// The refusal of a start, its number 0 where there is none, and the receiver.
+pub struct Started {
+    pub refusal: Refusal,
+    pub receiver: EarlyReceiver,
+}
+
+// A fresh receiver that holds nothing, or the refusal 19. A blank name is learned, as by the plain receiver.
+pub fn start(session: [u8; SESSION_SIZE], next: SequenceNumber, limit: MessageCount) -> Started
+    ensures { λ r. ⌜ StartsEarly r session (next .0) (limit .0) ⌝ }
+{
+    let fresh = Receiver::new(session, next, limit);
+    let base = fresh.receiver;
+    Started {
+        refusal: fresh.refusal,
+        receiver: EarlyReceiver {
+            base,
+            held: Held::NOTHING,
+        },
+    }
+}
+
+// Takes a datagram, with one walk over its blocks, and a second over those that it keeps.
+pub fn take(receiver: EarlyReceiver, lengths: &mut [u8], slots: &mut [u8], datagram: &[u8]) -> Taken
+    ensures { λ r. ⌜ TakesEarly r (now (lengths .exit)) (now (slots .exit))
+        (lent receiver (now (lengths .entry)) (now (slots .entry))) (now (datagram .entry)) ⌝ }
+    ensures promises { λ _. ⌜ EarlyPromises ⌝ }
+{
+    take_read(
+        receiver,
+        downstream::read(datagram),
+        lengths,
+        slots,
+        datagram,
+    )
+}
+
+// The same by what was read, so that a caller can look at that before it has a receiver.
+pub fn take_read(
+    receiver: EarlyReceiver,
+    packet: Downstream,
+    lengths: &mut [u8],
+    slots: &mut [u8],
+    datagram: &[u8],
+) -> Taken
+    ensures { λ r. ⌜ TakesEarlyRead r (now (lengths .exit)) (now (slots .exit))
+        (lent receiver (now (lengths .entry)) (now (slots .entry))) (now (datagram .entry)) (downstreamWords packet) ⌝ }
+    ensures as_whole { λ _. ⌜ EarlyReadAsWhole ⌝ }
+{
+    let base = receiver.base;
+    let taken = base.take_read(packet, datagram);
+    let answer = taken.answer;
+    let right = is_right_size(lengths.len(), slots.len());
+    let refused = with_slots(right, refusal_in(answer));
+    if refused.number != 0 {
+        return Taken {
+            answer: Answer::Refused(refused),
+            request: Request::Nothing,
+            receiver,
+        };
+    }
+    let held = receiver.held;
+    let named = EarlyReceiver {
+        base: taken.receiver,
+        held,
+    };
+    accept(named, answer, packet, lengths, slots, datagram)
+}
+
+// Whether slots and lengths are of their size.
+fn is_right_size(lengths: usize, slots: usize) -> bool {
+    if slots != SLOT_BYTES {
+        return false;
+    }
+    lengths == LENGTH_BYTES
+}
+
+// A refusal with 19 put in before 20 where the slots are of another size.
+fn with_slots(right: bool, found: Refusal) -> Refusal {
+    if right {
+        return found;
+    }
+    if found.number == 0 {
+        return refusal::BAD_SETTING;
+    }
+    if refusal::BAD_SETTING.number < found.number {
+        return refusal::BAD_SETTING;
+    }
+    found
+}
+
+// The plain receiver's refusal, its number 0 where it answers.
+fn refusal_in(answer: plain::Answer) -> Refusal {
+    match answer {
+        plain::Answer::Deliver {
+            first: _,
+            count: _,
+            skipped: _,
+        } => refusal::NONE,
+        plain::Answer::Old => refusal::NONE,
+        plain::Answer::Quiet => refusal::NONE,
+        plain::Answer::Ask { from: _, count: _ } => refusal::NONE,
+        plain::Answer::Ended => refusal::NONE,
+        plain::Answer::Refused(r) => r,
+    }
+}
+
+// A datagram that isn't refused, which the plain receiver answers so: the receiver is that one after it, with what was
+// held before it.
+fn accept(
+    receiver: EarlyReceiver,
+    answer: plain::Answer,
+    packet: Downstream,
+    lengths: &mut [u8],
+    slots: &mut [u8],
+    datagram: &[u8],
+) -> Taken {
+    match answer {
+        plain::Answer::Deliver {
+            first,
+            count,
+            skipped,
+        } => deliver(receiver, first, count, skipped),
+        plain::Answer::Old => stay(receiver, Answer::Old),
+        plain::Answer::Quiet => stay(receiver, Answer::Quiet),
+        plain::Answer::Ask { from: _, count: _ } => {
+            ahead(receiver, packet, lengths, slots, datagram)
+        }
+        plain::Answer::Ended => end(receiver),
+        plain::Answer::Refused(r) => stay(receiver, Answer::Refused(r)),
+    }
+}
+
+// Messages to deliver, from the expected number on; those that are held and follow without a gap are delivered with
+// them. With nothing held the plain receiver's answer stands, and nothing is asked for.
+fn deliver(
+    receiver: EarlyReceiver,
+    first: SequenceNumber,
+    count: MessageCount,
+    skipped: MessagePlace,
+) -> Taken {
+    let held = receiver.held;
+    if held.is_nothing() {
+        return Taken {
+            answer: Answer::Deliver {
+                first,
+                count,
+                skipped,
+            },
+            request: Request::Nothing,
+            receiver,
+        };
+    }
+    let moved = holding::move_to(first, held, first.plus(count));
+    let after = moved.next;
+    let receiver = at(receiver, after, moved.held);
+    Taken {
+        answer: Answer::Deliver {
+            first,
+            count: first.gap(after),
+            skipped,
+        },
+        request: for_held(receiver),
+        receiver,
+    }
+}
+
+// The receiver at another number, with other numbers held.
+fn at(receiver: EarlyReceiver, next: SequenceNumber, held: Held) -> EarlyReceiver {
+    let base = receiver.base;
+    let session = base.session;
+    let limit = base.limit;
+    EarlyReceiver {
+        base: Receiver {
+            session,
+            next,
+            limit,
+            ended: base.ended,
+        },
+        held,
+    }
+}
+
+// The expected number stays, and what is held too.
+fn stay(receiver: EarlyReceiver, answer: Answer) -> Taken {
+    Taken {
+        answer,
+        request: for_held(receiver),
+        receiver,
+    }
+}
+
+// The session ends: nothing is held any more.
+fn end(receiver: EarlyReceiver) -> Taken {
+    let base = receiver.base;
+    Taken {
+        answer: Answer::Ended,
+        request: Request::Nothing,
+        receiver: EarlyReceiver {
+            base,
+            held: Held::NOTHING,
+        },
+    }
+}
+
+// A datagram ahead: the messages of data are kept, and the gap before what is held, or before the datagram, is asked for.
+fn ahead(
+    receiver: EarlyReceiver,
+    packet: Downstream,
+    lengths: &mut [u8],
+    slots: &mut [u8],
+    datagram: &[u8],
+) -> Taken {
+    match packet {
+        Downstream::Data { first, count } => {
+            let kept = keep_all(receiver, lengths, slots, datagram, first, count);
+            ahead_of(kept, first)
+        }
+        Downstream::Heartbeat { next } => ahead_of(receiver, next),
+        Downstream::EndOfSession { next } => ahead_of(receiver, next),
+        Downstream::Refused(_) => stay(receiver, Answer::Ahead),
+    }
+}
+
+// The answer to a datagram with a number above the expected one.
+fn ahead_of(receiver: EarlyReceiver, number: SequenceNumber) -> Taken {
+    let held = receiver.held;
+    if !held.is_nothing() {
+        return stay(receiver, Answer::Ahead);
+    }
+    let base = receiver.base;
+    let next = base.next;
+    Taken {
+        answer: Answer::Ahead,
+        request: ask(receiver, next.gap(number)),
+        receiver,
+    }
+}
+
+// A request for the numbers below the lowest held one; nothing where none is held.
+fn for_held(receiver: EarlyReceiver) -> Request {
+    let held = receiver.held;
+    if held.is_nothing() {
+        return Request::Nothing;
+    }
+    ask(receiver, MessageCount(held.lowest().0 + 1))
+}
+
+// A request from the expected number on, for the smaller of the gap and the limit.
+fn ask(receiver: EarlyReceiver, gap: MessageCount) -> Request {
+    let base = receiver.base;
+    let next = base.next;
+    let limit = base.limit;
+    Request::Ask {
+        from: next,
+        count: gap.smaller(limit),
+    }
+}
+
+// The messages of data ahead, one at a time in rising number; none where even the first lies too far.
+fn keep_all(
+    receiver: EarlyReceiver,
+    lengths: &mut [u8],
+    slots: &mut [u8],
+    datagram: &[u8],
+    first: SequenceNumber,
+    count: MessageCount,
+) -> EarlyReceiver {
+    let base = receiver.base;
+    let next = base.next;
+    if SLOTS.is_below(next.gap(first)) {
+        return receiver;
+    }
+    let end = first.plus(count);
+    let mut kept = receiver;
+    let mut number = first;
+    let mut cursor = Cursor::first(first.gap(end));
+    while number.is_below(end) {
+        let message = cursor.message(datagram);
+        let one = kept.keep(lengths, slots, number, message);
+        kept = one;
+        let after = cursor.next(datagram);
+        cursor = after;
+        number = number.plus(MessageCount(1));
+    }
+    kept
+}

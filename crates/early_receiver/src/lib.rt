@@ -1,0 +1,3 @@
+// The MoldUDP64 receiver that keeps early messages: started, and given datagrams one by one. It is the plain receiver with
+// a word of held numbers; the slots and the lengths of what they hold are lent to each call.
+pub mod early;
