@@ -6,3 +6,7 @@ pub mod SlotLaws
 pub mod Reading
 pub mod KeepLaws
 pub mod DatagramLaws
+pub mod StepLaws
+pub mod PlaceLaws
+pub mod NamedLaws
+pub mod ConditionLaws
