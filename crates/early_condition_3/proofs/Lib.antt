@@ -10,3 +10,5 @@ pub mod StepLaws
 pub mod PlaceLaws
 pub mod NamedLaws
 pub mod ConditionLaws
+pub mod MadeLaws
+pub mod SwappedLaws
