@@ -8,7 +8,8 @@ use lib.ListN.{length, getD}
 use Rattle.feed.specs.Session.{Message, Session, IsMessage, All}
 use Rattle.feed.specs.Machine.{after}
 use Rattle.feed.proofs.FeedLaws.{first-of, rest-of}
-use Rattle.early_condition_3.proofs.Cases.{cases, below-or-not}
+use Rattle.wire.proofs.Cases.{below-or-not}
+use Rattle.early_condition_3.proofs.RunLaws.{cases}
 use Rattle.early_condition_3.proofs.Model.{Numbered, single, Hold, run, holdStep, holding, numbered}
 use Rattle.early_condition_3.proofs.ModelLaws.{Has, Inv, Behind, Good, Effect, now, later, never, effect, moved-has, kept-has, run-holds, itself, further, keeps}
 
@@ -41,8 +42,8 @@ module _ (s : Session) where
   passed-one : (h : Hold) (f : ℕ) (m : Message) (k j : ℕ) → Inv s h → h .next ≤ j → Effect s (single f m) h
       → (holdStep h (single f m) .next ≤ j → Has (holdStep h (single f m)) j ⊎ Among (f + 1) k j) → Has h j ⊎ Among f (suc k) j
   passed-one h f m k j i x (now q st g) rest =
-      cases (below-or-not j (h .next + length (run h m)))
-      (λ b. cases (below-or-not (h .next) j) (λ c. inl (run-holds s h i m j c b)) (λ c. inr (omega arith, omega arith)))
+      below-or-not _ j (h .next + length (run h m))
+      (λ b. below-or-not _ (h .next) j (λ c. inl (run-holds s h i m j c b)) (λ c. inr (omega arith, omega arith)))
       (λ b. cases (rest (rw st b)) (λ w. inl (moved-has s h m j (rw st at w) .1)) (λ w. inr (among-more f k j w)))
   passed-one h f m k j i x (later b c d st g) rest =
       cases (rest (rw st x))

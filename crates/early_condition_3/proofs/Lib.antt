@@ -1,4 +1,3 @@
-pub mod Cases
 pub mod Model
 pub mod RunLaws
 pub mod ModelLaws

@@ -8,7 +8,8 @@ use native.Mathlib.Omega.{arith}
 use lib.ListN.{length, getD}
 use Rattle.feed.specs.Session.{Message, Session, IsMessage}
 use Rattle.feed.specs.Machine.{after}
-use Rattle.early_condition_3.proofs.Cases.{cases, below-or-not}
+use Rattle.wire.proofs.Cases.{below-or-not}
+use Rattle.early_condition_3.proofs.RunLaws.{cases}
 use Rattle.early_condition_3.proofs.Model.{Numbered, single, Hold, run, holdStep, holding, numbered}
 use Rattle.early_condition_3.proofs.ModelLaws.{Has, Inv, now-if, later-if, never-if, moved-has, has-moved, kept-has, has-kept, kept-now, free, run-holds, run-some, keeps}
 
@@ -29,7 +30,7 @@ module _ (s : Session) where
   made-one : (b : ℕ) (X : ℕ → Type 0) (h : Hold) (e : Numbered) → Inv s h → Made b X h → b ≤ e .number → e .number ≤ b + 64
       → length (e .message) ≤ 1024 → Made b (With X (e .number)) (holdStep h e)
   made-one b X h e i m lo hi short =
-      cases (below-or-not (e .number) (h .next))
+      below-or-not _ (e .number) (h .next)
       (λ a.
       rw (never-if s e h a)
       (record {
@@ -40,7 +41,7 @@ module _ (s : Session) where
         only = λ j x y. inl (m .only j x y);
       }))
       (λ a.
-      cases (below-or-not (h .next) (e .number))
+      below-or-not _ (h .next) (e .number)
       (λ c.
       rw (later-if s e h c (omega (arith, m .from)) short)
       (record {
@@ -58,9 +59,9 @@ module _ (s : Session) where
       (record {
         from = omega (arith, m .from);
         come = λ j x y.
-            cases (below-or-not j (h .next)) (λ z. inl (m .come j x z))
+            below-or-not _ j (h .next) (λ z. inl (m .come j x z))
             (λ z.
-            cases (below-or-not (h .next) j) (λ w. inl (m .only j w (run-holds s h i (e .message) j w y))) (λ w. inr (omega arith)));
+            below-or-not _ (h .next) j (λ w. inl (m .only j w (run-holds s h i (e .message) j w y))) (λ w. inr (omega arith)));
         gap = λ x.
             cases x (λ y. true≢false (sym (m .has n (omega arith) y) ∙ free s h i (e .message))) (λ y. omega arith);
         has = λ j x y. cases y (λ z. has-moved s h (e .message) j x (m .has j (omega arith) z)) (λ z. absurd (omega arith));
@@ -100,13 +101,13 @@ module _ (s : Session) where
       (λ w.
       let w0 : f ≤ j = w .0 in
       let w1 : j < f + suc (length ms) = w .1 in
-      cases (below-or-not f j) (λ u. inr (omega arith, omega arith)) (λ u. inl (inr (omega arith)))))
+      below-or-not _ f j (λ u. inr (omega arith, omega arith)) (λ u. inl (inr (omega arith)))))
       a
 
   -- two states made by the same numbers have the same next number and hold the same
   pub same-next : (b : ℕ) (X : ℕ → Type 0) (h g : Hold) → Made b X h → Made b X g → h .next ≤ g .next
   same-next b X h g m n =
-      cases (below-or-not (g .next) (h .next)) (λ a. absurd (n .gap (m .come (g .next) (n .from) a))) (λ a. a)
+      below-or-not _ (g .next) (h .next) (λ a. absurd (n .gap (m .come (g .next) (n .from) a))) (λ a. a)
 
   pub same-held : (b : ℕ) (X : ℕ → Type 0) (h g : Hold) → Made b X h → Made b X g → h .next ≡ g .next → Inv s h → (j : ℕ) → Has h j → Has g j
   same-held b X h g m n e i j x =

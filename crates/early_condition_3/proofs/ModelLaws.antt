@@ -4,7 +4,7 @@ use mathlib.Core.Path.{_≡_, refl, sym, ap, _∙_}
 use mathlib.Core.List.{[]}
 use mathlib.Core.Bool.{Bool, true, false, not, _&&_, true≢false, false≢true}
 use mathlib.Core.Option.{some}
-use mathlib.Core.Logic.{_⊎_, inl, inr, ⊎-elim}
+use mathlib.Core.Logic.{_⊎_, inl, inr}
 use native.Mathlib.Omega.{arith}
 use lib.ListN.{length}
 use lib.Dec.{ltb, leb, eqb}
@@ -12,8 +12,9 @@ use borrow.Author.Tests.{ltb-true, leb-true, eqb-true, lt-ltb, le-ltb, le-leb, e
 use Rattle.feed.specs.Session.{Message, Session, lastOf, IsMessage, messagesFrom}
 use Rattle.feed.proofs.FeedLaws.{none-from, Keeps}
 use Rattle.early_condition_3.proofs.Model.{Numbered, Hold, isHeld, follow, run, fits, moved, kept, holdStep, holdGives, holding}
-use Rattle.early_condition_3.proofs.Cases.{cases, either, below-or-not}
-use Rattle.early_condition_3.proofs.RunLaws.{cons-true, runs, run-has, run-stop, run-end, run-true, run-longer}
+use Rattle.wire.proofs.Cases.{below-or-not}
+use Rattle.early_holding.proofs.HoldingLaws.{either}
+use Rattle.early_condition_3.proofs.RunLaws.{cases, cons-true, runs, run-has, run-stop, run-end, run-true, run-longer}
 
 -- ---- one message at a time
 
@@ -49,15 +50,14 @@ module _ (s : Session) where
   pub effect : (e : Numbered) (h : Hold) → Effect e h
   unfolding holdStep holdGives fits
   effect e h =
-      ⊎-elim (λ (q : eqb (e .number) (h .next) ≡ true). now (eqb-true _ _ q) (rw q) (rw q))
+      either (eqb (e .number) (h .next)) _ (λ (q : eqb (e .number) (h .next) ≡ true). now (eqb-true _ _ q) (rw q) (rw q))
       (λ (q : eqb (e .number) (h .next) ≡ false).
-      ⊎-elim
+      either (fits (h .next) e) _
       (λ (f : fits (h .next) e ≡ true).
       let w = both (ltb (h .next) (e .number)) _ f in
       let v = both (leb (e .number) (h .next + 64)) _ (w .1) in
       later (ltb-true _ _ (w .0)) (leb-true _ _ (v .0)) (leb-true _ _ (v .1)) (rw (q, f)) (rw q))
-      (λ (f : fits (h .next) e ≡ false). never (rw (q, f)) (rw q)) (either (fits (h .next) e)))
-      (either (eqb (e .number) (h .next)))
+      (λ (f : fits (h .next) e ≡ false). never (rw (q, f)) (rw q)))
 
   pub now-if : (e : Numbered) (h : Hold) → e .number ≡ h .next → holdStep h e ≡ moved h (e .message)
   unfolding holdStep
@@ -77,9 +77,8 @@ module _ (s : Session) where
   module _ (h : Hold) (m : Message) where
     pub moved-has : (j : ℕ) → Has (moved h m) j → (h .next + length (run h m) < j) × Has h j
     moved-has j e =
-        ⊎-elim (λ (q : ltb (h .next + length (run h m)) j ≡ true). (ltb-true _ _ q, rw q at e))
+        either (ltb (h .next + length (run h m)) j) _ (λ (q : ltb (h .next + length (run h m)) j ≡ true). (ltb-true _ _ q, rw q at e))
         (λ (q : ltb (h .next + length (run h m)) j ≡ false). absurd (false≢true (rw q at e)))
-        (either (ltb (h .next + length (run h m)) j))
 
     pub has-moved : (j : ℕ) → h .next + length (run h m) < j → Has h j → Has (moved h m) j
     has-moved j a b = rw (lt-ltb _ _ a) b
@@ -87,18 +86,17 @@ module _ (s : Session) where
   module _ (h : Hold) (e : Numbered) where
     pub kept-has : (j : ℕ) → Has (kept h e) j → (j ≡ e .number) ⊎ Has h j
     kept-has j a =
-        ⊎-elim (λ (q : eqb j (e .number) ≡ true). inl (eqb-true _ _ q))
-        (λ (q : eqb j (e .number) ≡ false). inr (rw q at a)) (either (eqb j (e .number)))
+        either (eqb j (e .number)) _ (λ (q : eqb j (e .number) ≡ true). inl (eqb-true _ _ q))
+        (λ (q : eqb j (e .number) ≡ false). inr (rw q at a))
 
     pub has-kept : (j : ℕ) → Has h j → Has (kept h e) j
     has-kept j a =
-        ⊎-elim (λ (q : eqb j (e .number) ≡ true). rw (q, a) a) (λ (q : eqb j (e .number) ≡ false). rw q a) (either (eqb j (e .number)))
+        either (eqb j (e .number)) _ (λ (q : eqb j (e .number) ≡ true). rw (q, a) a) (λ (q : eqb j (e .number) ≡ false). rw q a)
 
     pub kept-now : Has (kept h e) (e .number)
     kept-now =
-        ⊎-elim (λ (q : Has h (e .number)). rw (eq-eqb (e .number) (e .number) refl, q) q)
+        either (isHeld (h .held (e .number))) _ (λ (q : Has h (e .number)). rw (eq-eqb (e .number) (e .number) refl, q) q)
         (λ (q : isHeld (h .held (e .number)) ≡ false). rw (eq-eqb (e .number) (e .number) refl, q))
-        (either (isHeld (h .held (e .number))))
 
   module _ (h : Hold) (i : Inv h) (m : Message) where
     -- nothing is held at the number that a delivered message leaves
@@ -109,7 +107,7 @@ module _ (s : Session) where
         let z : h .next + suc (length l) ≡ h .next + 1 + length l = omega arith in
         rw z
         (run-stop (h .held) (runs (h .held) 64 (h .next + 1))
-        (λ j a. ⊎-elim (λ q. absurd (omega (arith, i .near j q))) (λ q. q) (either (isHeld (h .held j)))))
+        (λ j a. either (isHeld (h .held j)) _ (λ q. absurd (omega (arith, i .near j q))) (λ q. q)))
 
     pub run-holds : (j : ℕ) → h .next < j → j < h .next + length (run h m) → Has h j
     unfolding run
@@ -131,11 +129,10 @@ module _ (s : Session) where
 
     above-free : (j : ℕ) → h .next + length (run h m) ≤ j → Has h j → h .next + length (run h m) < j
     above-free j a b =
-        ⊎-elim (λ q. q)
+        below-or-not _ (h .next + length (run h m)) j (λ q. q)
         (λ q.
         let z : h .next + length (run h m) ≡ j = omega arith in
         absurd (true≢false (sym b ∙ (rw z at free))))
-        (below-or-not (h .next + length (run h m)) j)
 
   moved-inv : (e : Numbered) (h : Hold) → Inv h → Good e → e .number ≡ h .next → Inv (moved h (e .message))
   moved-inv e h i t q =
@@ -143,11 +140,10 @@ module _ (s : Session) where
         from-one = omega (arith, i .from-one);
         to-last = run-to-last h i (e .message) (rw (← q) t);
         is-true = λ j x w.
-            ⊎-elim
+            either (ltb (h .next + length (run h (e .message))) j) _
             (λ (f : ltb (h .next + length (run h (e .message))) j ≡ true). i .is-true j x (rw f at w))
             (λ (f : ltb (h .next + length (run h (e .message))) j ≡ false).
-            absurd (false≢true (ap isHeld (rw f at w))))
-            (either (ltb (h .next + length (run h (e .message))) j));
+            absurd (false≢true (ap isHeld (rw f at w))));
         above = λ j w. moved-has h (e .message) j w .0;
         near = λ j w. omega (arith, i .near j (moved-has h (e .message) j w .1));
       }
@@ -158,16 +154,15 @@ module _ (s : Session) where
         from-one = i .from-one;
         to-last = i .to-last;
         is-true = λ j x w.
-            ⊎-elim
+            either (eqb j (e .number) && not (isHeld (h .held j))) _
             (λ (f : (eqb j (e .number) && not (isHeld (h .held j))) ≡ true).
             let z : j ≡ e .number = eqb-true _ _ (both _ _ f .0) in
             let y : some (e .message) ≡ some x = rw f at w in
             let v : e .message ≡ x = cc in
             rw (z, ← v) t)
-            (λ (f : (eqb j (e .number) && not (isHeld (h .held j))) ≡ false). i .is-true j x (rw f at w))
-            (either (eqb j (e .number) && not (isHeld (h .held j))));
-        above = λ j w. ⊎-elim (λ q. omega arith) (λ q. i .above j q) (kept-has h e j w);
-        near = λ j w. ⊎-elim (λ q. omega arith) (λ q. i .near j q) (kept-has h e j w);
+            (λ (f : (eqb j (e .number) && not (isHeld (h .held j))) ≡ false). i .is-true j x (rw f at w));
+        above = λ j w. cases (kept-has h e j w) (λ q. omega arith) (λ q. i .above j q);
+        near = λ j w. cases (kept-has h e j w) (λ q. omega arith) (λ q. i .near j q);
       }
 
   inv-by : (e : Numbered) (h : Hold) → Inv h → Good e → Effect e h → Inv (holdStep h e)
@@ -207,11 +202,11 @@ module _ (s : Session) where
   behind-now : (e : Numbered) (h g : Hold) → Inv h → Inv g → Behind h g → e .number ≡ h .next →
       Behind (moved h (e .message)) (holdStep g e)
   behind-now e h g i j b q =
-      cases (below-or-not (h .next) (g .next))
+      below-or-not _ (h .next) (g .next)
       (λ p.
       rw (never-if e g (omega arith))
       (record {
-        number = cases (below-or-not (g .next) (h .next + length (run h (e .message))))
+        number = below-or-not _ (g .next) (h .next + length (run h (e .message)))
             (λ f.
             absurd
             (omega (arith, j .above (g .next) (b .holds (g .next) (omega arith) (run-holds h i (e .message) (g .next) p f)))))
@@ -231,7 +226,7 @@ module _ (s : Session) where
   behind-later : (e : Numbered) (h g : Hold) → Inv h → Inv g → Behind h g → h .next < e .number → e .number ≤ h .next + 64 →
       length (e .message) ≤ 1024 → Behind (kept h e) (holdStep g e)
   behind-later e h g i j b p r c =
-      cases (below-or-not (e .number) (g .next))
+      below-or-not _ (e .number) (g .next)
       (λ f.
       rw (never-if e g f)
       (record {
@@ -239,7 +234,7 @@ module _ (s : Session) where
         holds = λ x a w. cases (kept-has h e x w) (λ z. absurd (omega arith)) (λ y. b .holds x a y);
       }))
       (λ f.
-      cases (below-or-not (g .next) (e .number))
+      below-or-not _ (g .next) (e .number)
       (λ k.
       rw (later-if e g k (omega (arith, b .number)) c)
       (record {

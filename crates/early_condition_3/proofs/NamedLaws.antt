@@ -15,6 +15,7 @@ use Rattle.receiver.specs.declared.receiver.Receiver.{Receiver}
 use Rattle.receiver.specs.Receiver.{otherSession, endBelow, refusalFor}
 use Rattle.receiver.proofs.LadderLaws.{own-name, other-name}
 use Rattle.receiver.proofs.Promises.{ladder-bad, ladder-other, ladder-ended, ladder-open}
+use Rattle.receiver.proofs.NamedLaws.{not-below, no-end, heartbeat-end, data-end-not}
 use Rattle.feed.specs.Session.{Datagram, Session, lastOf, IsMessage, messagesFrom, OfKind, All}
 use Rattle.feed.specs.Machine.{after}
 use Rattle.feed.proofs.FeedLaws.{Keeps, inv-after, behind-after}
@@ -23,15 +24,16 @@ use Rattle.early_holding.specs.Holding.{Lent, lent, early, nextOf, isHeld, held
 use Rattle.early_receiver.specs.Early.{endedNow, takeKind, lentAfter}
 use Rattle.early_messages.specs.Delivery.{deliveredCount, messageAt, messagesAt, delivery}
 use Rattle.early_condition_3.specs.Condition3.{keeper}
-use Rattle.early_condition_3.proofs.Cases.{cases, either, below-or-not}
+use Rattle.wire.proofs.Cases.{below-or-not}
+use Rattle.early_holding.proofs.HoldingLaws.{either}
 use Rattle.early_condition_3.proofs.Model as model
 use Rattle.early_condition_3.proofs.Model.{Hold, holding, numbered}
-use Rattle.early_condition_3.proofs.RunLaws.{has}
+use Rattle.early_condition_3.proofs.RunLaws.{cases, has}
 use Rattle.early_condition_3.proofs.ModelLaws as one
 use Rattle.early_condition_3.proofs.DatagramLaws.{true-run, model-ahead, passed}
 use Rattle.early_condition_3.proofs.Reading.{Sound, reading, is-held, of-held}
 use Rattle.early_condition_3.proofs.KeepLaws.{all-is}
-use Rattle.early_condition_3.proofs.StepLaws.{slots-right, refused-stays, open-takes, name-kept, not-end, not-end-beat, not-below, take-data, take-beat, take-end, take-end-ahead, same-base, none-read, empty-sound}
+use Rattle.early_condition_3.proofs.StepLaws.{slots-right, refused-stays, open-takes, name-kept, take-data, take-beat, take-end, take-end-ahead, same-base, none-read, empty-sound}
 use Rattle.early_condition_3.proofs.PlaceLaws.{places-length, places-get, at-held, at-there, still}
 
 module _ (s : Session) (named : s .name ≡ blank → ⊥) where
@@ -94,24 +96,24 @@ module _ (s : Session) (named : s .name ≡ blank → ⊥) where
       ended-stays n e = base-refuses 18 (ladder-ended (r .receiver .base) d (n .well-formed) (own n) e) (λ z. omega arith)
 
       pub open-data : TrueData s d → r .receiver .base .ended ≡ false → lentAfter r d ≡ takeAll r (numberOf d) (messagesOf d)
-      open-data t x = base-opens (t .named) x (not-end (kindOf d) _ _ (t .kind)) ∙ take-data r d (t .kind)
+      open-data t x = base-opens (t .named) x (no-end (kindOf d) _ _ (data-end-not (kindOf d) (t .kind))) ∙ take-data r d (t .kind)
 
       open-end : TrueEnd s d → r .receiver .base .ended ≡ false → lentAfter r d ≡ takeKind r (kindOf d) d
-      open-end t x = base-opens (t .named) x (not-below (kindOf d) _ _ (t .kind) (omega (arith, t .number, i .hold .to-last)))
+      open-end t x = base-opens (t .named) x (not-below (kindOf d) _ _ (omega (arith, t .number, i .hold .to-last)))
 
       effect-of : Sort s d → Effect r
       effect-of (is-bad h) = nothing (base-refuses (refusalOf d) (ladder-bad (r .receiver .base) d h) h)
       effect-of (is-other w h) =
           nothing (base-refuses 17 (ladder-other (r .receiver .base) d w (other-name (r .receiver .base) d has-name (λ q. h (q ∙ i .name)))) (λ z. omega arith))
       effect-of (is-heartbeat n k) =
-          cases (either (r .receiver .base .ended)) (λ x. nothing (ended-stays n x))
-          (λ x. nothing (base-opens n x (not-end-beat (kindOf d) _ _ k) ∙ take-beat r d k))
+          either (r .receiver .base .ended) _ (λ x. nothing (ended-stays n x))
+          (λ x. nothing (base-opens n x (no-end (kindOf d) _ _ (heartbeat-end (kindOf d) k)) ∙ take-beat r d k))
       effect-of (is-data t) =
-          cases (either (r .receiver .base .ended)) (λ x. nothing (ended-stays (t .named) x)) (λ x. taken t x (open-data t x))
+          either (r .receiver .base .ended) _ (λ x. nothing (ended-stays (t .named) x)) (λ x. taken t x (open-data t x))
       effect-of (is-end t) =
-          cases (either (r .receiver .base .ended)) (λ x. nothing (ended-stays (t .named) x))
+          either (r .receiver .base .ended) _ (λ x. nothing (ended-stays (t .named) x))
           (λ x.
-          cases (either (eqb (numberOf d) (nextOf (r .receiver))))
+          either (eqb (numberOf d) (nextOf (r .receiver))) _
           (λ q.
           let z : numberOf d ≡ nextOf (r .receiver) = eqb-true _ _ q in
           ended-now t (omega (arith, t .number)) (open-end t x ∙ take-end r d (t .kind) z))
@@ -187,7 +189,7 @@ module _ (s : Session) (named : s .name ≡ blank → ⊥) where
       unfolding messageOf
       place-true p g k =
           let j = nextOf (r .receiver) + p in
-          cases (either (isHeld (r .receiver) j))
+          either (isHeld (r .receiver) j) _
           (λ q. rw (at-held r d p g q) (i .hold .is-true j (heldMessage r j) (of-held r j q)))
           (λ q.
           cases (passed s (reading r) (numberOf d) (messagesOf d) (i .hold) (all-good t) j (omega arith) (omega (arith, end-is)))
@@ -202,7 +204,7 @@ module _ (s : Session) (named : s .name ≡ blank → ⊥) where
       unfolding deliveredCount
       taken-exact =
           let n = nextOf (lentAfter r d .receiver) in
-          cases (below-or-not (nextOf (r .receiver)) n)
+          below-or-not _ (nextOf (r .receiver)) n
           (λ g.
           let k = deliveredCount r d in
           let z : nextOf (r .receiver) + k ≡ n = omega arith in
@@ -231,7 +233,7 @@ module _ (s : Session) (named : s .name ≡ blank → ⊥) where
       behind-by : (r : Lent) → Inv r → Behind r q → OfKind s d → Effect r → Behind (lentAfter r d) (lentAfter q d)
       behind-by r i b o (nothing e) = rw e (further r q _ b (ahead-by q j (effect q j o)))
       behind-by r i b o (taken t x e) =
-          cases (either (q .receiver .base .ended))
+          either (q .receiver .base .ended) _
           (λ y.
           rw (e, ended-stays q j (t .named) y)
           (record {
@@ -247,7 +249,7 @@ module _ (s : Session) (named : s .name ≡ blank → ⊥) where
       behind-by r i b o (ended-now t n e) =
           let m : nextOf (q .receiver) ≡ lastOf s + 1 = omega (arith, b .hold .number, j .hold .to-last) in
           let c = empty-inv (endedNow (r .receiver) .base) (r .lengths) (r .slots) (i .hold .from-one) (i .hold .to-last) in
-          cases (either (q .receiver .base .ended))
+          either (q .receiver .base .ended) _
           (λ y. rw (e, ended-stays q j (t .named) y) (record { hold = at-end-behind _ (reading q) c m; ended = λ z. y }))
           (λ y.
           let f : lentAfter q d ≡ lent (endedNow (q .receiver)) (q .lengths) (q .slots) = open-end q j t y ∙ take-end q d (t .kind) (omega (arith, t .number)) in

@@ -7,14 +7,14 @@ use native.Mathlib.Omega.{arith}
 use lib.ListN.{length}
 use lib.Dec.{ltb}
 use lib.Pow.{shr-shr}
-use borrow.Author.Tests.{lt-ltb, le-ltb, ltb-true, ltb-false}
+use borrow.Author.Tests.{lt-ltb, ltb-true, ltb-false}
 use Rattle.wire.specs.Choice.{if_then_else_}
 use Rattle.feed.specs.Session.{Message}
 use Rattle.early_word.specs.Word.{bit, run, onesOf, past}
 use Rattle.early_word.proofs.WordLaws.{bit-past, bit-none, ones-set, past-lt}
 use Rattle.early_holding.specs.declared.holding.EarlyReceiver.{EarlyReceiver}
 use Rattle.early_holding.specs.Holding.{Lent, early, nextOf, at, isHeld, lengthOf, heldMessage, behind, advance}
-use Rattle.early_holding.proofs.HoldingLaws.{either}
+use Rattle.early_holding.proofs.HoldingLaws.{either, held-bit, holds-below}
 use Rattle.early_condition_3.proofs.Model as model
 use Rattle.early_condition_3.proofs.Model.{Hold}
 
@@ -36,16 +36,8 @@ held-at r i =
     let b : nextOf r + 1 + i - nextOf r - 1 ≡ i = omega arith in
     rw (lt-ltb _ _ a, b) refl
 
-pub held-above : (r : EarlyReceiver) (j : ℕ) → nextOf r < j → isHeld r j ≡ bit (r .held .0) (j - nextOf r - 1)
-unfolding isHeld
-held-above r j h = rw (lt-ltb _ _ h) refl
-
-held-not : (r : EarlyReceiver) (j : ℕ) → j ≤ nextOf r → isHeld r j ≡ false
-unfolding isHeld
-held-not r j h = rw (le-ltb _ _ h) refl
-
 pub above : (r : EarlyReceiver) (j : ℕ) → isHeld r j ≡ true → nextOf r < j
-above r j e = either (ltb (nextOf r) j) _ (λ q. ltb-true _ _ q) (λ q. absurd (true≢false (sym e ∙ held-not r j (ltb-false _ _ q))))
+above r j e = either (ltb (nextOf r) j) _ (λ q. ltb-true _ _ q) (λ q. absurd (true≢false (sym e ∙ sym (holds-below r j (ltb-false _ _ q)))))
 
 pub near : (r : EarlyReceiver) (j : ℕ) → r .held .0 < 2 ^ 64 → isHeld r j ≡ true → j ≤ nextOf r + 64
 near r j w e =
@@ -53,7 +45,7 @@ near r j w e =
     either (ltb (nextOf r + 64) j) _
     (λ q.
     let b : nextOf r + 64 < j = ltb-true _ _ q in
-    absurd (true≢false (sym e ∙ held-above r j a ∙ bit-none (r .held .0) 64 (j - nextOf r - 1) w (omega arith))))
+    absurd (true≢false (sym e ∙ held-bit r j a ∙ bit-none (r .held .0) 64 (j - nextOf r - 1) w (omega arith))))
     (λ q. ltb-false _ _ q)
 
 -- ---- the reading

@@ -4,14 +4,19 @@ use mathlib.Core.Path.{_≡_, refl, sym, ap, _∙_}
 use mathlib.Core.List.{List, [], _∷_, _++_}
 use mathlib.Core.Bool.{true, false, true≢false}
 use mathlib.Core.Option.{Option, none, some}
-use mathlib.Core.Logic.{_⊎_, inl, inr, ⊎-elim}
+use mathlib.Core.Logic.{_⊎_, inl, inr}
 use native.Mathlib.Omega.{arith}
 use lib.ListN.{length, getD}
+use Rattle.wire.proofs.Cases.{below-or-not}
 use Rattle.feed.specs.Session.{Message, Session, lastOf, IsMessage, messagesFrom}
 use Rattle.feed.proofs.Sorts.{run-true as list-true}
 use Rattle.feed.proofs.FeedLaws.{join, none-from}
 use Rattle.early_condition_3.proofs.Model.{isHeld, follow}
-use Rattle.early_condition_3.proofs.Cases.{below-or-not}
+
+-- a choice taken apart, the choice first
+pub cases : {A B P : Type 0} → A ⊎ B → (A → P) → (B → P) → P
+cases (inl a) f g = f a
+cases (inr b) f g = g b
 
 held-or : (o : Option Message) → (o ≡ none) ⊎ ((x : Message) × (o ≡ some x))
 held-or none = inl refl
@@ -48,15 +53,15 @@ module _ (held : ℕ → Option Message) where
   pub runs : (k n : ℕ) → Run k n (follow held k n)
   unfolding follow
   runs zero n = spent
-  runs (suc k) n = ⊎-elim (λ e. rw e (gap e)) (λ w. rw (w .1) (more (w .1) (runs k (n + 1)))) (held-or (held n))
+  runs (suc k) n = cases (held-or (held n)) (λ e. rw e (gap e)) (λ w. rw (w .1) (more (w .1) (runs k (n + 1))))
 
   -- each of the run is held
   pub run-has : {k n : ℕ} {l : List Message} → Run k n l → (j : ℕ) → n ≤ j → j < n + length l → isHeld (held j) ≡ true
   run-has spent j a b = absurd (omega arith)
   run-has (gap e) j a b = absurd (omega arith)
   run-has (more {n = n} e r) j a b =
-      ⊎-elim (λ h. run-has r j (omega arith) (omega arith))
-      (λ h. let z : j ≡ n = omega arith in rw (z, e)) (below-or-not n j)
+      below-or-not _ n j (λ h. run-has r j (omega arith) (omega arith))
+      (λ h. let z : j ≡ n = omega arith in rw (z, e))
 
   -- and what comes after it isn't, unless the run was cut at k
   pub run-stop : {k n : ℕ} {l : List Message} → Run k n l → ((j : ℕ) → n + k ≤ j → isHeld (held j) ≡ false) →

@@ -1,5 +1,5 @@
 -- What a datagram does to the receiver with what is lent to it: refused, or taken by its kind.
-use Prim.Native.Nat.{ℕ, _+_, _≤_}
+use Prim.Native.Nat.{ℕ, _+_}
 use mathlib.Core.Path.{_≡_, refl, sym, _∙_}
 use mathlib.Core.List.{List, [], _∷_}
 use mathlib.Core.Bool.{true, false, true≢false}
@@ -7,13 +7,13 @@ use native.Mathlib.Omega.{arith}
 use lib.ListN.{length}
 use lib.Dec.{ltb, eqb}
 use lib.Pow.{pow-pos}
-use borrow.Author.Tests.{le-ltb, eq-eqb, ne-eqb}
+use borrow.Author.Tests.{eq-eqb, ne-eqb}
 use Rattle.wire.specs.Bounds.{blank}
 use Rattle.wire.proofs.Same.{different}
 use Rattle.moldudp64.specs.Header.{numberOf}
-use Rattle.moldudp64.specs.Downstream.{DownstreamKind, data-packet, heartbeat, end-of-session, kindOf, messagesOf}
+use Rattle.moldudp64.specs.Downstream.{data-packet, heartbeat, end-of-session, kindOf, messagesOf}
 use Rattle.receiver.specs.declared.receiver.Receiver.{Receiver}
-use Rattle.receiver.specs.Receiver.{nameBy, endBelow, refusalFor}
+use Rattle.receiver.specs.Receiver.{nameBy, refusalFor}
 use Rattle.feed.specs.Session.{Datagram, Message}
 use Rattle.early_word.specs.Word.{bit}
 use Rattle.early_word.proofs.WordLaws.{bit-none}
@@ -41,20 +41,6 @@ open-takes s d z = rw z refl
 pub name-kept : (s : Lent) (d : Datagram) → (s .receiver .base .session ≡ blank → ⊥) → namedLent s d ≡ s
 unfolding nameBy
 name-kept s d b = rw (different (s .receiver .base .session) blank b) refl
-
--- ---- 20 applies to an end of session alone
-
-pub not-end : (k : DownstreamKind) (f n : ℕ) → k ≡ data-packet → endBelow k f n ≡ false
-unfolding endBelow
-not-end k f n e = rw e refl
-
-pub not-end-beat : (k : DownstreamKind) (f n : ℕ) → k ≡ heartbeat → endBelow k f n ≡ false
-unfolding endBelow
-not-end-beat k f n e = rw e refl
-
-pub not-below : (k : DownstreamKind) (f n : ℕ) → k ≡ end-of-session → n ≤ f → endBelow k f n ≡ false
-unfolding endBelow
-not-below k f n e h = rw e (le-ltb _ _ h)
 
 -- ---- the kinds
 

@@ -8,11 +8,12 @@ use native.Mathlib.Omega.{arith}
 use lib.ListN.{length, getD}
 use Rattle.wire.specs.Bounds.{blank}
 use Rattle.moldudp64.specs.Header.{numberOf}
-use Rattle.moldudp64.specs.Downstream.{DownstreamKind, data-packet, heartbeat, end-of-session, kindOf, messagesOf}
+use Rattle.moldudp64.specs.Downstream.{DownstreamKind, data-packet, heartbeat, kindOf, messagesOf}
 use Rattle.moldudp64.proofs.DownstreamLaws.{count-sound, kind-blocks}
 use Rattle.receiver.specs.Receiver.{receiver, refusalFor}
 use Rattle.receiver.proofs.StartLaws.{started}
 use Rattle.receiver.proofs.Promises.{names-it}
+use Rattle.receiver.proofs.NamedLaws.{data-end-not}
 use Rattle.feed.specs.Session.{Datagram, Session, messagesFrom, OfKind, AllOfKind}
 use Rattle.feed.specs.Machine.{after, delivered}
 use Rattle.feed.specs.Faithful.{Opens, on-its-name, learns-it}
@@ -22,7 +23,7 @@ use Rattle.early_holding.specs.Holding.{Lent, lent, early, nextOf, isHeld, held
 use Rattle.early_receiver.specs.Early.{startEarly, earlyRefusal, lentAfter}
 use Rattle.early_condition_3.specs.Condition3.{keeper}
 use Rattle.early_condition_3.specs.Swapped.{Near, EitherOrder, SwappedNeighbours}
-use Rattle.early_condition_3.proofs.Cases.{cases}
+use Rattle.early_condition_3.proofs.RunLaws.{cases}
 use Rattle.early_condition_3.proofs.ModelLaws.{Has}
 use Rattle.early_condition_3.proofs.MadeLaws.{Made, Run, same-made, made-all, same-next, same-held}
 use Rattle.early_condition_3.proofs.Reading.{reading, is-held, of-held}
@@ -32,9 +33,6 @@ use Rattle.early_condition_3.proofs.ConditionLaws.{refused-all, fresh-i
 
 beat-kind : (k : DownstreamKind) → k ≡ heartbeat → k ≡ data-packet → ⊥
 beat-kind k e f = let z : _≡_ {A = ℕ} 0 1 = cc in omega arith
-
-end-kind : (k : DownstreamKind) → k ≡ end-of-session → k ≡ data-packet → ⊥
-end-kind k e f = let z : _≡_ {A = ℕ} 0 1 = cc in omega arith
 
 module _ (s : Session) (named : s .name ≡ blank → ⊥) where
   -- ---- two datagrams near n, on the receiver and its slots
@@ -47,7 +45,7 @@ module _ (s : Session) (named : s .name ≡ blank → ⊥) where
       by (is-other w h) = absurd (h (e .name))
       by (is-heartbeat x k) = absurd (beat-kind (kindOf d) k (e .is-data))
       by (is-data t) = t
-      by (is-end t) = absurd (end-kind (kindOf d) (t .kind) (e .is-data))
+      by (is-end t) = absurd (data-end-not (kindOf d) (e .is-data) (t .kind))
 
   near-end : (n : ℕ) (d : Datagram) → Near s n d → numberOf d + length (messagesOf d) ≤ n + 65
   near-end n d e = omega (arith, count-sound d (e .well-formed), kind-blocks d data-packet (e .is-data), e .to-reach)
