@@ -26,6 +26,25 @@ pub record Made (b : ℕ) (X : ℕ → Type 0) (h : Hold) : Type 0 where
 abbrev With : (ℕ → Type 0) → ℕ → ℕ → Type 0
 With X k j = X j ⊎ (j ≡ k)
 
+-- X with k numbers from f on
+abbrev pub Run : (ℕ → Type 0) → ℕ → ℕ → ℕ → Type 0
+Run X f k j = X j ⊎ ((f ≤ j) × (j < f + k))
+
+pub same-made : (b : ℕ) (X Y : ℕ → Type 0) (h : Hold) → ((j : ℕ) → X j → Y j) → ((j : ℕ) → Y j → X j) → Made b X h → Made b Y h
+same-made b X Y h f g m =
+    record {
+      from = m .from;
+      come = λ j x y. f j (m .come j x y);
+      gap = λ x. m .gap (g (h .next) x);
+      has = λ j x y. m .has j x (g j y);
+      only = λ j x y. f j (m .only j x y);
+    }
+
+-- two states made by the same numbers have the same next number and hold the same
+pub same-next : (b : ℕ) (X : ℕ → Type 0) (h g : Hold) → Made b X h → Made b X g → h .next ≤ g .next
+same-next b X h g m n =
+    below-or-not _ (g .next) (h .next) (λ a. absurd (n .gap (m .come (g .next) (n .from) a))) (λ a. a)
+
 module _ (s : Session) where
   made-one : (b : ℕ) (X : ℕ → Type 0) (h : Hold) (e : Numbered) → Inv s h → Made b X h → b ≤ e .number → e .number ≤ b + 64
       → length (e .message) ≤ 1024 → Made b (With X (e .number)) (holdStep h e)
@@ -68,20 +87,6 @@ module _ (s : Session) where
         only = λ j x y. inl (m .only j (omega arith) (moved-has s h (e .message) j y .1));
       })))
 
-  -- X with k numbers from f on
-  abbrev pub Run : (ℕ → Type 0) → ℕ → ℕ → ℕ → Type 0
-  Run X f k j = X j ⊎ ((f ≤ j) × (j < f + k))
-
-  pub same-made : (b : ℕ) (X Y : ℕ → Type 0) (h : Hold) → ((j : ℕ) → X j → Y j) → ((j : ℕ) → Y j → X j) → Made b X h → Made b Y h
-  same-made b X Y h f g m =
-      record {
-        from = m .from;
-        come = λ j x y. f j (m .come j x y);
-        gap = λ x. m .gap (g (h .next) x);
-        has = λ j x y. m .has j x (g j y);
-        only = λ j x y. f j (m .only j x y);
-      }
-
   pub made-all : (b : ℕ) (X : ℕ → Type 0) (h : Hold) (f : ℕ) (ms : List Message) → Inv s h → Made b X h → b ≤ f → f + length ms ≤ b + 65
       → ((i : ℕ) → i < length ms → IsMessage s (f + i) (getD ms i [])) → ((i : ℕ) → i < length ms → length (getD ms i []) ≤ 1024)
       → Made b (Run X f (length ms)) (after holding h (numbered f ms))
@@ -103,11 +108,6 @@ module _ (s : Session) where
       let w1 : j < f + suc (length ms) = w .1 in
       below-or-not _ f j (λ u. inr (omega arith, omega arith)) (λ u. inl (inr (omega arith)))))
       a
-
-  -- two states made by the same numbers have the same next number and hold the same
-  pub same-next : (b : ℕ) (X : ℕ → Type 0) (h g : Hold) → Made b X h → Made b X g → h .next ≤ g .next
-  same-next b X h g m n =
-      below-or-not _ (g .next) (h .next) (λ a. absurd (n .gap (m .come (g .next) (n .from) a))) (λ a. a)
 
   pub same-held : (b : ℕ) (X : ℕ → Type 0) (h g : Hold) → Made b X h → Made b X g → h .next ≡ g .next → Inv s h → (j : ℕ) → Has h j → Has g j
   same-held b X h g m n e i j x =

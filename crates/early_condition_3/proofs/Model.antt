@@ -1,5 +1,4 @@
--- A model of what the receiver holds: a function from the number to the message, one message at a time. It stands in no promise; the
--- receiver and its slots are read into it (`Abstraction`), and condition 3 is proved of it first.
+-- A model of what the receiver holds, a function from the number to the message, one message at a time; it stands in no promise.
 use Prim.Native.Nat.{ℕ, zero, suc, _+_}
 use mathlib.Core.List.{List, [], _∷_}
 use mathlib.Core.Bool.{Bool, true, false, not, _&&_}
@@ -66,6 +65,3 @@ holding = record { State = Hold; step = holdStep; gives = holdGives; number = λ
 unfoldable pub numbered : ℕ → List Message → List Numbered
 numbered f [] = []
 numbered f (m ∷ ms) = single f m ∷ numbered (f + 1) ms
-
-abbrev pub empty : ℕ → Hold
-empty n = record { next = n; held = λ j. none }

@@ -34,9 +34,12 @@ use Rattle.early_condition_3.proofs.ConditionLaws.{refused-all, fresh-i
 beat-kind : (k : DownstreamKind) → k ≡ heartbeat → k ≡ data-packet → ⊥
 beat-kind k e f = let z : _≡_ {A = ℕ} 0 1 = cc in omega arith
 
-module _ (s : Session) (named : s .name ≡ blank → ⊥) where
-  -- ---- two datagrams near n, on the receiver and its slots
+-- two runs of numbers that have come, in either order
+swap-runs : (X : ℕ → Type 0) (f c g k j : ℕ) → Run (Run X f c) g k j → Run (Run X g k) f c j
+swap-runs X f c g k j x = cases x (λ y. cases y (λ z. inl (inl z)) (λ z. inr z)) (λ y. inl (inr y))
 
+-- a near datagram is true data, and ends at most 64 above n
+module _ (s : Session) where
   near-data : (n : ℕ) (d : Datagram) → Near s n d → TrueData s d
   near-data n d e = by (sort s d (e .of-kind))
     where
@@ -50,17 +53,20 @@ module _ (s : Session) (named : s .name ≡ blank → ⊥) where
   near-end : (n : ℕ) (d : Datagram) → Near s n d → numberOf d + length (messagesOf d) ≤ n + 65
   near-end n d e = omega (arith, count-sound d (e .well-formed), kind-blocks d data-packet (e .is-data), e .to-reach)
 
+-- ---- two datagrams near n, on the receiver and its slots
+
+module _ (s : Session) (named : s .name ≡ blank → ⊥) where
   -- what a near datagram makes of a state made from n on
   made-by : (b : ℕ) (X : ℕ → Type 0) (r : Lent) (d : Datagram) → condition.Inv s named r → Near s b d → Made b X (reading r)
-      → r .receiver .base .ended ≡ false → Made b (Run s X (numberOf d) (length (messagesOf d))) (reading (lentAfter r d))
+      → r .receiver .base .ended ≡ false → Made b (Run X (numberOf d) (length (messagesOf d))) (reading (lentAfter r d))
   made-by b X r d i e m o =
-      let t = near-data b d e in
+      let t = near-data s b d e in
       rw (condition.open-data s named d r i t o, condition.read-is s named d t r (i .sound))
-      (made-all s b X (reading r) (numberOf d) (messagesOf d) (i .hold) m (e .from-next) (near-end b d e) (t .messages) (e .short))
+      (made-all s b X (reading r) (numberOf d) (messagesOf d) (i .hold) m (e .from-next) (near-end s b d e) (t .messages) (e .short))
 
   open-still : (b : ℕ) (r : Lent) (d : Datagram) → condition.Inv s named r → Near s b d → r .receiver .base .ended ≡ false → lentAfter r d .receiver .base .ended ≡ false
   open-still b r d i e o =
-      let t = near-data b d e in
+      let t = near-data s b d e in
       rw (condition.open-data s named d r i t o) (same-base r (numberOf d) (messagesOf d) .ended ∙ o)
 
   -- what has come at first: what is held
@@ -77,16 +83,13 @@ module _ (s : Session) (named : s .name ≡ blank → ⊥) where
         only = λ j x y. y;
       }
 
-  swap-runs : (X : ℕ → Type 0) (f c g k j : ℕ) → Run s (Run s X f c) g k j → Run s (Run s X g k) f c j
-  swap-runs X f c g k j x = cases x (λ y. cases y (λ z. inl (inl z)) (λ z. inr z)) (λ y. inl (inr y))
-
   module _ (r : Lent) (i : condition.Inv s named r) (o : r .receiver .base .ended ≡ false) (a b : Datagram)
       (p : Near s (nextOf (r .receiver)) a) (q : Near s (nextOf (r .receiver)) b) where
     next-inv : (x : Datagram) → OfKind s x → condition.Inv s named (lentAfter r x)
     next-inv x k = condition.keeps s named .kept r x i k
 
     made-both : (x y : Datagram) → Near s (nextOf (r .receiver)) x → Near s (nextOf (r .receiver)) y
-        → Made (nextOf (r .receiver)) (Run s (Run s (Held r) (numberOf x) (length (messagesOf x))) (numberOf y) (length (messagesOf y)))
+        → Made (nextOf (r .receiver)) (Run (Run (Held r) (numberOf x) (length (messagesOf x))) (numberOf y) (length (messagesOf y)))
         (reading (lentAfter (lentAfter r x) y))
     made-both x y u v =
         made-by (nextOf (r .receiver)) _ (lentAfter r x) y (next-inv x (u .of-kind)) v
@@ -96,10 +99,10 @@ module _ (s : Session) (named : s .name ≡ blank → ⊥) where
     last-inv : (x y : Datagram) → OfKind s x → OfKind s y → condition.Inv s named (lentAfter (lentAfter r x) y)
     last-inv x y k l = condition.keeps s named .kept (lentAfter r x) y (next-inv x k) l
 
-    ba-made : Made (nextOf (r .receiver)) (Run s (Run s (Held r) (numberOf a) (length (messagesOf a))) (numberOf b) (length (messagesOf b)))
+    ba-made : Made (nextOf (r .receiver)) (Run (Run (Held r) (numberOf a) (length (messagesOf a))) (numberOf b) (length (messagesOf b)))
         (reading (lentAfter (lentAfter r b) a))
     ba-made =
-        same-made s (nextOf (r .receiver)) _ _ _
+        same-made (nextOf (r .receiver)) _ _ _
         (λ j x. swap-runs (Held r) (numberOf b) (length (messagesOf b)) (numberOf a) (length (messagesOf a)) j x)
         (λ j x. swap-runs (Held r) (numberOf a) (length (messagesOf a)) (numberOf b) (length (messagesOf b)) j x)
         (made-both b a q p)
@@ -108,8 +111,8 @@ module _ (s : Session) (named : s .name ≡ blank → ⊥) where
     same-number =
         omega (
           arith,
-          same-next s (nextOf (r .receiver)) _ _ _ (made-both a b p q) ba-made,
-          same-next s (nextOf (r .receiver)) _ _ _ ba-made (made-both a b p q),
+          same-next (nextOf (r .receiver)) _ _ _ (made-both a b p q) ba-made,
+          same-next (nextOf (r .receiver)) _ _ _ ba-made (made-both a b p q),
         )
 
     holds-too : (j : ℕ) → isHeld (lentAfter (lentAfter r a) b .receiver) j ≡ true → isHeld (lentAfter (lentAfter r b) a .receiver) j ≡ true
