@@ -109,7 +109,7 @@ module _ (a b : ℕ) (t : Bool) (e : t ≡ ltb a b) where
 pub place-is : (n j p b : ℕ) → Fits w64 j → n < j → b ≡ min 18446744073709551615 (n + 1) → p ≡ min 65535 (j - b) → p ≡ min 65535 (j - n - 1)
 place-is n j p b f g e h = omega arith
 
-held-bit : (r : EarlyReceiver) (j : ℕ) → nextOf r < j → isHeld r j ≡ bit (r .held .0) (j - nextOf r - 1)
+pub held-bit : (r : EarlyReceiver) (j : ℕ) → nextOf r < j → isHeld r j ≡ bit (r .held .0) (j - nextOf r - 1)
 unfolding isHeld
 held-bit r j h = rw (lt-ltb _ _ h) refl
 

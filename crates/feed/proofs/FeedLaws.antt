@@ -152,7 +152,7 @@ module _ (m : Machine Datagram) (s : Session) (Inv : m .State → Type 0) (Behin
 module _ (m : Machine Datagram) (s : Session) (start : ℕ) (r q : m .State) (refused : List Datagram) (d : Datagram)
     (stays : after m r refused ≡ r) (nothing : delivered m r refused ≡ []) (step : m .step r d ≡ m .step q d)
     (gives : m .gives r d ≡ m .gives q d) where
-  led-after : (ds : List Datagram) → after m r (refused ++ d ∷ ds) ≡ after m q (d ∷ ds)
+  pub led-after : (ds : List Datagram) → after m r (refused ++ d ∷ ds) ≡ after m q (d ∷ ds)
   unfolding after
   led-after ds = after-append m r refused (d ∷ ds) ∙ rw (stays, step) refl
 

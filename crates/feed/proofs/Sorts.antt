@@ -36,7 +36,7 @@ module _ (s : Session) (f : ℕ) (l : List Message) (h : (i : ℕ) → i < lengt
   run-end : f + c ≤ lastOf s + 1
   run-end = omega (arith, h (c - 1) (omega arith) .to-last)
 
-  run-true : l ≡ messagesFrom s f (f + c)
+  pub run-true : l ≡ messagesFrom s f (f + c)
   unfolding messagesFrom
   run-true =
       ext-getD [] l (messagesFrom s f (f + c)) (omega (arith, length-from s f (f + c) run-begin (omega arith) run-end))

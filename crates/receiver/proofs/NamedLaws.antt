@@ -47,13 +47,13 @@ other-stays r d w o = let k = ladder-other r d w o in refusal-stays r d (λ e. o
 ended-stays : (r : Receiver) (d : Datagram) → refusalOf d ≡ 0 → otherSession r d ≡ false → r .ended ≡ true → Stays r d
 ended-stays r d w o e = let k = ladder-ended r d w o e in refusal-stays r d (λ z. omega arith)
 
-not-below : (k : DownstreamKind) (f n : ℕ) → n ≤ f → endBelow k f n ≡ false
+pub not-below : (k : DownstreamKind) (f n : ℕ) → n ≤ f → endBelow k f n ≡ false
 unfolding endBelow
 not-below data-packet f n h = refl
 not-below heartbeat f n h = refl
 not-below end-of-session f n h = le-ltb _ _ h
 
-no-end : (k : DownstreamKind) (f n : ℕ) → (k ≡ end-of-session → ⊥) → endBelow k f n ≡ false
+pub no-end : (k : DownstreamKind) (f n : ℕ) → (k ≡ end-of-session → ⊥) → endBelow k f n ≡ false
 unfolding endBelow
 no-end data-packet f n z = refl
 no-end heartbeat f n z = refl
@@ -81,10 +81,10 @@ ahead-stays r d w n o h =
 kind-row : (r : Receiver) (d : Datagram) (k : DownstreamKind) (o : Outcome) → kindOf d ≡ k → table (r .limit .0) (r .next .0) k (numberOf d) (countOf d) ≡ o → tableRow r d ≡ o
 kind-row r d k o e f = ap (λ (x : DownstreamKind). table (r .limit .0) (r .next .0) x (numberOf d) (countOf d)) e ∙ f
 
-heartbeat-end : (k : DownstreamKind) → k ≡ heartbeat → k ≡ end-of-session → ⊥
+pub heartbeat-end : (k : DownstreamKind) → k ≡ heartbeat → k ≡ end-of-session → ⊥
 heartbeat-end k e f = let z : _≡_ {A = ℕ} 0 1 = cc in omega arith
 
-data-end-not : (k : DownstreamKind) → k ≡ data-packet → k ≡ end-of-session → ⊥
+pub data-end-not : (k : DownstreamKind) → k ≡ data-packet → k ≡ end-of-session → ⊥
 data-end-not k e f = let z : _≡_ {A = ℕ} 0 1 = cc in omega arith
 
 heartbeat-stays : (r : Receiver) (d : Datagram) → refusalOf d ≡ 0 → Own r d → r .ended ≡ false → kindOf d ≡ heartbeat → Stays r d

@@ -1,0 +1,13 @@
+pub mod Model
+pub mod RunLaws
+pub mod ModelLaws
+pub mod SlotLaws
+pub mod Reading
+pub mod KeepLaws
+pub mod DatagramLaws
+pub mod StepLaws
+pub mod PlaceLaws
+pub mod NamedLaws
+pub mod ConditionLaws
+pub mod MadeLaws
+pub mod SwappedLaws
