@@ -5,6 +5,7 @@ use early_holding::holding::LENGTH_BYTES;
 use early_holding::holding::SLOT_BYTES;
 use early_holding::holding::SLOT_SIZE;
 use moldudp64::header;
+use moldudp64_messages::cursor::Located;
 use moldudp64_messages::message;
 use receiver::receiver as plain;
 use wire::kinds::ByteOffset;
@@ -17,7 +18,8 @@ ghost use mathlib.Core.Path.{_≡_};
 ghost use Prim.Native.Nat.{min};
 ghost use Rattle.wire.specs.Bounds.{largestCount};
 ghost use Rattle.early_holding.specs.Holding.{lent};
-ghost use Rattle.early_messages.specs.Delivery.{deliveredCount, partAt, messageAt, PlacesAreDelivered};
+ghost use Rattle.early_messages.specs.Delivery.{inDatagram, noPart, deliveredCount, partAt};
+ghost use Rattle.early_messages.specs.Delivery.{messageAt, PlacesAreDelivered};
 
 // Whether the message is there, whether it lies in the slots, and its offset and length there or in the datagram.
 pub struct Part {
@@ -25,6 +27,30 @@ pub struct Part {
     pub held: bool,
     pub offset: ByteOffset,
     pub length: usize,
+}
+
+pub(crate) fn no_part() -> Part
+    ensures { λ r. ⌜ r ≡ noPart ⌝ }
+{
+    Part {
+        exists: false,
+        held: false,
+        offset: ByteOffset(0),
+        length: 0,
+    }
+}
+
+// A message of the datagram.
+pub(crate) fn in_datagram(found: Located) -> Part
+    ensures { λ r. ⌜ r ≡ inDatagram found ⌝ }
+{
+    let offset = found.offset;
+    Part {
+        exists: true,
+        held: false,
+        offset,
+        length: found.length,
+    }
 }
 
 // How many messages a datagram will deliver; none where it is refused, for slots of another size too.
