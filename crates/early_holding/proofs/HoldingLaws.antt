@@ -12,7 +12,7 @@ use mir.Syntax.{w16, w64}
 use borrow.Author.Tests.{lt-ltb, le-ltb, le-leb, lt-leb, ltb-true, ltb-false, leb-false, not-true, not-false, eq-eqb, eqb-true, eqb-false}
 use Rattle.wire.specs.Choice.{if_then_else_}
 use Rattle.wire.specs.Bytes.{bytes}
-use Rattle.wire.specs.Output.{put, Writes}
+use Rattle.wire.specs.Output.{Writes}
 use Rattle.wire.specs.declared.output.Written.{Written}
 use Rattle.wire.specs.declared.kinds.SequenceNumber.{SequenceNumber}
 use Rattle.wire.proofs.Cases.{below-or-not}
@@ -22,7 +22,7 @@ use Rattle.early_word.specs.Word.{bit, run, onesOf, past, marked}
 use Rattle.early_word.proofs.WordLaws.{bit-none, ones-le}
 use Rattle.early_holding.specs.declared.holding.EarlyReceiver.{EarlyReceiver}
 use Rattle.early_holding.specs.declared.holding.Moved.{Moved}
-use Rattle.early_holding.specs.Holding.{Lent, lent, early, nextOf, isHeld, behind, keeps, keep, keepOne, moved, moveBy, moveTo}
+use Rattle.early_holding.specs.Holding.{lent, nextOf, isHeld, behind, keeps, keep, keepOne, moved, moveBy, moveTo}
 
 pub either : (b : Bool) (P : Type 0) → (b ≡ true → P) → (b ≡ false → P) → P
 either true P f g = f refl

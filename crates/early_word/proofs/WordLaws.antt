@@ -1,16 +1,16 @@
 -- Laws of the word: what its bits are after each operation, and that its counts are the machine's.
-use mathlib.Core.Path.{_≡_, refl, sym, ap, ap₂, _∙_}
+use mathlib.Core.Path.{_≡_, refl, sym, ap, _∙_}
 use mathlib.Core.Bool.{Bool, true, false}
 use Prim.Native.Nat.{ℕ, zero, suc, _+_, _-_, _*_, _/_, _%_, _^_, _≤_, _<_, max}
 use native.Mathlib.Omega.{arith}
 use lib.Dec.{ltb, eqb}
-use lib.Count.{trailingZeros, under}
+use lib.Count.{trailingZeros}
 use native.Mathlib.Nat.{lt-of-lt-of-le, lt-of-le-of-lt, div-eq-of-lt, mod-eq-of-lt}
 use mir.Val.{Fits}
 use mir.Syntax.{w16, w64}
-use lib.Pow.{shr-shr, shr-le, pow-add, pow-mono, pow-lt, pow-pos}
+use lib.Pow.{shr-shr, shr-le, pow-mono, pow-lt, pow-pos}
 use lib.Bits.{bitOr, or-shr, or-step, or-lt}
-use borrow.Author.Tests.{lt-ltb, le-ltb, ltb-true, ltb-false, eq-eqb, ne-eqb, eqb-true, eqb-false}
+use borrow.Author.Tests.{lt-ltb, le-ltb, ltb-true, eqb-true, eqb-false}
 use Rattle.wire.specs.Choice.{if_then_else_}
 use Rattle.early_word.specs.Word.{bit, onesOf, zerosOf, past, marked}
 

@@ -1,6 +1,6 @@
 -- The word of 64 bits that marks held numbers: its lowest bit is bit 0.
-use Prim.Native.Nat.{ℕ, zero, suc, _+_, _/_, _%_, _^_}
-use mathlib.Core.Bool.{Bool, true, false}
+use Prim.Native.Nat.{ℕ, zero, suc, _/_, _%_, _^_}
+use mathlib.Core.Bool.{Bool}
 use lib.Dec.{eqb, ltb}
 use lib.Bits.{bitOr}
 use Rattle.wire.specs.Choice.{if_then_else_}
