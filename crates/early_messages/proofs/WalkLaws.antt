@@ -4,7 +4,6 @@ use mathlib.Core.List.{List}
 use mathlib.Core.Bool.{Bool, true, false}
 use Prim.Native.Nat.{ℕ, zero, suc, _+_, _-_, _≤_, _<_, min}
 use native.Mathlib.Omega.{arith}
-use native.Mathlib.Nat.{zero-add, suc-add}
 use lib.ListN.{length, take, drop}
 use lib.Dec.{eqb}
 use borrow.Author.Tests.{lt-ltb, le-ltb, eq-eqb, ne-eqb, eqb-true}
@@ -18,6 +17,7 @@ use Rattle.moldudp64_messages.specs.declared.cursor.Located.{Located}
 use Rattle.moldudp64_messages.specs.declared.cursor.Cursor.{Cursor}
 use Rattle.moldudp64_messages.specs.Cursor.{located, locateOf, advanced, advancedBy, startOf, WalksTheMessages}
 use Rattle.moldudp64_messages.proofs.CursorLaws.{walks-the-messages}
+use Rattle.receiver.proofs.DeliveryLaws.{moves-add}
 use Rattle.early_holding.specs.declared.holding.EarlyReceiver.{EarlyReceiver}
 use Rattle.early_holding.specs.Holding.{slotAt, Lent, lent, nextOf, isHeld, lengthOf, heldMessage}
 use Rattle.early_holding.proofs.HoldingLaws.{either}
@@ -91,11 +91,6 @@ walk-on (suc k) l n left c h t =
     let z : n + suc k ≡ n + 1 + k = omega arith in
     let y : left - suc k ≡ left - 1 - k = omega arith in
     rw (one-on l n left c (omega arith) (omega arith), z, y) (walk-on k l (n + 1) (left - 1) (advanced l c) (omega arith) (omega arith))
-
-moves-add : (k i : ℕ) (l : List ℕ) (c : Cursor) → advancedBy i l (advancedBy k l c) ≡ advancedBy (k + i) l c
-unfolding advancedBy
-moves-add zero i l c = rw zero-add
-moves-add (suc k) i l c = rw suc-add (moves-add k i l (advanced l c))
 
 -- ---- what it stands at
 

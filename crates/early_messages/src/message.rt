@@ -102,10 +102,7 @@ pub(crate) fn slot_part(lengths: &[u8], slots: &[u8], number: SequenceNumber) ->
     let at = ByteOffset(slot * SLOT_SIZE);
     let noted = number::be16(lengths, ByteOffset(slot * COUNT_SIZE)) as usize;
     let left = left_from(slots, at);
-    let mut length = noted;
-    if left < noted {
-        length = left;
-    }
+    let length = if left < noted { left } else { noted };
     Part {
         exists: true,
         held: true,
