@@ -15,10 +15,11 @@ use wire::kinds::MessagePlace;
 use wire::kinds::SequenceNumber;
 use wire::number;
 ghost use mathlib.Core.Path.{_≡_};
-ghost use Prim.Native.Nat.{min};
+ghost use Prim.Native.Nat.{_-_, min};
+ghost use lib.ListN.{length, take, drop};
 ghost use Rattle.wire.specs.Bounds.{largestCount};
-ghost use Rattle.early_holding.specs.Holding.{lent};
-ghost use Rattle.early_messages.specs.Delivery.{inDatagram, noPart, deliveredCount, partAt};
+ghost use Rattle.early_holding.specs.Holding.{slotAt, lengthOf, lent};
+ghost use Rattle.early_messages.specs.Delivery.{inSlots, inDatagram, noPart, deliveredCount, partAt};
 ghost use Rattle.early_messages.specs.Delivery.{messageAt, PlacesAreDelivered};
 
 // Whether the message is there, whether it lies in the slots, and its offset and length there or in the datagram.
@@ -54,12 +55,7 @@ pub(crate) fn in_datagram(found: Located) -> Part
 }
 
 // How many messages a datagram will deliver; none where it is refused, for slots of another size too.
-pub fn count(
-    receiver: EarlyReceiver,
-    lengths: &[u8],
-    slots: &[u8],
-    datagram: &[u8],
-) -> MessageCount
+pub fn count(receiver: EarlyReceiver, lengths: &[u8], slots: &[u8], datagram: &[u8]) -> MessageCount
     ensures { λ r. ⌜ r .0 ≡ min largestCount
         (deliveredCount (lent receiver (now (lengths .entry)) (now (slots .entry))) (now (datagram .entry))) ⌝ }
 {
@@ -71,7 +67,9 @@ pub fn count(
     }
     let base = receiver.base;
     let held = receiver.held;
-    match base.take(datagram).answer {
+    let taken = base.take(datagram);
+    let answer = taken.answer;
+    match answer {
         plain::Answer::Deliver {
             first,
             count,
@@ -85,17 +83,30 @@ pub fn count(
     }
 }
 
+// How many bytes a slice has from a place on.
+fn left_from(s: &[u8], at: ByteOffset) -> usize
+    ensures { λ r. ⌜ r ≡ length (now (s .entry)) - at .0 ⌝ }
+{
+    if s.len() < at.0 {
+        return 0;
+    }
+    s.len() - at.0
+}
+
 // Where the message of a number lies in the slots; a length that was made up ends with them.
-pub(crate) fn slot_part(lengths: &[u8], slots: &[u8], number: SequenceNumber) -> Part {
+pub(crate) fn slot_part(lengths: &[u8], slots: &[u8], number: SequenceNumber) -> Part
+    ensures { λ r. ⌜ r ≡ inSlots (slotAt (number .0))
+        (length (take (lengthOf (now (lengths .entry)) (number .0)) (drop (slotAt (number .0)) (now (slots .entry))))) ⌝ }
+{
     let slot = holding::slot_of(number);
-    let at = slot * SLOT_SIZE;
+    let at = ByteOffset(slot * SLOT_SIZE);
     let noted = number::be16(lengths, ByteOffset(slot * COUNT_SIZE)) as usize;
-    let left = if at < slots.len() { slots.len() - at } else { 0 };
+    let left = left_from(slots, at);
     let length = if left < noted { left } else { noted };
     Part {
         exists: true,
         held: true,
-        offset: ByteOffset(at),
+        offset: at,
         length,
     }
 }

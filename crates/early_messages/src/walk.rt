@@ -19,12 +19,7 @@ pub struct Walk {
 }
 
 // A walk over what a datagram will deliver.
-pub fn start(
-    receiver: EarlyReceiver,
-    lengths: &[u8],
-    slots: &[u8],
-    datagram: &[u8],
-) -> Walk
+pub fn start(receiver: EarlyReceiver, lengths: &[u8], slots: &[u8], datagram: &[u8]) -> Walk
     ensures { λ r. ⌜ r ≡ startWalk (lent receiver (now (lengths .entry)) (now (slots .entry)))
         (now (datagram .entry)) ⌝ }
     ensures walks { λ _. ⌜ WalksTheDelivery ⌝ }

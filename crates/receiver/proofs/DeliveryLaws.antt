@@ -70,7 +70,7 @@ delivering r l first count skipped e = zero-or-not _ (refusalFor r l) good bad
 
 -- ---- the cursor
 
-moves-add : (k i : ℕ) (l : List ℕ) (c : Cursor) → advancedBy i l (advancedBy k l c) ≡ advancedBy (k + i) l c
+pub moves-add : (k i : ℕ) (l : List ℕ) (c : Cursor) → advancedBy i l (advancedBy k l c) ≡ advancedBy (k + i) l c
 unfolding advancedBy
 moves-add zero i l c = rw zero-add
 moves-add (suc k) i l c = rw suc-add (moves-add k i l (advanced l c))
