@@ -105,7 +105,7 @@ stands-at s l k left c z h e = rw (ne-eqb _ _ z, lt-ltb _ _ h, e) refl
 
 pub walks-the-delivery : WalksTheDelivery
 unfolding WalksTheDelivery startWalk WalksTheMessages
-walks-the-delivery s l k word =
+walks-the-delivery s l k =
     let n = nextOf (s .receiver) in
     let m = min 65535 (n - numberOf l) in
     let d = min 65535 (deliveredCount s l) in

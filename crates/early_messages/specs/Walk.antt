@@ -1,6 +1,6 @@
 -- All that a datagram l delivers, in one walk: the number to come, how many are left, and a cursor over the datagram's
 -- own messages. The three may be made up, or used with another datagram.
-use Prim.Native.Nat.{ℕ, zero, suc, _+_, _-_, _^_, _<_, min}
+use Prim.Native.Nat.{ℕ, zero, suc, _+_, _-_, min}
 use mathlib.Core.List.{List}
 use mathlib.Core.Path.{_≡_}
 use lib.ListN.{length}
@@ -10,7 +10,6 @@ use Rattle.wire.specs.Bounds.{largestNumber, largestCount}
 use Rattle.moldudp64.specs.Header.{numberOf}
 use Rattle.moldudp64_messages.specs.declared.cursor.Cursor.{Cursor}
 use Rattle.moldudp64_messages.specs.Cursor.{located, advanced, advancedBy, startOf}
-use Rattle.early_word.specs.Word.{wordBits}
 use Rattle.early_holding.specs.Holding.{slotAt, Lent, nextOf, isHeld, heldMessage}
 use Rattle.early_messages.specs.declared.message.Part.{Part}
 use Rattle.early_messages.specs.declared.walk.Walk.{Walk}
@@ -45,5 +44,4 @@ walkBy (suc k) l w = walkBy k l (walkOn l w)
 
 -- k moves from the start stand at the message of place k, for every receiver, made up or not
 unfoldable pub WalksTheDelivery : Type 0
-WalksTheDelivery = (s : Lent) (l : List ℕ) (k : ℕ) → s .receiver .held .0 < 2 ^ wordBits
-    → walkPart s l (walkBy k l (startWalk s l)) ≡ partAt s l k
+WalksTheDelivery = (s : Lent) (l : List ℕ) (k : ℕ) → walkPart s l (walkBy k l (startWalk s l)) ≡ partAt s l k
