@@ -19,7 +19,7 @@ use wire::refusal::Refusal;
 ghost use mathlib.Core.Path.{_≡_};
 ghost use mathlib.Core.Bool.{true, false, _&&_};
 ghost use mathlib.Core.List.{[], _∷_};
-ghost use Prim.Native.Nat.{_+_, _<_, min};
+ghost use Prim.Native.Nat.{_+_, _-_, _<_, min};
 ghost use lib.Dec.{eqb};
 ghost use Rattle.moldudp64.specs.Downstream.{downstreamWords};
 ghost use Rattle.receiver.specs.Table.{numbered, answerWords};
@@ -29,7 +29,7 @@ ghost use Rattle.early_holding.specs.Holding as holding;
 ghost use Rattle.early_receiver.specs.declared.early.Answer.the-variants.{Ahead, Ended};
 ghost use Rattle.early_receiver.specs.Answers.{requestWords};
 ghost use Rattle.early_receiver.specs.Early.{withSlots, wanted, StartsEarly, TakesEarly};
-ghost use Rattle.early_receiver.specs.Read.{messagesRead, TakesEarlyRead, EarlyReadAsWhole};
+ghost use Rattle.early_receiver.specs.Read.{messagesFromCursor, messagesRead, TakesEarlyRead, EarlyReadAsWhole};
 ghost use Rattle.early_receiver.specs.Statements.{EarlyPromises};
 ghost use Rattle.early_receiver.specs.Steps.{Stays, Delivers, TakesAhead, Accepts};
 
@@ -389,9 +389,28 @@ fn keep_all(
         return receiver;
     }
     let end = first.plus(count);
+    let cursor = Cursor::first(first.gap(end));
+    keep_from(receiver, lengths, slots, datagram, cursor, first, end)
+}
+
+// The messages from a cursor on, the first with this number, the last just below end.
+fn keep_from(
+    receiver: EarlyReceiver,
+    lengths: &mut [u8],
+    slots: &mut [u8],
+    datagram: &[u8],
+    start: Cursor,
+    first: SequenceNumber,
+    end: SequenceNumber,
+) -> EarlyReceiver
+    requires { ⌜ receiver .base .next .0 < first .0 ⌝ }
+    ensures { λ r. ⌜ lent r (now (lengths .exit)) (now (slots .exit))
+        ≡ takeAll (lent receiver (now (lengths .entry)) (now (slots .entry))) (first .0)
+        (messagesFromCursor (now (datagram .entry)) start (end .0 - first .0)) ⌝ }
+{
     let mut kept = receiver;
     let mut number = first;
-    let mut cursor = Cursor::first(first.gap(end));
+    let mut cursor = start;
     while number.is_below(end) {
         let message = cursor.message(datagram);
         let one = kept.keep(lengths, slots, number, message);
