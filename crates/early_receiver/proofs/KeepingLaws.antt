@@ -157,23 +157,23 @@ module _ (whole : Lent) (l : List ℕ) (end ka sa : ℕ) (r : EarlyReceiver) (ks
   pub keeping-slots : length ss ≡ sa
   keeping-slots = i .slots-size
 
-pub keeping-end : (whole : Lent) (l : List ℕ) (end ka sa : ℕ) (r : EarlyReceiver) (ks ss : List ℕ) (c : Cursor) (j : ℕ)
-    → Keeping whole l end ka sa r ks ss c j → end ≤ j → lent r ks ss ≡ whole
+pub keeping-end : (s : Lent) (l : List ℕ) (end ka sa f g : ℕ) (b : Cursor) (r : EarlyReceiver) (ks ss : List ℕ) (c : Cursor) (j : ℕ)
+    → Keeping (takeAll s f (messagesFromCursor l b (end - f))) l end ka sa r ks ss c j → end ≤ j → b ≡ firstOf g → g ≡ min 65535 (end - f)
+    → lent r ks ss ≡ takeAll s f (messagesFromCursor l (firstOf (min 65535 (end - f))) (end - f))
 unfolding takeAll messagesFromCursor
-keeping-end whole l end ka sa r ks ss c j i h = let z : end - j ≡ 0 = omega arith in rw z at (i .same)
+keeping-end s l end ka sa f g b r ks ss c j i h o d = let z : end - j ≡ 0 = omega arith in rw z at (i .same) ∙ rw (o, d)
 
 -- ---- as `keep_all` has them: as many messages as can be numbered
 
 counted : (f n end : ℕ) → Fits w64 f → end ≡ min 18446744073709551615 (f + n) → end - f ≡ numbered f n
 counted f n end p e = omega arith
 
-few : (n k g : ℕ) → Fits w16 n → k ≤ n → g ≡ min 65535 k → g ≡ k
-few n k g q e o = omega arith
+few : (n k : ℕ) → Fits w16 n → k ≤ n → min 65535 k ≡ k
+few n k q e = omega arith
 
-pub keep-numbered : (s t : Lent) (l : List ℕ) (end f n g : ℕ) (b : Cursor) → Fits w64 f → Fits w16 n → end ≡ min 18446744073709551615 (f + n)
-    → g ≡ min 65535 (end - f) → b ≡ firstOf g → t ≡ takeAll s f (messagesFromCursor l b (end - f)) → t ≡ takeAll s f (messagesRead l (numbered f n))
-keep-numbered s t l end f n g b p q e d o h =
+pub keep-numbered : (s t : Lent) (l : List ℕ) (end f n : ℕ) → t ≡ takeAll s f (messagesFromCursor l (firstOf (min 65535 (end - f))) (end - f))
+    → end ≡ min 18446744073709551615 (f + n) → Fits w64 f → Fits w16 n → t ≡ takeAll s f (messagesRead l (numbered f n))
+keep-numbered s t l end f n h e p q =
     let u : end - f ≡ numbered f n = counted f n end p e in
-    let a : end - f ≤ n = omega arith in
-    let v : g ≡ numbered f n = few n (end - f) g q a d ∙ u in
-    h ∙ rw (o, v, u)
+    let v : min 65535 (end - f) ≡ end - f = few n (end - f) q (omega arith) in
+    h ∙ rw (v, u)

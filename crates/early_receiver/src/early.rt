@@ -21,17 +21,18 @@ ghost use mathlib.Core.Bool.{true, false, _&&_};
 ghost use mathlib.Core.List.{[], _∷_};
 ghost use Prim.Native.Nat.{_+_, _-_, _<_, min};
 ghost use lib.Dec.{eqb};
+ghost use Rattle.wire.specs.Bounds.{largestCount};
 ghost use Rattle.moldudp64.specs.Downstream.{downstreamWords};
 ghost use Rattle.receiver.specs.Table.{numbered, answerWords};
 ghost use Rattle.receiver.specs.Receiver.{namedBy, numberRead, refusalRead, rowRead, afterRow};
+ghost use Rattle.moldudp64_messages.specs.Cursor.{firstOf};
 ghost use Rattle.early_holding.specs.Holding.{slotBytes, lengthBytes, lent, early, takeAll};
-ghost use Rattle.early_holding.specs.Holding as holding;
 ghost use Rattle.early_receiver.specs.declared.early.Answer.the-variants.{Ahead, Ended};
 ghost use Rattle.early_receiver.specs.Answers.{requestWords};
 ghost use Rattle.early_receiver.specs.Early.{withSlots, wanted, StartsEarly, TakesEarly};
 ghost use Rattle.early_receiver.specs.Read.{messagesFromCursor, messagesRead, TakesEarlyRead, EarlyReadAsWhole};
 ghost use Rattle.early_receiver.specs.Statements.{EarlyPromises};
-ghost use Rattle.early_receiver.specs.Steps.{Stays, Delivers, TakesAhead, Accepts};
+ghost use Rattle.early_receiver.specs.Steps.{Stays, movedPast, Delivers, TakesAhead, Accepts};
 
 // What the receiver answers to a datagram, by the table.
 pub enum Answer {
@@ -237,27 +238,31 @@ fn deliver(
             receiver,
         };
     }
-    let moved = holding::move_to(first, held, first.plus(count));
-    let after = moved.next;
-    let receiver = at(receiver, after, moved.held);
+    let moved = moved_past(receiver, first, count);
+    let base = moved.base;
+    let after = base.next;
     Taken {
         answer: Answer::Deliver {
             first,
             count: first.gap(after),
             skipped,
         },
-        request: for_held(receiver),
-        receiver,
+        request: for_held(moved),
+        receiver: moved,
     }
 }
 
-// The receiver at another number, with other numbers held.
-fn at(receiver: EarlyReceiver, next: SequenceNumber, held: Held) -> EarlyReceiver
-    ensures { λ r. ⌜ r ≡ early (holding.at (receiver .base) (next .0)) (held .0) ⌝ }
+// The receiver moved past so many messages from a number on, and past the held ones that follow.
+fn moved_past(receiver: EarlyReceiver, first: SequenceNumber, count: MessageCount) -> EarlyReceiver
+    requires { ⌜ receiver .base .next .0 ≡ first .0 + count .0 ⌝ }
+    ensures { λ r. ⌜ r ≡ movedPast receiver (first .0) (count .0) ⌝ }
 {
+    let moved = holding::move_to(first, receiver.held, first.plus(count));
     let base = receiver.base;
     let session = base.session;
+    let next = moved.next;
     let limit = base.limit;
+    let held = moved.held;
     EarlyReceiver {
         base: Receiver {
             session,
@@ -388,29 +393,26 @@ fn keep_all(
     if SLOTS.is_below(next.gap(first)) {
         return receiver;
     }
-    let end = first.plus(count);
-    let cursor = Cursor::first(first.gap(end));
-    keep_from(receiver, lengths, slots, datagram, cursor, first, end)
+    keep_to(receiver, lengths, slots, datagram, first, first.plus(count))
 }
 
-// The messages from a cursor on, the first with this number, the last just below end.
-fn keep_from(
+// A datagram's messages, the first with this number, and the last just below end.
+fn keep_to(
     receiver: EarlyReceiver,
     lengths: &mut [u8],
     slots: &mut [u8],
     datagram: &[u8],
-    start: Cursor,
     first: SequenceNumber,
     end: SequenceNumber,
 ) -> EarlyReceiver
     requires { ⌜ receiver .base .next .0 < first .0 ⌝ }
     ensures { λ r. ⌜ lent r (now (lengths .exit)) (now (slots .exit))
         ≡ takeAll (lent receiver (now (lengths .entry)) (now (slots .entry))) (first .0)
-        (messagesFromCursor (now (datagram .entry)) start (end .0 - first .0)) ⌝ }
+        (messagesFromCursor (now (datagram .entry)) (firstOf (min largestCount (end .0 - first .0))) (end .0 - first .0)) ⌝ }
 {
     let mut kept = receiver;
     let mut number = first;
-    let mut cursor = start;
+    let mut cursor = Cursor::first(first.gap(end));
     while number.is_below(end) {
         let message = cursor.message(datagram);
         let one = kept.keep(lengths, slots, number, message);

@@ -5,8 +5,8 @@ use Rattle.early_holding.specs.Holding.{lent, takeAll}
 use Rattle.early_receiver.specs.Read.{messagesFromCursor}
 use Rattle.early_receiver.proofs.KeepingLaws.{Keeping}
 use Rattle.early_receiver.proofs.Rules.{keeping}
-use Rattle.early_receiver.proofs.early.keep_from.Statement.{statement}
-use Rattle.early_receiver.proofs.early.keep_from.Tie as tie
+use Rattle.early_receiver.proofs.early.keep_to.Statement.{statement}
+use Rattle.early_receiver.proofs.early.keep_to.Tie as tie
 
 abbrev Inv-loop : tie.InvT-loop
 Inv-loop lengths₀ slots₀ datagram end kept₀ number₀ cursor₀ lengths slots kept number cursor =
@@ -16,12 +16,14 @@ Inv-loop lengths₀ slots₀ datagram end kept₀ number₀ cursor₀ lengths sl
 abbrev μ-loop : tie.MeasureT-loop
 μ-loop lengths₀ slots₀ datagram end kept₀ number₀ cursor₀ lengths slots kept number cursor = end .0 - number .0
 
-pub keep-from-spec : {M : Type 1} → statement M
-keep-from-spec =
+pub keep-to-spec : {M : Type 1} → statement M
+keep-to-spec =
     tie.close
     (tie.spec
     Inv-loop
     μ-loop
+    (λ c κs. search keeping)  -- gap-requires
+    (λ c κs. search keeping)  -- first-requires
     (λ c. search keeping)  -- loop-holds
     (λ c κs. search keeping)  -- is-below-requires
     (λ c κs. search keeping)  -- message-requires
