@@ -5,10 +5,11 @@ use mathlib.Core.Bool.{Bool, true, false}
 use Prim.Native.Nat.{ℕ, zero, suc, _+_, _-_, _≤_, _<_, min}
 use native.Mathlib.Omega.{arith}
 use lib.ListN.{length}
-use lib.Dec.{eqb}
+use lib.Dec.{ltb, eqb}
 use mir.Val.{Fits}
 use mir.Syntax.{w16, w64}
-use borrow.Author.Tests.{lt-ltb, le-leb, lt-leb, ne-eqb, eqb-false}
+use borrow.Author.Tests.{lt-ltb, le-ltb, lt-leb, ne-eqb, eqb-false}
+use Rattle.wire.proofs.Cases.{below-or-not}
 use Rattle.wire.proofs.Outputs.{length-put}
 use Rattle.moldudp64_messages.specs.declared.cursor.Cursor.{Cursor}
 use Rattle.moldudp64_messages.specs.Cursor.{part, located, advanced, firstOf}
@@ -107,9 +108,13 @@ unfolding messagesFromCursor
 length-from zero l c = refl
 length-from (suc k) l c = ap suc (length-from k l (advanced l c))
 
-pub keep-far : (r : EarlyReceiver) (ks ss : List ℕ) (f g : ℕ) (ms : List (List ℕ)) → nextOf r < f → g ≡ min 65535 (f - nextOf r) → 64 < g
-    → lent r ks ss ≡ takeAll (lent r ks ss) f ms
-keep-far r ks ss f g ms h d e = sym (all-far ms (lent r ks ss) f (omega arith))
+pub far-is : (n f g : ℕ) (t : Bool) → g ≡ min 65535 (f - n) → t ≡ ltb 64 g → t ≡ ltb 64 (f - n)
+far-is n f g t d e =
+    below-or-not _ 64 (f - n) (λ h. let i : 64 < g = omega arith in e ∙ lt-ltb _ _ i ∙ sym (lt-ltb _ _ h))
+    (λ h. let i : g ≤ 64 = omega arith in e ∙ le-ltb _ _ i ∙ sym (le-ltb _ _ h))
+
+pub keep-far : (r : EarlyReceiver) (ks ss : List ℕ) (f : ℕ) (ms : List (List ℕ)) → 64 < f - nextOf r → lent r ks ss ≡ takeAll (lent r ks ss) f ms
+keep-far r ks ss f ms h = sym (all-far ms (lent r ks ss) f (omega arith))
 
 -- what is left to take is the same at every turn; the lent bytes keep their size
 pub record Keeping (whole : Lent) (l : List ℕ) (end ka sa : ℕ) (r : EarlyReceiver) (ks ss : List ℕ) (c : Cursor) (j : ℕ) : Type 0 where

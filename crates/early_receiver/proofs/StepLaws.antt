@@ -57,7 +57,8 @@ module _ (r : EarlyReceiver) (n : SequenceNumber) (c : MessageCount) (p : Messag
       record { answers = rw d; asks = wants-nothing r o z ∙ ap (λ (x : EarlyReceiver). wanted x 0) (sym q); leaves = sym q }
 
 pub past-held : (r : EarlyReceiver) (n c end : ℕ) (m : Moved) → nextOf r ≡ n + c → Fits w64 (nextOf r) → end ≡ min 18446744073709551615 (n + c)
-    → m ≡ moveTo n (r .held .0) end → early (at (r .base) (m .next .0)) (m .held .0) ≡ movedPast r n c
+    → m ≡ moveTo n (r .held .0) end
+    → record { base = record { session = r .base .session; next = m .next; limit = r .base .limit; ended = r .base .ended }; held = m .held } ≡ movedPast r n c
 past-held r n c end m e f d g =
     let u : end ≡ n + c = omega arith in
     ap (λ (x : Moved). early (at (r .base) (x .next .0)) (x .held .0)) (rw u at g)

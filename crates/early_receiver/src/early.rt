@@ -20,13 +20,13 @@ ghost use mathlib.Core.Path.{_≡_};
 ghost use mathlib.Core.Bool.{true, false, _&&_};
 ghost use mathlib.Core.List.{[], _∷_};
 ghost use Prim.Native.Nat.{_+_, _-_, _<_, min};
-ghost use lib.Dec.{eqb};
+ghost use lib.Dec.{ltb, eqb};
 ghost use Rattle.wire.specs.Bounds.{largestCount};
 ghost use Rattle.moldudp64.specs.Downstream.{downstreamWords};
 ghost use Rattle.receiver.specs.Table.{numbered, answerWords};
 ghost use Rattle.receiver.specs.Receiver.{namedBy, numberRead, refusalRead, rowRead, afterRow};
 ghost use Rattle.moldudp64_messages.specs.Cursor.{firstOf};
-ghost use Rattle.early_holding.specs.Holding.{slotBytes, lengthBytes, lent, early, takeAll};
+ghost use Rattle.early_holding.specs.Holding.{slotCount, slotBytes, lengthBytes, lent, early, takeAll};
 ghost use Rattle.early_receiver.specs.declared.early.Answer.the-variants.{Ahead, Ended};
 ghost use Rattle.early_receiver.specs.Answers.{requestWords};
 ghost use Rattle.early_receiver.specs.Early.{withSlots, wanted, StartsEarly, TakesEarly};
@@ -388,12 +388,19 @@ fn keep_all(
         ≡ takeAll (lent receiver (now (lengths .entry)) (now (slots .entry))) (first .0)
         (messagesRead (now (datagram .entry)) (numbered (first .0) (count .0))) ⌝ }
 {
-    let base = receiver.base;
-    let next = base.next;
-    if SLOTS.is_below(next.gap(first)) {
+    if is_far(receiver, first) {
         return receiver;
     }
     keep_to(receiver, lengths, slots, datagram, first, first.plus(count))
+}
+
+// Whether a number lies too far above the expected one to be kept.
+fn is_far(receiver: EarlyReceiver, number: SequenceNumber) -> bool
+    ensures { λ r. ⌜ r ≡ ltb slotCount (number .0 - receiver .base .next .0) ⌝ }
+{
+    let base = receiver.base;
+    let next = base.next;
+    SLOTS.is_below(next.gap(number))
 }
 
 // A datagram's messages, the first with this number, and the last just below end.
