@@ -93,13 +93,12 @@ unfolding moveTo
 all-below s f ms h g =
     take-below ms s f h g ∙ ap (movedBy s) (move-skip (length ms) f (nextOf (s .receiver)) (s .receiver .held .0) h)
 
-move-stays : (n h end : ℕ) → end ≤ n → moveTo n h end ≡ moved n h
-unfolding moveTo moveBy
-move-stays n h end e = let z : end - n ≡ 0 = omega arith in rw z
-
-pub all-old : (s : Lent) (f : ℕ) (ms : List (List ℕ)) → f + length ms ≤ nextOf (s .receiver) → f + length ms ≤ 18446744073709551615 → takeAll s f ms ≡ s
-all-old s f ms h g =
-    all-below s f ms (omega arith) g ∙ ap (movedBy s) (move-stays (nextOf (s .receiver)) (s .receiver .held .0) (f + length ms) h)
+pub all-old : (ms : List (List ℕ)) (s : Lent) (f : ℕ) → f + length ms ≤ nextOf (s .receiver) → takeAll s f ms ≡ s
+unfolding takeAll takeOne
+all-old [] s f h = refl
+all-old (m ∷ ms) s f h =
+    let z : f ≡ nextOf (s .receiver) → ⊥ = λ e. omega arith in
+    rw (ne-eqb _ _ z, one-below s f m (omega arith)) (all-old ms s (f + 1) (omega arith))
 
 -- ---- as the loop has them
 
@@ -124,9 +123,11 @@ pub record Keeping (whole : Lent) (l : List ℕ) (end ka sa : ℕ) (r : EarlyRec
   pub lengths-size : length ks ≡ ka
   pub slots-size : length ss ≡ sa
 
-pub keeping-start : (l : List ℕ) (end : ℕ) (r : EarlyReceiver) (ks ss : List ℕ) (c : Cursor) (j : ℕ) → nextOf r < j → Fits w64 end
-    → Keeping (takeAll (lent r ks ss) j (messagesFromCursor l c (end - j))) l end (length ks) (length ss) r ks ss c j
-keeping-start l end r ks ss c j h f = record { same = refl; above = h; fits = omega arith; lengths-size = refl; slots-size = refl }
+pub keeping-start : (l : List ℕ) (end g : ℕ) (r : EarlyReceiver) (ks ss : List ℕ) (c : Cursor) (j : ℕ) → nextOf r < j → Fits w64 end → end - j ≤ 65535
+    → c ≡ firstOf g → g ≡ min 65535 (end - j) → Keeping (takeAll (lent r ks ss) j (messagesRead l (end - j))) l end (length ks) (length ss) r ks ss c j
+keeping-start l end g r ks ss c j h f b o d =
+    let e : g ≡ end - j = omega arith in
+    record { same = rw (o, e); above = h; fits = omega arith; lengths-size = refl; slots-size = refl }
 
 module _ (whole : Lent) (l : List ℕ) (end ka sa : ℕ) (r : EarlyReceiver) (ks ss : List ℕ) (c : Cursor) (j : ℕ) (i : Keeping whole l end ka sa r ks ss c j) where
   pub keeping-next : (q : EarlyReceiver) (kt st m : List ℕ) (d : Cursor) (k : ℕ) → j < end → m ≡ part l (located l c)
@@ -162,23 +163,16 @@ module _ (whole : Lent) (l : List ℕ) (end ka sa : ℕ) (r : EarlyReceiver) (ks
   pub keeping-slots : length ss ≡ sa
   keeping-slots = i .slots-size
 
-pub keeping-end : (s : Lent) (l : List ℕ) (end ka sa f g : ℕ) (b : Cursor) (r : EarlyReceiver) (ks ss : List ℕ) (c : Cursor) (j : ℕ)
-    → Keeping (takeAll s f (messagesFromCursor l b (end - f))) l end ka sa r ks ss c j → end ≤ j → b ≡ firstOf g → g ≡ min 65535 (end - f)
-    → lent r ks ss ≡ takeAll s f (messagesFromCursor l (firstOf (min 65535 (end - f))) (end - f))
+pub keeping-end : (whole : Lent) (l : List ℕ) (end ka sa : ℕ) (r : EarlyReceiver) (ks ss : List ℕ) (c : Cursor) (j : ℕ)
+    → Keeping whole l end ka sa r ks ss c j → end ≤ j → lent r ks ss ≡ whole
 unfolding takeAll messagesFromCursor
-keeping-end s l end ka sa f g b r ks ss c j i h o d = let z : end - j ≡ 0 = omega arith in rw z at (i .same) ∙ rw (o, d)
+keeping-end whole l end ka sa r ks ss c j i h = let z : end - j ≡ 0 = omega arith in rw z at (i .same)
 
 -- ---- as `keep_all` has them: as many messages as can be numbered
 
-counted : (f n end : ℕ) → Fits w64 f → end ≡ min 18446744073709551615 (f + n) → end - f ≡ numbered f n
-counted f n end p e = omega arith
+pub keep-few : (f n end : ℕ) → end ≡ min 18446744073709551615 (f + n) → Fits w16 n → end - f ≤ 65535
+keep-few f n end e g = let h : end ≤ f + n = omega arith in omega arith
 
-few : (n k : ℕ) → Fits w16 n → k ≤ n → min 65535 k ≡ k
-few n k q e = omega arith
-
-pub keep-numbered : (s t : Lent) (l : List ℕ) (end f n : ℕ) → t ≡ takeAll s f (messagesFromCursor l (firstOf (min 65535 (end - f))) (end - f))
-    → end ≡ min 18446744073709551615 (f + n) → Fits w64 f → Fits w16 n → t ≡ takeAll s f (messagesRead l (numbered f n))
-keep-numbered s t l end f n h e p q =
-    let u : end - f ≡ numbered f n = counted f n end p e in
-    let v : min 65535 (end - f) ≡ end - f = few n (end - f) q (omega arith) in
-    h ∙ rw (v, u)
+pub keep-numbered : (r q : EarlyReceiver) (ks ss kt st l : List ℕ) (end f n : ℕ) → lent q kt st ≡ takeAll (lent r ks ss) f (messagesRead l (end - f))
+    → end ≡ min 18446744073709551615 (f + n) → lent q kt st ≡ takeAll (lent r ks ss) f (messagesRead l (numbered f n))
+keep-numbered r q ks ss kt st l end f n h e = let u : end - f ≡ numbered f n = omega arith in h ∙ rw u

@@ -1,9 +1,9 @@
 -- The laws that the functions' proofs need, for `search`: one set for each task.
 use borrow.Author.Needs.{needs}
 use Rattle.wire.proofs.TestLaws.{tests}
-use Rattle.early_receiver.proofs.KeepingLaws.{far-is, keep-far, keeping-start, keeping-next, keeping-less, keeping-lengths, keeping-slots, keeping-end, keep-numbered}
+use Rattle.early_receiver.proofs.KeepingLaws.{far-is, keep-far, keeping-start, keeping-next, keeping-less, keeping-lengths, keeping-slots, keeping-end, keep-few, keep-numbered}
 use Rattle.early_receiver.proofs.AnswerLaws.{start-is, in-deliver, in-old, in-quiet, in-ask, in-ended, in-refused, slots-right, slots-none, slots-above, slots-below, ask-is, lowest-fits, wants-nothing, wants-ahead, wants-held, ends-so, ahead-held}
-use Rattle.early_receiver.proofs.StepLaws.{past-held, deliver-free, deliver-held, moved-open, data-above, beat-above, end-above, kept-open, kept-above, ahead-kept, ahead-beat, ahead-end, ahead-refused}
+use Rattle.early_receiver.proofs.StepLaws.{past-fits, past-held, deliver-free, deliver-held, moved-open, data-above, beat-above, end-above, kept-open, kept-above, ahead-kept, ahead-beat, ahead-end, ahead-refused}
 
 pub ruleset starts = (start-is, needs)
 
@@ -11,8 +11,8 @@ pub ruleset refusals = (in-deliver, in-old, in-quiet, in-ask, in-ended, in-refus
 
 pub ruleset requests = (ask-is, lowest-fits, wants-nothing, wants-ahead, wants-held, ends-so, ahead-held, tests, needs)
 
-pub ruleset keeping = (far-is, keep-far, keeping-start, keeping-next, keeping-less, keeping-lengths, keeping-slots, keeping-end, keep-numbered, tests, needs)
+pub ruleset keeping = (far-is, keep-far, keeping-start, keeping-next, keeping-less, keeping-lengths, keeping-slots, keeping-end, keep-few, keep-numbered, tests, needs)
 
-pub ruleset delivers = (past-held, deliver-free, deliver-held, moved-open, tests, needs)
+pub ruleset delivers = (past-fits, past-held, deliver-free, deliver-held, moved-open, tests, needs)
 
 pub ruleset aheads = (data-above, beat-above, end-above, kept-open, kept-above, ahead-kept, ahead-beat, ahead-end, ahead-refused, needs)

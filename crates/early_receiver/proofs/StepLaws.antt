@@ -54,7 +54,10 @@ module _ (r : EarlyReceiver) (n : SequenceNumber) (c : MessageCount) (p : Messag
   deliver-free o z g =
       let q = free-past z in
       let d : min 65535 (nextOf (movedPast r (n .0) (c .0)) - n .0) ≡ c .0 = omega (arith, ap nextOf q) in
-      record { answers = rw d; asks = wants-nothing r o z ∙ ap (λ (x : EarlyReceiver). wanted x 0) (sym q); leaves = sym q }
+      record { answers = rw d; asks = wants-nothing r o z ∙ ap (λ (x : EarlyReceiver). wanted x 0) (sym q); leaves = sym q; fits = omega arith }
+
+pub past-fits : (r : EarlyReceiver) (n c : ℕ) → nextOf r ≡ n + c → Fits w64 (nextOf r) → n + c ≤ 18446744073709551615
+past-fits r n c e f = omega arith
 
 pub past-held : (r : EarlyReceiver) (n c end : ℕ) (m : Moved) → nextOf r ≡ n + c → Fits w64 (nextOf r) → end ≡ min 18446744073709551615 (n + c)
     → m ≡ moveTo n (r .held .0) end
@@ -63,12 +66,12 @@ past-held r n c end m e f d g =
     let u : end ≡ n + c = omega arith in
     ap (λ (x : Moved). early (at (r .base) (x .next .0)) (x .held .0)) (rw u at g)
 
-pub deliver-held : (r q : EarlyReceiver) (n : SequenceNumber) (c : ℕ) (p : MessagePlace) (k : MessageCount) (y : Request) → q ≡ movedPast r (n .0) c
-    → k .0 ≡ min 65535 (nextOf q - n .0) → requestWords y ≡ wanted q 0 → Delivers (record { answer = Deliver n k p; request = y; receiver = q }) r (n .0) c (p .0)
+pub deliver-held : (r q : EarlyReceiver) (n : SequenceNumber) (c : ℕ) (p : MessagePlace) (k : MessageCount) (y : Request) → n .0 + c ≤ 18446744073709551615
+    → q ≡ movedPast r (n .0) c → k .0 ≡ min 65535 (nextOf q - n .0) → requestWords y ≡ wanted q 0 → Delivers (record { answer = Deliver n k p; request = y; receiver = q }) r (n .0) c (p .0)
 unfolding earlyWords
-deliver-held r q n c p k y x i w =
+deliver-held r q n c p k y e x i w =
     let d : k .0 ≡ min 65535 (nextOf (movedPast r (n .0) c) - n .0) = i ∙ ap (λ (z : EarlyReceiver). min 65535 (nextOf z - n .0)) x in
-    record { answers = rw d; asks = w ∙ ap (λ (z : EarlyReceiver). wanted z 0) x; leaves = x }
+    record { answers = rw d; asks = w ∙ ap (λ (z : EarlyReceiver). wanted z 0) x; leaves = x; fits = e }
 
 pub moved-open : (r q : EarlyReceiver) (n c : ℕ) → r .base .ended ≡ false → q ≡ movedPast r n c → q .base .ended ≡ false
 moved-open r q n c e g = ap (λ (x : EarlyReceiver). x .base .ended) g ∙ e

@@ -1,8 +1,8 @@
 -- For private helpers alone; no public promise uses it: what each step of taking a datagram leaves to the next.
-use Prim.Native.Nat.{ℕ, _+_, _-_, min}
+use Prim.Native.Nat.{ℕ, _+_, _-_, _≤_, min}
 use mathlib.Core.List.{List, [], _∷_}
 use mathlib.Core.Path.{_≡_}
-use Rattle.wire.specs.Bounds.{largestCount}
+use Rattle.wire.specs.Bounds.{largestNumber, largestCount}
 use Rattle.wire.specs.Words.{Words, says}
 use Rattle.moldudp64.specs.Downstream.{DownstreamKind}
 use Rattle.receiver.specs.Table.{deliver}
@@ -31,6 +31,7 @@ pub record Delivers (x : Taken) (r : EarlyReceiver) (n c skipped : ℕ) : Type 0
   pub answers : earlyWords (x .answer) ≡ says deliver (n ∷ min largestCount (nextOf (movedPast r n c) - n) ∷ skipped ∷ [])
   pub asks : requestWords (x .request) ≡ wanted (movedPast r n c) 0
   pub leaves : x .receiver ≡ movedPast r n c
+  pub fits : n + c ≤ largestNumber
 
 -- x is the answer to a datagram ahead
 pub record TakesAhead (x : Taken) (ls ss : List ℕ) (s : Lent) (l : List ℕ) (w : Words DownstreamKind) : Type 0 where

@@ -19,18 +19,17 @@ use wire::refusal::Refusal;
 ghost use mathlib.Core.Path.{_≡_};
 ghost use mathlib.Core.Bool.{true, false, _&&_};
 ghost use mathlib.Core.List.{[], _∷_};
-ghost use Prim.Native.Nat.{_+_, _-_, _<_, min};
+ghost use Prim.Native.Nat.{_+_, _-_, _<_, _≤_, min};
 ghost use lib.Dec.{ltb, eqb};
-ghost use Rattle.wire.specs.Bounds.{largestCount};
+ghost use Rattle.wire.specs.Bounds.{largestNumber, largestCount};
 ghost use Rattle.moldudp64.specs.Downstream.{downstreamWords};
 ghost use Rattle.receiver.specs.Table.{numbered, answerWords};
 ghost use Rattle.receiver.specs.Receiver.{namedBy, numberRead, refusalRead, rowRead, afterRow};
-ghost use Rattle.moldudp64_messages.specs.Cursor.{firstOf};
 ghost use Rattle.early_holding.specs.Holding.{slotCount, slotBytes, lengthBytes, lent, early, takeAll};
 ghost use Rattle.early_receiver.specs.declared.early.Answer.the-variants.{Ahead, Ended};
 ghost use Rattle.early_receiver.specs.Answers.{requestWords};
 ghost use Rattle.early_receiver.specs.Early.{withSlots, wanted, StartsEarly, TakesEarly};
-ghost use Rattle.early_receiver.specs.Read.{messagesFromCursor, messagesRead, TakesEarlyRead, EarlyReadAsWhole};
+ghost use Rattle.early_receiver.specs.Read.{messagesRead, TakesEarlyRead, EarlyReadAsWhole};
 ghost use Rattle.early_receiver.specs.Statements.{EarlyPromises};
 ghost use Rattle.early_receiver.specs.Steps.{Stays, movedPast, Delivers, TakesAhead, Accepts};
 
@@ -256,6 +255,7 @@ fn deliver(
 fn moved_past(receiver: EarlyReceiver, first: SequenceNumber, count: MessageCount) -> EarlyReceiver
     requires { ⌜ receiver .base .next .0 ≡ first .0 + count .0 ⌝ }
     ensures { λ r. ⌜ r ≡ movedPast receiver (first .0) (count .0) ⌝ }
+    ensures fits { λ _. ⌜ first .0 + count .0 ≤ largestNumber ⌝ }
 {
     let moved = holding::move_to(first, receiver.held, first.plus(count));
     let base = receiver.base;
@@ -317,7 +317,7 @@ fn ahead(
 {
     match packet {
         Downstream::Data { first, count } => {
-            let kept = keep_all(receiver, lengths, slots, datagram, first, count);
+            let kept = keep_all(first, count, receiver, lengths, slots, datagram);
             ahead_of(kept, first)
         }
         Downstream::Heartbeat { next } => ahead_of(receiver, next),
@@ -376,12 +376,12 @@ fn ask(receiver: EarlyReceiver, gap: MessageCount) -> Request
 
 // The messages of data ahead, one at a time in rising number; none where even the first lies too far.
 fn keep_all(
+    first: SequenceNumber,
+    count: MessageCount,
     receiver: EarlyReceiver,
     lengths: &mut [u8],
     slots: &mut [u8],
     datagram: &[u8],
-    first: SequenceNumber,
-    count: MessageCount,
 ) -> EarlyReceiver
     requires { ⌜ receiver .base .next .0 < first .0 ⌝ }
     ensures { λ r. ⌜ lent r (now (lengths .exit)) (now (slots .exit))
@@ -391,7 +391,7 @@ fn keep_all(
     if is_far(receiver, first) {
         return receiver;
     }
-    keep_to(receiver, lengths, slots, datagram, first, first.plus(count))
+    keep_to(first, first.plus(count), receiver, lengths, slots, datagram)
 }
 
 // Whether a number lies too far above the expected one to be kept.
@@ -405,17 +405,18 @@ fn is_far(receiver: EarlyReceiver, number: SequenceNumber) -> bool
 
 // A datagram's messages, the first with this number, and the last just below end.
 fn keep_to(
+    first: SequenceNumber,
+    end: SequenceNumber,
     receiver: EarlyReceiver,
     lengths: &mut [u8],
     slots: &mut [u8],
     datagram: &[u8],
-    first: SequenceNumber,
-    end: SequenceNumber,
 ) -> EarlyReceiver
     requires { ⌜ receiver .base .next .0 < first .0 ⌝ }
+    requires { ⌜ end .0 - first .0 ≤ largestCount ⌝ }
     ensures { λ r. ⌜ lent r (now (lengths .exit)) (now (slots .exit))
         ≡ takeAll (lent receiver (now (lengths .entry)) (now (slots .entry))) (first .0)
-        (messagesFromCursor (now (datagram .entry)) (firstOf (min largestCount (end .0 - first .0))) (end .0 - first .0)) ⌝ }
+        (messagesRead (now (datagram .entry)) (end .0 - first .0)) ⌝ }
 {
     let mut kept = receiver;
     let mut number = first;
