@@ -15,6 +15,7 @@ use Rattle.moldudp64_messages.specs.declared.cursor.Cursor.{Cursor}
 use Rattle.moldudp64_messages.specs.Cursor.{part, located, advanced, firstOf}
 use Rattle.receiver.specs.declared.receiver.Receiver.{Receiver}
 use Rattle.receiver.specs.Table.{numbered}
+use Rattle.early_word.specs.Word.{run, past}
 use Rattle.early_holding.specs.declared.holding.EarlyReceiver.{EarlyReceiver}
 use Rattle.early_holding.specs.declared.holding.Moved.{Moved}
 use Rattle.early_holding.specs.Holding.{Lent, lent, early, nextOf, at, behind, advance, keeps, keep, keepOne, takeOne, takeAll, moved, moveBy, moveTo}
@@ -92,6 +93,15 @@ pub all-below : (s : Lent) (f : ℕ) (ms : List (List ℕ)) → f ≤ nextOf (s 
 unfolding moveTo
 all-below s f ms h g =
     take-below ms s f h g ∙ ap (movedBy s) (move-skip (length ms) f (nextOf (s .receiver)) (s .receiver .held .0) h)
+
+-- the number never falls, but for one beyond the largest
+pub move-rises : (c f n h : ℕ) → n ≤ 18446744073709551615 → n ≤ moveBy c f n h .next .0
+unfolding moveBy behind
+move-rises zero f n h e = omega arith
+move-rises (suc c) f n h e =
+    either (eqb f n) _
+    (λ q. rw q (omega (arith, move-rises c (f + 1) (min 18446744073709551615 (n + (run h + 1))) (past h (run h + 1)) (omega arith))))
+    (λ q. rw q (move-rises c (f + 1) n h e))
 
 pub all-old : (ms : List (List ℕ)) (s : Lent) (f : ℕ) → f + length ms ≤ nextOf (s .receiver) → takeAll s f ms ≡ s
 unfolding takeAll takeOne

@@ -4,6 +4,7 @@ use Rattle.wire.proofs.TestLaws.{tests}
 use Rattle.early_receiver.proofs.KeepingLaws.{far-is, keep-far, keeping-start, keeping-next, keeping-less, keeping-lengths, keeping-slots, keeping-end, keep-few, keep-numbered}
 use Rattle.early_receiver.proofs.AnswerLaws.{start-is, in-deliver, in-old, in-quiet, in-ask, in-ended, in-refused, slots-right, slots-none, slots-above, slots-below, ask-is, lowest-fits, wants-nothing, wants-ahead, wants-held, ends-so, ahead-held}
 use Rattle.early_receiver.proofs.StepLaws.{past-fits, past-held, deliver-free, deliver-held, moved-open, data-above, beat-above, end-above, kept-open, kept-above, ahead-kept, ahead-beat, ahead-end, ahead-refused}
+use Rattle.early_receiver.proofs.ArmLaws.{deliver-next, deliver-open, accept-deliver, old-open, accept-old, quiet-open, accept-quiet, refused-open, accept-refused, ask-above, ask-open, accept-ask, over-ended, accept-ended}
 
 pub ruleset starts = (start-is, needs)
 
@@ -16,3 +17,5 @@ pub ruleset keeping = (far-is, keep-far, keeping-start, keeping-next, keeping-le
 pub ruleset delivers = (past-fits, past-held, deliver-free, deliver-held, moved-open, tests, needs)
 
 pub ruleset aheads = (data-above, beat-above, end-above, kept-open, kept-above, ahead-kept, ahead-beat, ahead-end, ahead-refused, needs)
+
+pub ruleset accepts = (deliver-next, deliver-open, accept-deliver, old-open, accept-old, quiet-open, accept-quiet, refused-open, accept-refused, ask-above, ask-open, accept-ask, over-ended, accept-ended, needs)
