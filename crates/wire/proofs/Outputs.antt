@@ -50,7 +50,7 @@ take-laid : (l : List ℕ) (at : ℕ) (bs : List ℕ) → at + length bs ≤ len
 take-laid l at bs h = omega (arith, length-append (take at l) bs, length-take at l)
 
 -- a write changes nothing outside its bytes
-only-its-bytes : (l : List ℕ) (at : ℕ) (bs : List ℕ) → Outside l (put l at bs) at (at + length bs)
+pub only-its-bytes : (l : List ℕ) (at : ℕ) (bs : List ℕ) → Outside l (put l at bs) at (at + length bs)
 only-its-bytes l at bs = either l at bs _ room none
   where
     room : at + length bs ≤ length l → Outside l (put l at bs) at (at + length bs)
