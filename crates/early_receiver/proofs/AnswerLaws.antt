@@ -1,12 +1,12 @@
 -- Laws of the small functions: the start, the refusal with 19, and the request.
-use mathlib.Core.Path.{_≡_, refl, sym, ap, _∙_}
+use mathlib.Core.Path.{_≡_, refl, _∙_}
 use mathlib.Core.List.{List, [], _∷_}
 use mathlib.Core.Bool.{Bool, true, false}
 use Prim.Native.Nat.{ℕ, _+_, _-_, _≤_, _<_, min}
 use native.Mathlib.Omega.{arith}
 use lib.Dec.{ltb, eqb}
 use mir.Val.{Fits}
-use mir.Syntax.{w16, w64}
+use mir.Syntax.{w16}
 use borrow.Author.Tests.{lt-ltb, le-ltb, eq-eqb, ne-eqb, eqb-false}
 use Rattle.wire.specs.Choice.{if_then_else_}
 use Rattle.wire.specs.declared.refusal.Refusal.{Refusal}
@@ -14,7 +14,6 @@ use Rattle.wire.specs.declared.kinds.SequenceNumber.{SequenceNumber}
 use Rattle.wire.specs.declared.kinds.MessageCount.{MessageCount}
 use Rattle.wire.specs.declared.kinds.MessagePlace.{MessagePlace}
 use Rattle.receiver.specs.declared.receiver.Receiver.{Receiver}
-use Rattle.receiver.specs.declared.receiver.Started.{Started as PlainStarted}
 use Rattle.receiver.specs.declared.receiver.Answer.{Answer as Plain}
 use Rattle.receiver.specs.declared.receiver.Answer.the-variants as plain
 use Rattle.receiver.specs.Table.{answerWords}
@@ -23,11 +22,9 @@ use Rattle.early_word.specs.Word.{lowest}
 use Rattle.early_word.proofs.WordLaws.{zeros-le}
 use Rattle.early_holding.specs.declared.holding.EarlyReceiver.{EarlyReceiver}
 use Rattle.early_holding.specs.Holding.{early, nextOf}
-use Rattle.early_receiver.specs.declared.early.Answer.{Answer}
-use Rattle.early_receiver.specs.declared.early.Answer.the-variants.{Ahead, Ended}
+use Rattle.early_receiver.specs.declared.early.Answer.the-variants.{Ended}
 use Rattle.early_receiver.specs.declared.early.Request.{Request}
 use Rattle.early_receiver.specs.declared.early.Request.the-variants.{Nothing, Ask}
-use Rattle.early_receiver.specs.declared.early.Taken.{Taken}
 use Rattle.early_receiver.specs.Answers.{requestWords}
 use Rattle.early_receiver.specs.Early.{startEarly, withSlots, wantedTo, wanted}
 use Rattle.early_receiver.specs.Steps.{Stays}

@@ -2,12 +2,12 @@
 use mathlib.Core.Path.{_≡_, refl, sym, ap, subst, _∙_}
 use mathlib.Core.List.{List, [], _∷_}
 use mathlib.Core.Bool.{Bool, true, false, true≢false, _&&_}
-use Prim.Native.Nat.{ℕ, zero, suc, _+_, _-_, _*_, _%_, _≤_, _<_, min}
+use Prim.Native.Nat.{ℕ, _+_, _-_, _≤_, _<_}
 use native.Mathlib.Omega.{arith}
-use lib.ListN.{length, getD, take, drop, length-take, length-drop}
+use lib.ListN.{length, getD, drop, length-take, length-drop}
 use lib.Seq.{getD-take, getD-drop}
 use lib.Dec.{ltb, eqb}
-use borrow.Author.Tests.{lt-ltb, le-ltb, ltb-true, eq-eqb, ne-eqb, eqb-true, eqb-false}
+use borrow.Author.Tests.{lt-ltb, ltb-true, eq-eqb, ne-eqb, eqb-true, eqb-false}
 use Rattle.wire.specs.Choice.{if_then_else_}
 use Rattle.wire.specs.Bytes.{number, bytes}
 use Rattle.wire.specs.Output.{put, ReadsBack}
@@ -17,10 +17,9 @@ use Rattle.wire.proofs.Outputs.{only-its-bytes, output-laws}
 use Rattle.moldudp64.specs.Header.{numberOf}
 use Rattle.moldudp64.specs.Downstream.{DownstreamKind, data-packet, heartbeat, end-of-session, kindOf, refusalOf, messagesOf}
 use Rattle.moldudp64.proofs.DownstreamLaws.{sound, count-sound}
-use Rattle.early_word.specs.Word.{bit, marked}
+use Rattle.early_word.specs.Word.{bit}
 use Rattle.early_word.proofs.WordLaws.{bit-marked}
-use Rattle.early_holding.specs.declared.holding.EarlyReceiver.{EarlyReceiver}
-use Rattle.early_holding.specs.Holding.{slotOf, slotAt, lengthAt, Lent, lent, early, nextOf, isHeld, lengthOf, heldMessage, keeps, keep, keepOne, takeAll}
+use Rattle.early_holding.specs.Holding.{slotOf, slotAt, lengthAt, Lent, nextOf, isHeld, lengthOf, heldMessage, keeps, keep, keepOne, takeAll}
 use Rattle.early_holding.proofs.HoldingLaws.{either, Keepable, keepable}
 use Rattle.early_receiver.specs.Early.{earlyRefusal, namedLent, endAt, takeKind, lentAfter}
 use Rattle.early_receiver.specs.Statements.{ByteOfHeld, OnlyHeldBytesChange}

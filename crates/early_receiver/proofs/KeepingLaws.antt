@@ -1,7 +1,7 @@
 -- Laws of a datagram's messages, one at a time: above the expected number they are kept or left, and below it they move it.
 use mathlib.Core.Path.{_≡_, refl, sym, ap, _∙_}
 use mathlib.Core.List.{List, [], _∷_}
-use mathlib.Core.Bool.{Bool, true, false}
+use mathlib.Core.Bool.{Bool}
 use Prim.Native.Nat.{ℕ, zero, suc, _+_, _-_, _≤_, _<_, min}
 use native.Mathlib.Omega.{arith}
 use lib.ListN.{length}
@@ -18,7 +18,7 @@ use Rattle.receiver.specs.Table.{numbered}
 use Rattle.early_word.specs.Word.{run, past}
 use Rattle.early_holding.specs.declared.holding.EarlyReceiver.{EarlyReceiver}
 use Rattle.early_holding.specs.declared.holding.Moved.{Moved}
-use Rattle.early_holding.specs.Holding.{Lent, lent, early, nextOf, at, behind, advance, keeps, keep, keepOne, takeOne, takeAll, moved, moveBy, moveTo}
+use Rattle.early_holding.specs.Holding.{Lent, lent, early, nextOf, at, behind, advance, keeps, keep, keepOne, takeOne, takeAll, moveBy, moveTo}
 use Rattle.early_holding.proofs.HoldingLaws.{either, move-skip, keeps-below}
 use Rattle.early_receiver.specs.Read.{messagesFromCursor, messagesRead}
 

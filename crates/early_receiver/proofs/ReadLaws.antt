@@ -1,14 +1,12 @@
 -- What the reader finds in a datagram is answered as the datagram is; and the refusals, as `take_read` has them.
 use mathlib.Core.Path.{_≡_, refl, sym, ap, _∙_}
 use mathlib.Core.List.{List, [], _∷_}
-use mathlib.Core.Bool.{Bool, true, false, _&&_}
-use Prim.Native.Nat.{ℕ, zero, suc, _+_, _-_, _≤_, _<_, min}
-use native.Mathlib.Omega.{arith}
+use mathlib.Core.Bool.{Bool, false, _&&_}
+use Prim.Native.Nat.{ℕ, suc, _-_}
 use lib.ListN.{length, getD}
-use lib.Dec.{ltb, eqb}
-use borrow.Author.Tests.{ne-eqb, eqb-true, eqb-false}
-use Rattle.wire.specs.Choice.{if_then_else_}
-use Rattle.wire.specs.Words.{Words, says, refuses}
+use lib.Dec.{eqb}
+use borrow.Author.Tests.{ne-eqb}
+use Rattle.wire.specs.Words.{Words, says}
 use Rattle.wire.specs.declared.refusal.Refusal.{Refusal}
 use Rattle.wire.proofs.Cases.{zero-or-not}
 use Rattle.moldudp64.specs.Header.{numberOf, countOf}
@@ -16,22 +14,20 @@ use Rattle.moldudp64.specs.declared.downstream.Downstream.{Downstream}
 use Rattle.moldudp64.specs.Downstream.{DownstreamKind, data-packet, heartbeat, end-of-session, kindOf, refusalOf, valuesOf, downstreamOf, downstreamWords, messagesOf, messageOf}
 use Rattle.moldudp64.proofs.DownstreamLaws.{count-sound, kind-blocks}
 use Rattle.moldudp64_messages.specs.declared.cursor.Cursor.{Cursor}
-use Rattle.moldudp64_messages.specs.Cursor.{part, located, advanced, advancedBy, firstOf, startOf, WalksTheMessages, PartIsMessage}
+use Rattle.moldudp64_messages.specs.Cursor.{part, located, advanced, advancedBy, startOf, WalksTheMessages, PartIsMessage}
 use Rattle.moldudp64_messages.proofs.CursorLaws.{walks-the-messages, part-is-message}
 use Rattle.receiver.specs.declared.receiver.Receiver.{Receiver}
 use Rattle.receiver.specs.declared.receiver.Taken.{Taken as PlainTaken}
-use Rattle.receiver.specs.declared.receiver.Answer.{Answer as Plain}
-use Rattle.receiver.specs.Table.{AnswerKind, Outcome, numbered, answerWords}
-use Rattle.receiver.specs.Receiver.{namedBy, refusalFor, tableRow, afterRow, numberRead, countRead, refusalRead, rowRead, answerRead, afterRead}
-use Rattle.receiver.proofs.ReadLaws.{reads-refused, refused-read, refuses-it, reads, count-of, number-of, refusal-as, row-as, by-reader}
+use Rattle.receiver.specs.Table.{AnswerKind, answerWords}
+use Rattle.receiver.specs.Receiver.{namedBy, tableRow, afterRow, numberRead, refusalRead, rowRead, answerRead, afterRead}
+use Rattle.receiver.proofs.ReadLaws.{refused-read, refuses-it, reads, count-of, number-of, refusal-as, row-as, by-reader}
 use Rattle.early_holding.specs.declared.holding.EarlyReceiver.{EarlyReceiver}
-use Rattle.early_holding.specs.Holding.{Lent, lent, early, nextOf, takeAll}
-use Rattle.early_receiver.specs.declared.early.Answer.{Answer}
+use Rattle.early_holding.specs.Holding.{Lent, lent}
 use Rattle.early_receiver.specs.declared.early.Answer.the-variants.{Refused}
 use Rattle.early_receiver.specs.declared.early.Request.the-variants.{Nothing}
 use Rattle.early_receiver.specs.declared.early.Taken.{Taken}
 use Rattle.early_receiver.specs.Answers.{earlyWords, requestWords}
-use Rattle.early_receiver.specs.Early.{rightSize, withSlots, earlyRefusal, namedLent, takeKind, lentAfter, wanted, requestOf, answerBy, earlyAnswer, TakesEarly}
+use Rattle.early_receiver.specs.Early.{rightSize, withSlots, earlyRefusal, namedLent, takeKind, lentAfter, requestOf, earlyAnswer, TakesEarly}
 use Rattle.early_receiver.specs.Read.{messagesFromCursor, messagesRead, earlyRefusalRead, takeReadAt, lentAfterRead, requestRead, earlyAnswerRead, EarlyReadAsWhole, TakesEarlyRead}
 use Rattle.early_receiver.specs.Steps.{Accepts}
 use Rattle.early_receiver.proofs.AnswerLaws.{slots-open}

@@ -1,30 +1,30 @@
 -- What is promised at one datagram of the refusal, of the request and of the count.
 use mathlib.Core.Path.{_≡_, refl, sym, ap, _∙_}
 use mathlib.Core.List.{List, [], _∷_}
-use mathlib.Core.Bool.{Bool, true, false, true≢false}
-use Prim.Native.Nat.{ℕ, zero, suc, _+_, _-_, _*_, _/_, _%_, _^_, _≤_, _<_, min, max}
+use mathlib.Core.Bool.{true, false, true≢false}
+use Prim.Native.Nat.{ℕ, zero, suc, _+_, _-_, _*_, _^_, _≤_, _<_, min, max}
 use native.Mathlib.Omega.{arith}
 use native.Mathlib.Nat.{zero-div}
 use lib.ListN.{length, getD, drop, length-drop}
 use lib.Dec.{ltb, eqb}
-use borrow.Author.Tests.{lt-ltb, le-ltb, ltb-true, eq-eqb, ne-eqb, eqb-true, eqb-false}
+use borrow.Author.Tests.{lt-ltb, le-ltb, ltb-true, eq-eqb, ne-eqb, eqb-true}
 use Rattle.wire.specs.Choice.{if_then_else_}
 use Rattle.wire.specs.Words.{Case, answer, refused, Injective}
 use Rattle.wire.specs.declared.kinds.MessageCount.{MessageCount}
 use Rattle.wire.proofs.Cases.{below-or-not, zero-or-not}
 use Rattle.wire.proofs.Words.{read-back}
-use Rattle.moldudp64.specs.Header.{numberOf, countOf}
+use Rattle.moldudp64.specs.Header.{numberOf}
 use Rattle.moldudp64.specs.Blocks.{blockSize, afterBlock, allFit}
 use Rattle.moldudp64.specs.Downstream.{DownstreamKind, data-packet, heartbeat, end-of-session, kindOf, refusalOf, blockCount, messagesOf}
 use Rattle.moldudp64.proofs.BlockLaws.{first-fits, rest-fit, sound-fit}
-use Rattle.moldudp64.proofs.DownstreamLaws.{sound, count-sound, kind-blocks}
+use Rattle.moldudp64.proofs.DownstreamLaws.{sound, count-sound}
 use Rattle.receiver.specs.declared.receiver.Receiver.{Receiver}
 use Rattle.receiver.specs.Table.{AnswerKind, deliver, old, quiet, ask, ended, askFor}
 use Rattle.receiver.proofs.Promises.{well-read}
 use Rattle.early_word.specs.Word.{bit, run, lowest, past}
 use Rattle.early_word.proofs.WordLaws.{ones-le, zeros-clear}
 use Rattle.early_holding.specs.declared.holding.EarlyReceiver.{EarlyReceiver}
-use Rattle.early_holding.specs.Holding.{Lent, lent, early, nextOf, isHeld, behind, advance, takeOne, takeAll, moveBy, moveTo}
+use Rattle.early_holding.specs.Holding.{Lent, nextOf, isHeld, behind, advance, takeOne, takeAll, moveBy, moveTo}
 use Rattle.early_holding.proofs.HoldingLaws.{either}
 use Rattle.early_receiver.specs.declared.early.Answer.{Answer}
 use Rattle.early_receiver.specs.declared.early.Answer.the-variants.{Deliver, Old, Quiet, Ahead, Ended, Refused}
@@ -34,7 +34,7 @@ use Rattle.early_receiver.specs.Answers.{earlyWords, requestWords}
 use Rattle.early_receiver.specs.Early.{rightSize, earlyRefusal, namedLent, endAt, takeKind, lentAfter, wantedTo, wanted, requestOf}
 use Rattle.early_receiver.specs.Statements.{EarlyRefusalKeeps, AsksExactlyWhen, CountsAll}
 use Rattle.early_receiver.proofs.AnswerLaws.{slots-open}
-use Rattle.early_receiver.proofs.KeepingLaws.{movedBy, one-base, above-base, all-below}
+use Rattle.early_receiver.proofs.KeepingLaws.{one-base, above-base, all-below}
 
 -- ---- a refusal, and what is accepted
 

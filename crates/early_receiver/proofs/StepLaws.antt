@@ -1,8 +1,8 @@
 -- Laws of the two steps that an accepted datagram can take: messages delivered, and a datagram ahead.
-use mathlib.Core.Path.{_≡_, refl, sym, ap, ap₂, _∙_}
-use mathlib.Core.List.{List, [], _∷_}
-use mathlib.Core.Bool.{Bool, true, false}
-use Prim.Native.Nat.{ℕ, zero, suc, _+_, _-_, _≤_, _<_, min}
+use mathlib.Core.Path.{_≡_, refl, sym, ap, _∙_}
+use mathlib.Core.List.{List}
+use mathlib.Core.Bool.{false}
+use Prim.Native.Nat.{ℕ, _+_, _-_, _≤_, _<_, min}
 use native.Mathlib.Omega.{arith}
 use mir.Val.{Fits}
 use mir.Syntax.{w16, w64}
@@ -22,7 +22,6 @@ use Rattle.early_holding.specs.declared.holding.EarlyReceiver.{EarlyReceiver}
 use Rattle.early_holding.specs.declared.holding.Moved.{Moved}
 use Rattle.early_holding.specs.Holding.{Lent, lent, early, nextOf, at, takeAll, moved, moveTo}
 use Rattle.early_holding.proofs.HoldingLaws.{move-empty, move-done}
-use Rattle.early_receiver.specs.declared.early.Answer.{Answer}
 use Rattle.early_receiver.specs.declared.early.Answer.the-variants.{Deliver, Ahead}
 use Rattle.early_receiver.specs.declared.early.Request.{Request}
 use Rattle.early_receiver.specs.declared.early.Request.the-variants.{Nothing}

@@ -2,8 +2,8 @@
 use early_holding::holding;
 use early_holding::holding::EarlyReceiver;
 use early_holding::holding::LENGTH_BYTES;
-use early_holding::holding::SLOTS;
 use early_holding::holding::SLOT_BYTES;
+use early_holding::holding::SLOTS;
 use early_word::Held;
 use moldudp64::downstream;
 use moldudp64::downstream::Downstream;
@@ -90,12 +90,7 @@ pub fn start(session: [u8; SESSION_SIZE], next: SequenceNumber, limit: MessageCo
 }
 
 // Takes a datagram, with one walk over its blocks, and a second over those that it keeps.
-pub fn take(
-    receiver: EarlyReceiver,
-    lengths: &mut [u8],
-    slots: &mut [u8],
-    datagram: &[u8],
-) -> Taken
+pub fn take(receiver: EarlyReceiver, lengths: &mut [u8], slots: &mut [u8], datagram: &[u8]) -> Taken
     ensures { λ r. ⌜ TakesEarly r (now (lengths .exit)) (now (slots .exit))
         (lent receiver (now (lengths .entry)) (now (slots .entry))) (now (datagram .entry)) ⌝ }
     ensures promises { λ _. ⌜ EarlyPromises ⌝ }

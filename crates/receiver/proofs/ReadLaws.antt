@@ -20,7 +20,7 @@ use Rattle.receiver.proofs.LadderLaws.{past-16}
 module _ (r : Receiver) (l : List ℕ) where
   -- a datagram that the reader refuses
   module _ (bad : refusalOf l ≡ 0 → ⊥) where
-    pub reads-refused : downstreamOf l ≡ refuses (refusalOf l)
+    reads-refused : downstreamOf l ≡ refuses (refusalOf l)
     unfolding downstreamOf
     reads-refused = rw (ne-eqb _ _ bad)
 
