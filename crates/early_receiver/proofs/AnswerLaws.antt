@@ -22,9 +22,11 @@ use Rattle.early_word.specs.Word.{lowest}
 use Rattle.early_word.proofs.WordLaws.{zeros-le}
 use Rattle.early_holding.specs.declared.holding.EarlyReceiver.{EarlyReceiver}
 use Rattle.early_holding.specs.Holding.{early, nextOf}
+use Rattle.early_receiver.specs.declared.early.Answer.{Answer}
 use Rattle.early_receiver.specs.declared.early.Answer.the-variants.{Ended}
 use Rattle.early_receiver.specs.declared.early.Request.{Request}
 use Rattle.early_receiver.specs.declared.early.Request.the-variants.{Nothing, Ask}
+use Rattle.early_receiver.specs.declared.early.Taken.{Taken}
 use Rattle.early_receiver.specs.Answers.{requestWords}
 use Rattle.early_receiver.specs.Early.{startEarly, withSlots, wantedTo, wanted}
 use Rattle.early_receiver.specs.Steps.{Stays}
@@ -152,5 +154,5 @@ no-number r f h = go (eqb (r .held .0) 0)
 pub ends-so : (r : EarlyReceiver) → r .base .ended ≡ true → Stays (record { answer = Ended; request = Nothing; receiver = early (r .base) 0 }) (early (r .base) 0) Ended 0
 ends-so r e = record { answers = refl; asks = wants-ended (early (r .base) 0) 0 e; leaves = refl }
 
-pub ahead-held : (r : EarlyReceiver) (f : ℕ) (q : Request) → (r .held .0 ≡ 0 → ⊥) → requestWords q ≡ wanted r 0 → requestWords q ≡ wanted r f
-ahead-held r f q z w = w ∙ wants-same r 0 f z
+pub ahead-held : (r : EarlyReceiver) (f : ℕ) (x : Taken) (a : Answer) → (r .held .0 ≡ 0 → ⊥) → Stays x r a 0 → Stays x r a f
+ahead-held r f x a z y = record { answers = y .answers; asks = y .asks ∙ wants-same r 0 f z; leaves = y .leaves }

@@ -110,8 +110,11 @@ nothing-wanted : (r : EarlyReceiver) (f : ℕ) → r .held .0 ≡ 0 → f ≤ ne
 unfolding wanted wantedTo
 nothing-wanted r f z h = either (r .base .ended) _ (λ e. rw e) (λ e. rw (e, eq-eqb _ _ z, le-ltb _ _ h))
 
-pub asks-exactly-when : AsksExactlyWhen
+refused-wants : (s : Lent) (l : List ℕ) → (earlyRefusal s l ≡ 0 → ⊥) → requestOf s l ≡ []
 unfolding requestOf
+refused-wants s l z = rw (ne-eqb _ _ z)
+
+pub asks-exactly-when : AsksExactlyWhen
 asks-exactly-when =
     record {
       when-ahead = λ s l e o h.
@@ -119,11 +122,8 @@ asks-exactly-when =
           ∙ ap (λ (k : ℕ). nextOf (lentAfter s l .receiver) ∷ askFor k (nextOf (lentAfter s l .receiver)) (wantedTo (lentAfter s l .receiver) (numberOf l)) ∷ []) (after-limit s l e);
       when-held = λ s l j e o h. lowest-held (lentAfter s l .receiver) (numberOf l) j h;
       else-nothing = λ s l z h.
-          zero-or-not _ (earlyRefusal s l) (λ e. request-open s l e ∙ nothing-wanted (lentAfter s l .receiver) (numberOf l) z h) (λ e. early-refusal-keeps-request s l e);
+          zero-or-not _ (earlyRefusal s l) (λ e. request-open s l e ∙ nothing-wanted (lentAfter s l .receiver) (numberOf l) z h) (refused-wants s l);
     }
-  where
-    early-refusal-keeps-request : (s : Lent) (l : List ℕ) → (earlyRefusal s l ≡ 0 → ⊥) → requestOf s l ≡ []
-    early-refusal-keeps-request s l z = rw (ne-eqb _ _ z)
 
 -- ---- how far the number moves
 

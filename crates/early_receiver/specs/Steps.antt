@@ -28,7 +28,8 @@ movedPast r n c = early (at (r .base) (moveTo n (r .held .0) (n + c) .next .0)) 
 
 -- x delivers those, and no number is above the expected one
 pub record Delivers (x : Taken) (r : EarlyReceiver) (n c skipped : ℕ) : Type 0 where
-  pub answers : earlyWords (x .answer) ≡ says deliver (n ∷ min largestCount (nextOf (movedPast r n c) - n) ∷ skipped ∷ [])
+  pub answers : earlyWords (x .answer)
+      ≡ says deliver (n ∷ min largestCount (nextOf (movedPast r n c) - n) ∷ skipped ∷ [])
   pub asks : requestWords (x .request) ≡ wanted (movedPast r n c) 0
   pub leaves : x .receiver ≡ movedPast r n c
   pub fits : n + c ≤ largestNumber

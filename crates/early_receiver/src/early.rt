@@ -297,7 +297,8 @@ fn end(receiver: EarlyReceiver) -> Taken
     }
 }
 
-// A datagram ahead: the messages of data are kept, and the gap before what is held, or before the datagram, is asked for.
+// A datagram ahead: the messages of data are kept, and the gap before what is held, or before the datagram, is asked
+// for.
 fn ahead(
     receiver: EarlyReceiver,
     packet: Downstream,
@@ -337,11 +338,7 @@ fn ahead_of(receiver: EarlyReceiver, number: SequenceNumber) -> Taken
             receiver,
         };
     }
-    Taken {
-        answer: Answer::Ahead,
-        request: for_held(receiver),
-        receiver,
-    }
+    stay(receiver, Answer::Ahead)
 }
 
 // A request for the numbers below the lowest held one; nothing where none is held.

@@ -1,4 +1,4 @@
--- What is held lies nearer than the datagram.
+-- What is held lies nearer than the datagram, so its number says nothing then.
 use Rattle.early_receiver.proofs.Rules.{requests}
 use Rattle.early_receiver.proofs.early.ahead_of.Statement.{statement}
 use Rattle.early_receiver.proofs.early.ahead_of.Tie as tie
@@ -11,6 +11,6 @@ ahead-of-spec =
     (λ c κs. search requests)  -- gap-requires
     (λ c κs. search requests)  -- ask-requires
     (λ c. search requests)  -- returns
-    (λ c κs. search requests)  -- for-held-requires
+    (λ c κs. search requests)  -- stay-requires
     (λ c. search requests)  -- returns-2
     )
