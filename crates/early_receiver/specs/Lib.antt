@@ -2,3 +2,4 @@ pub mod Answers
 pub mod Early
 pub mod Read
 pub mod Statements
+pub mod Steps

@@ -17,11 +17,21 @@ use wire::kinds::SequenceNumber;
 use wire::refusal;
 use wire::refusal::Refusal;
 ghost use mathlib.Core.Path.{_≡_};
+ghost use mathlib.Core.Bool.{true, false, _&&_};
+ghost use mathlib.Core.List.{[], _∷_};
+ghost use Prim.Native.Nat.{_+_, _-_, _<_, _≤_, min};
+ghost use lib.Dec.{ltb, eqb};
+ghost use Rattle.wire.specs.Bounds.{largestNumber, largestCount};
 ghost use Rattle.moldudp64.specs.Downstream.{downstreamWords};
-ghost use Rattle.early_holding.specs.Holding.{lent};
-ghost use Rattle.early_receiver.specs.Early.{StartsEarly, TakesEarly};
-ghost use Rattle.early_receiver.specs.Read.{TakesEarlyRead, EarlyReadAsWhole};
+ghost use Rattle.receiver.specs.Table.{numbered, answerWords};
+ghost use Rattle.receiver.specs.Receiver.{namedBy, numberRead, refusalRead, rowRead, afterRow};
+ghost use Rattle.early_holding.specs.Holding.{slotCount, slotBytes, lengthBytes, lent, early, takeAll};
+ghost use Rattle.early_receiver.specs.declared.early.Answer.the-variants.{Ahead, Ended};
+ghost use Rattle.early_receiver.specs.Answers.{requestWords};
+ghost use Rattle.early_receiver.specs.Early.{withSlots, wanted, StartsEarly, TakesEarly};
+ghost use Rattle.early_receiver.specs.Read.{messagesRead, TakesEarlyRead, EarlyReadAsWhole};
 ghost use Rattle.early_receiver.specs.Statements.{EarlyPromises};
+ghost use Rattle.early_receiver.specs.Steps.{Stays, movedPast, Delivers, TakesAhead, Accepts};
 
 // What the receiver answers to a datagram, by the table.
 pub enum Answer {
@@ -69,8 +79,9 @@ pub fn start(session: [u8; SESSION_SIZE], next: SequenceNumber, limit: MessageCo
 {
     let fresh = Receiver::new(session, next, limit);
     let base = fresh.receiver;
+    let refused = fresh.refusal;
     Started {
-        refusal: fresh.refusal,
+        refusal: refused,
         receiver: EarlyReceiver {
             base,
             held: Held::NOTHING,
@@ -117,24 +128,20 @@ pub fn take_read(
             receiver,
         };
     }
-    let held = receiver.held;
-    let named = EarlyReceiver {
-        base: taken.receiver,
-        held,
-    };
-    accept(named, answer, packet, lengths, slots, datagram)
+    accept(receiver, taken, packet, lengths, slots, datagram)
 }
 
 // Whether slots and lengths are of their size.
-fn is_right_size(lengths: usize, slots: usize) -> bool {
-    if slots != SLOT_BYTES {
-        return false;
-    }
-    lengths == LENGTH_BYTES
+fn is_right_size(lengths: usize, slots: usize) -> bool
+    ensures { λ r. ⌜ r ≡ eqb slots slotBytes && eqb lengths lengthBytes ⌝ }
+{
+    (slots == SLOT_BYTES) & (lengths == LENGTH_BYTES)
 }
 
 // A refusal with 19 put in before 20 where the slots are of another size.
-fn with_slots(right: bool, found: Refusal) -> Refusal {
+fn with_slots(right: bool, found: Refusal) -> Refusal
+    ensures { λ r. ⌜ r .number ≡ withSlots right (found .number) ⌝ }
+{
     if right {
         return found;
     }
@@ -148,7 +155,9 @@ fn with_slots(right: bool, found: Refusal) -> Refusal {
 }
 
 // The plain receiver's refusal, its number 0 where it answers.
-fn refusal_in(answer: plain::Answer) -> Refusal {
+fn refusal_in(answer: plain::Answer) -> Refusal
+    ensures { λ r. ⌜ r .number ≡ answerWords answer .refusal ⌝ }
+{
     match answer {
         plain::Answer::Deliver {
             first: _,
@@ -163,29 +172,39 @@ fn refusal_in(answer: plain::Answer) -> Refusal {
     }
 }
 
-// A datagram that isn't refused, which the plain receiver answers so: the receiver is that one after it, with what was
-// held before it.
+// A datagram that isn't refused, which the plain receiver took so; what was held before it is held still.
 fn accept(
     receiver: EarlyReceiver,
-    answer: plain::Answer,
+    taken: plain::Taken,
     packet: Downstream,
     lengths: &mut [u8],
     slots: &mut [u8],
     datagram: &[u8],
-) -> Taken {
+) -> Taken
+    requires { ⌜ refusalRead (receiver .base) (now datagram) (downstreamWords packet) ≡ 0 ⌝ }
+    requires { ⌜ answerWords (taken .answer) ≡ rowRead (receiver .base) (downstreamWords packet) .reply ⌝ }
+    requires { ⌜ taken .receiver ≡ afterRow (namedBy (receiver .base) (now datagram))
+        (rowRead (receiver .base) (downstreamWords packet)) ⌝ }
+    ensures { λ r. ⌜ Accepts r (now (lengths .exit)) (now (slots .exit))
+        (lent receiver (now (lengths .entry)) (now (slots .entry))) (now (datagram .entry)) (downstreamWords packet) ⌝ }
+{
+    let held = receiver.held;
+    let base = taken.receiver;
+    let moved = EarlyReceiver { base, held };
+    let answer = taken.answer;
     match answer {
         plain::Answer::Deliver {
             first,
             count,
             skipped,
-        } => deliver(receiver, first, count, skipped),
-        plain::Answer::Old => stay(receiver, Answer::Old),
-        plain::Answer::Quiet => stay(receiver, Answer::Quiet),
+        } => deliver(moved, first, count, skipped),
+        plain::Answer::Old => stay(moved, Answer::Old),
+        plain::Answer::Quiet => stay(moved, Answer::Quiet),
         plain::Answer::Ask { from: _, count: _ } => {
-            ahead(receiver, packet, lengths, slots, datagram)
+            ahead(moved, packet, lengths, slots, datagram)
         }
-        plain::Answer::Ended => end(receiver),
-        plain::Answer::Refused(r) => stay(receiver, Answer::Refused(r)),
+        plain::Answer::Ended => end(moved),
+        plain::Answer::Refused(r) => stay(moved, Answer::Refused(r)),
     }
 }
 
@@ -196,7 +215,11 @@ fn deliver(
     first: SequenceNumber,
     count: MessageCount,
     skipped: MessagePlace,
-) -> Taken {
+) -> Taken
+    requires { ⌜ receiver .base .next .0 ≡ first .0 + count .0 ⌝ }
+    requires { ⌜ receiver .base .ended ≡ false ⌝ }
+    ensures { λ r. ⌜ Delivers r receiver (first .0) (count .0) (skipped .0) ⌝ }
+{
     let held = receiver.held;
     if held.is_nothing() {
         return Taken {
@@ -209,25 +232,32 @@ fn deliver(
             receiver,
         };
     }
-    let moved = holding::move_to(first, held, first.plus(count));
-    let after = moved.next;
-    let receiver = at(receiver, after, moved.held);
+    let moved = moved_past(receiver, first, count);
+    let base = moved.base;
+    let after = base.next;
     Taken {
         answer: Answer::Deliver {
             first,
             count: first.gap(after),
             skipped,
         },
-        request: for_held(receiver),
-        receiver,
+        request: for_held(moved),
+        receiver: moved,
     }
 }
 
-// The receiver at another number, with other numbers held.
-fn at(receiver: EarlyReceiver, next: SequenceNumber, held: Held) -> EarlyReceiver {
+// The receiver moved past so many messages from a number on, and past the held ones that follow.
+fn moved_past(receiver: EarlyReceiver, first: SequenceNumber, count: MessageCount) -> EarlyReceiver
+    requires { ⌜ receiver .base .next .0 ≡ first .0 + count .0 ⌝ }
+    ensures { λ r. ⌜ r ≡ movedPast receiver (first .0) (count .0) ⌝ }
+    ensures fits { λ _. ⌜ first .0 + count .0 ≤ largestNumber ⌝ }
+{
+    let moved = holding::move_to(first, receiver.held, first.plus(count));
     let base = receiver.base;
     let session = base.session;
+    let next = moved.next;
     let limit = base.limit;
+    let held = moved.held;
     EarlyReceiver {
         base: Receiver {
             session,
@@ -240,7 +270,10 @@ fn at(receiver: EarlyReceiver, next: SequenceNumber, held: Held) -> EarlyReceive
 }
 
 // The expected number stays, and what is held too.
-fn stay(receiver: EarlyReceiver, answer: Answer) -> Taken {
+fn stay(receiver: EarlyReceiver, answer: Answer) -> Taken
+    requires { ⌜ receiver .base .ended ≡ false ⌝ }
+    ensures { λ r. ⌜ Stays r receiver answer 0 ⌝ }
+{
     Taken {
         answer,
         request: for_held(receiver),
@@ -249,7 +282,10 @@ fn stay(receiver: EarlyReceiver, answer: Answer) -> Taken {
 }
 
 // The session ends: nothing is held any more.
-fn end(receiver: EarlyReceiver) -> Taken {
+fn end(receiver: EarlyReceiver) -> Taken
+    requires { ⌜ receiver .base .ended ≡ true ⌝ }
+    ensures { λ r. ⌜ Stays r (early (receiver .base) 0) Ended 0 ⌝ }
+{
     let base = receiver.base;
     Taken {
         answer: Answer::Ended,
@@ -261,17 +297,23 @@ fn end(receiver: EarlyReceiver) -> Taken {
     }
 }
 
-// A datagram ahead: the messages of data are kept, and the gap before what is held, or before the datagram, is asked for.
+// A datagram ahead: the messages of data are kept, and the gap before what is held, or before the datagram, is asked
+// for.
 fn ahead(
     receiver: EarlyReceiver,
     packet: Downstream,
     lengths: &mut [u8],
     slots: &mut [u8],
     datagram: &[u8],
-) -> Taken {
+) -> Taken
+    requires { ⌜ receiver .base .ended ≡ false ⌝ }
+    requires { ⌜ receiver .base .next .0 < numberRead (downstreamWords packet) ⌝ }
+    ensures { λ r. ⌜ TakesAhead r (now (lengths .exit)) (now (slots .exit))
+        (lent receiver (now (lengths .entry)) (now (slots .entry))) (now (datagram .entry)) (downstreamWords packet) ⌝ }
+{
     match packet {
         Downstream::Data { first, count } => {
-            let kept = keep_all(receiver, lengths, slots, datagram, first, count);
+            let kept = keep_all(first, count, receiver, lengths, slots, datagram);
             ahead_of(kept, first)
         }
         Downstream::Heartbeat { next } => ahead_of(receiver, next),
@@ -281,22 +323,29 @@ fn ahead(
 }
 
 // The answer to a datagram with a number above the expected one.
-fn ahead_of(receiver: EarlyReceiver, number: SequenceNumber) -> Taken {
+fn ahead_of(receiver: EarlyReceiver, number: SequenceNumber) -> Taken
+    requires { ⌜ receiver .base .ended ≡ false ⌝ }
+    requires { ⌜ receiver .base .next .0 < number .0 ⌝ }
+    ensures { λ r. ⌜ Stays r receiver Ahead (number .0) ⌝ }
+{
     let held = receiver.held;
-    if !held.is_nothing() {
-        return stay(receiver, Answer::Ahead);
+    if held.is_nothing() {
+        let base = receiver.base;
+        let next = base.next;
+        return Taken {
+            answer: Answer::Ahead,
+            request: ask(receiver, next.gap(number)),
+            receiver,
+        };
     }
-    let base = receiver.base;
-    let next = base.next;
-    Taken {
-        answer: Answer::Ahead,
-        request: ask(receiver, next.gap(number)),
-        receiver,
-    }
+    stay(receiver, Answer::Ahead)
 }
 
 // A request for the numbers below the lowest held one; nothing where none is held.
-fn for_held(receiver: EarlyReceiver) -> Request {
+fn for_held(receiver: EarlyReceiver) -> Request
+    requires { ⌜ receiver .base .ended ≡ false ⌝ }
+    ensures { λ r. ⌜ requestWords r ≡ wanted receiver 0 ⌝ }
+{
     let held = receiver.held;
     if held.is_nothing() {
         return Request::Nothing;
@@ -305,7 +354,9 @@ fn for_held(receiver: EarlyReceiver) -> Request {
 }
 
 // A request from the expected number on, for the smaller of the gap and the limit.
-fn ask(receiver: EarlyReceiver, gap: MessageCount) -> Request {
+fn ask(receiver: EarlyReceiver, gap: MessageCount) -> Request
+    ensures { λ r. ⌜ requestWords r ≡ receiver .base .next .0 ∷ min (gap .0) (receiver .base .limit .0) ∷ [] ⌝ }
+{
     let base = receiver.base;
     let next = base.next;
     let limit = base.limit;
@@ -317,19 +368,48 @@ fn ask(receiver: EarlyReceiver, gap: MessageCount) -> Request {
 
 // The messages of data ahead, one at a time in rising number; none where even the first lies too far.
 fn keep_all(
+    first: SequenceNumber,
+    count: MessageCount,
     receiver: EarlyReceiver,
     lengths: &mut [u8],
     slots: &mut [u8],
     datagram: &[u8],
-    first: SequenceNumber,
-    count: MessageCount,
-) -> EarlyReceiver {
-    let base = receiver.base;
-    let next = base.next;
-    if SLOTS.is_below(next.gap(first)) {
+) -> EarlyReceiver
+    requires { ⌜ receiver .base .next .0 < first .0 ⌝ }
+    ensures { λ r. ⌜ lent r (now (lengths .exit)) (now (slots .exit))
+        ≡ takeAll (lent receiver (now (lengths .entry)) (now (slots .entry))) (first .0)
+        (messagesRead (now (datagram .entry)) (numbered (first .0) (count .0))) ⌝ }
+{
+    if is_far(receiver, first) {
         return receiver;
     }
-    let end = first.plus(count);
+    keep_to(first, first.plus(count), receiver, lengths, slots, datagram)
+}
+
+// Whether a number lies too far above the expected one to be kept.
+fn is_far(receiver: EarlyReceiver, number: SequenceNumber) -> bool
+    ensures { λ r. ⌜ r ≡ ltb slotCount (number .0 - receiver .base .next .0) ⌝ }
+{
+    let base = receiver.base;
+    let next = base.next;
+    SLOTS.is_below(next.gap(number))
+}
+
+// A datagram's messages, the first with this number, and the last just below end.
+fn keep_to(
+    first: SequenceNumber,
+    end: SequenceNumber,
+    receiver: EarlyReceiver,
+    lengths: &mut [u8],
+    slots: &mut [u8],
+    datagram: &[u8],
+) -> EarlyReceiver
+    requires { ⌜ receiver .base .next .0 < first .0 ⌝ }
+    requires { ⌜ end .0 - first .0 ≤ largestCount ⌝ }
+    ensures { λ r. ⌜ lent r (now (lengths .exit)) (now (slots .exit))
+        ≡ takeAll (lent receiver (now (lengths .entry)) (now (slots .entry))) (first .0)
+        (messagesRead (now (datagram .entry)) (end .0 - first .0)) ⌝ }
+{
     let mut kept = receiver;
     let mut number = first;
     let mut cursor = Cursor::first(first.gap(end));

@@ -60,7 +60,7 @@ module _ (limit n f c : ℕ) where
   unfolding table
   row-end h = rw (le-ltb _ _ h)
 
-  rows : (k : DownstreamKind) → (k ≡ end-of-session → n ≤ f) → Row limit n k f c (table limit n k f c)
+  pub rows : (k : DownstreamKind) → (k ≡ end-of-session → n ≤ f) → Row limit n k f c (table limit n k f c)
   rows k g = below-or-not _ n f (λ h. any-above h (row-above k h)) (λ h. at-or-below k g h)
     where
       at-or-below : (k : DownstreamKind) → (k ≡ end-of-session → n ≤ f) → f ≤ n → Row limit n k f c (table limit n k f c)
@@ -87,12 +87,12 @@ open-so r l e = go (eqb (refusalOf l) 0) refl e
 pub well-read : (r : Receiver) (l : List ℕ) → refusalFor r l ≡ 0 → refusalOf l ≡ 0
 well-read r l e = open-so r l e .well
 
-record NoRung (r : Receiver) (l : List ℕ) (t : Bool) : Type 0 where
-  its-session : otherSession r l ≡ false
-  unended : r .ended ≡ false
-  no-end : t ≡ false
+pub record NoRung (r : Receiver) (l : List ℕ) (t : Bool) : Type 0 where
+  pub its-session : otherSession r l ≡ false
+  pub unended : r .ended ≡ false
+  pub no-end : t ≡ false
 
-own-none : (r : Receiver) (l : List ℕ) (t : Bool) → ownRefusal r l t ≡ 0 → NoRung r l t
+pub own-none : (r : Receiver) (l : List ℕ) (t : Bool) → ownRefusal r l t ≡ 0 → NoRung r l t
 unfolding ownRefusal
 own-none r l t e =
     let g = go (otherSession r l) (r .ended) t e in

@@ -24,11 +24,11 @@ module _ (r : Receiver) (l : List ℕ) where
     unfolding downstreamOf
     reads-refused = rw (ne-eqb _ _ bad)
 
-    refuses-it : refusalFor r l ≡ refusalOf l
+    pub refuses-it : refusalFor r l ≡ refusalOf l
     unfolding refusalFor
     refuses-it = rw (ne-eqb _ _ bad)
 
-    refused-read : refusalRead r l (downstreamOf l) ≡ refusalFor r l
+    pub refused-read : refusalRead r l (downstreamOf l) ≡ refusalFor r l
     unfolding refusalRead
     refused-read = rw (reads-refused, refuses-it, ne-eqb _ _ bad)
 
@@ -42,25 +42,25 @@ module _ (r : Receiver) (l : List ℕ) where
 
   -- one that is well-formed, by its kind
   module _ (well : refusalOf l ≡ 0) where
-    reads : downstreamOf l ≡ says (kindOf l) (valuesOf (kindOf l) l)
+    pub reads : downstreamOf l ≡ says (kindOf l) (valuesOf (kindOf l) l)
     unfolding downstreamOf
     reads = rw well
 
     -- all of its messages can be numbered
-    count-of : kindOf l ≡ data-packet → numbered (numberOf l) (countOf l) ≡ countOf l
+    pub count-of : kindOf l ≡ data-packet → numbered (numberOf l) (countOf l) ≡ countOf l
     unfolding blockCount
     count-of e = let s = rw e at (sound l well .numbers-fit) in omega arith
 
-    number-of : (k : DownstreamKind) → numberRead (says k (valuesOf k l)) ≡ numberOf l
+    pub number-of : (k : DownstreamKind) → numberRead (says k (valuesOf k l)) ≡ numberOf l
     number-of data-packet = refl
     number-of heartbeat = refl
     number-of end-of-session = refl
 
-    refusal-as : (k : DownstreamKind) → kindOf l ≡ k → refusalRead r l (says k (valuesOf k l)) ≡ refusalFor r l
+    pub refusal-as : (k : DownstreamKind) → kindOf l ≡ k → refusalRead r l (says k (valuesOf k l)) ≡ refusalFor r l
     unfolding refusalRead belowReadAt
     refusal-as k e = rw (number-of k) (rw e at (past-16 r l well))
 
-    row-as : (k : DownstreamKind) → kindOf l ≡ k → rowRead r (says k (valuesOf k l)) ≡ table (r .limit .0) (r .next .0) k (numberOf l) (countOf l)
+    pub row-as : (k : DownstreamKind) → kindOf l ≡ k → rowRead r (says k (valuesOf k l)) ≡ table (r .limit .0) (r .next .0) k (numberOf l) (countOf l)
     unfolding rowReadAt table
     row-as data-packet e = rw (count-of e)
     row-as heartbeat e = refl
@@ -74,7 +74,7 @@ module _ (r : Receiver) (l : List ℕ) where
     unfolding afterRead receiverAfter
     well-left = rw (reads, refusal-as (kindOf l) refl, row-as (kindOf l) refl)
 
-  by-reader : {P : Type 0} → ((refusalOf l ≡ 0 → ⊥) → P) → (refusalOf l ≡ 0 → P) → P
+  pub by-reader : {P : Type 0} → ((refusalOf l ≡ 0 → ⊥) → P) → (refusalOf l ≡ 0 → P) → P
   by-reader {P} f g = go (eqb (refusalOf l) 0) refl
     where
       go : (t : Bool) → eqb (refusalOf l) 0 ≡ t → P

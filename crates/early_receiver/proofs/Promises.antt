@@ -1,0 +1,15 @@
+-- What taking a datagram promises beside its answer.
+use Rattle.early_receiver.specs.Statements.{EarlyPromises}
+use Rattle.early_receiver.proofs.RequestLaws.{early-refusal-keeps, asks-exactly-when, counts-all, answers-apart, requests-apart}
+use Rattle.early_receiver.proofs.ByteLaws.{only-held-bytes-change}
+
+pub early-promises : EarlyPromises
+early-promises =
+    record {
+      refusal-keeps = early-refusal-keeps;
+      only-held-bytes-change = only-held-bytes-change;
+      asks-exactly-when = asks-exactly-when;
+      counts-all = counts-all;
+      answers-apart = answers-apart;
+      requests-apart = requests-apart;
+    }
