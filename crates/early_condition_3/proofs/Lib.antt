@@ -11,3 +11,5 @@ pub mod NamedLaws
 pub mod ConditionLaws
 pub mod MadeLaws
 pub mod SwappedLaws
+pub mod StartLaws
+pub mod Rules

@@ -1,2 +1,3 @@
+pub mod Start
 pub mod Condition3
 pub mod Swapped

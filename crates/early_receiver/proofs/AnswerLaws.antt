@@ -1,4 +1,4 @@
--- Laws of the small functions: the start, the refusal with 19, and the request.
+-- Laws of the small functions: the refusal with 19, and the request.
 use mathlib.Core.Path.{_≡_, refl, _∙_}
 use mathlib.Core.List.{List, [], _∷_}
 use mathlib.Core.Bool.{Bool, true, false}
@@ -30,12 +30,6 @@ use Rattle.early_receiver.specs.declared.early.Taken.{Taken}
 use Rattle.early_receiver.specs.Answers.{requestWords}
 use Rattle.early_receiver.specs.Early.{startEarly, withSlots, wantedTo, wanted}
 use Rattle.early_receiver.specs.Steps.{Stays}
-
--- ---- the start
-
-pub start-is : (b : Receiver) (name : List ℕ) (n limit : ℕ) → b ≡ startReceiver name n limit → early b 0 ≡ startEarly name n limit
-unfolding startEarly
-start-is b name n limit e = rw e
 
 -- ---- the plain receiver's refusal
 

@@ -170,7 +170,7 @@ kind-little s end-of-session l w = either (eqb (numberOf l) (nextOf (s .receiver
 
 pub counts-all : CountsAll
 unfolding CountsAll lentAfter
-counts-all s l b =
+counts-all s l =
     zero-or-not _ (earlyRefusal s l) (λ e. rw e (kind-little (namedLent s l) (kindOf l) l (well-open s l e))) (λ z. rw (ne-eqb _ _ z) (omega arith))
 
 -- ---- the words tell all answers and requests apart: they read back

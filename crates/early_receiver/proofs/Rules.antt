@@ -2,12 +2,10 @@
 use borrow.Author.Needs.{needs}
 use Rattle.wire.proofs.TestLaws.{tests}
 use Rattle.early_receiver.proofs.KeepingLaws.{far-is, keep-far, keeping-start, keeping-next, keeping-less, keeping-lengths, keeping-slots, keeping-end, keep-few, keep-numbered}
-use Rattle.early_receiver.proofs.AnswerLaws.{start-is, in-deliver, in-old, in-quiet, in-ask, in-ended, in-refused, slots-right, slots-none, slots-above, slots-below, ask-is, lowest-fits, wants-nothing, wants-ahead, wants-held, ends-so, ahead-held}
+use Rattle.early_receiver.proofs.AnswerLaws.{in-deliver, in-old, in-quiet, in-ask, in-ended, in-refused, slots-right, slots-none, slots-above, slots-below, ask-is, lowest-fits, wants-nothing, wants-ahead, wants-held, ends-so, ahead-held}
 use Rattle.early_receiver.proofs.StepLaws.{past-fits, past-held, deliver-free, deliver-held, moved-open, data-above, beat-above, end-above, kept-open, kept-above, ahead-kept, ahead-beat, ahead-end, ahead-refused}
 use Rattle.early_receiver.proofs.AcceptLaws.{deliver-next, deliver-open, accept-deliver, old-open, accept-old, quiet-open, accept-quiet, refused-open, accept-refused, ask-above, ask-open, accept-ask, over-ended, accept-ended}
 use Rattle.early_receiver.proofs.ReadLaws.{whole-takes, take-refused, take-open, take-row, take-moved, take-done}
-
-pub ruleset starts = (start-is, needs)
 
 pub ruleset refusals = (in-deliver, in-old, in-quiet, in-ask, in-ended, in-refused, slots-right, slots-none, slots-above, slots-below, needs)
 

@@ -13,11 +13,10 @@ use Rattle.wire.specs.Words.{Words, Case, answer, refused, says, refuses}
 use Rattle.moldudp64.specs.Header.{numberOf}
 use Rattle.moldudp64.specs.Downstream.{DownstreamKind, data-packet, heartbeat, end-of-session, kindOf, messagesOf}
 use Rattle.receiver.specs.Table.{AnswerKind, deliver, old, quiet, ask, ended, askFor}
-use Rattle.receiver.specs.Receiver.{receiver, receiverStartRefusal, startReceiver, namedBy, refusalFor, tableRow}
+use Rattle.receiver.specs.Receiver.{receiver, startReceiver, namedBy, refusalFor, tableRow}
 use Rattle.early_word.specs.Word.{lowest}
 use Rattle.early_holding.specs.declared.holding.EarlyReceiver.{EarlyReceiver}
 use Rattle.early_holding.specs.Holding.{slotBytes, lengthBytes, Lent, lent, early, nextOf, takeAll}
-use Rattle.early_receiver.specs.declared.early.Started.{Started}
 use Rattle.early_receiver.specs.declared.early.Taken.{Taken}
 use Rattle.early_receiver.specs.Answers.{earlyWords, requestWords}
 
@@ -103,12 +102,6 @@ earlyAnswer s l =
     then answerBy (tableRow (s .receiver .base) l .reply .which) (nextOf (s .receiver)) (numberOf l)
     (nextOf (lentAfter s l .receiver))
     else refuses (earlyRefusal s l)
-
--- ---- what `start` promises, which returned x
-
-abbrev pub StartsEarly : Started → List ℕ → ℕ → ℕ → Type 0
-StartsEarly x name n limit =
-    (x .refusal .number ≡ receiverStartRefusal n limit) × (x .receiver ≡ startEarly name n limit)
 
 -- ---- what `take` promises, which returned x and left the lengths ls and the slots ss
 

@@ -51,8 +51,7 @@ pub record AsksExactlyWhen : Type 0 where
 
 -- a count holds what a datagram delivers, held messages too
 unfoldable pub CountsAll : Type 0
-CountsAll = (s : Lent) (l : List ℕ) → s .receiver .held .0 < 2 ^ wordBits
-    → nextOf (lentAfter s l .receiver) - nextOf (s .receiver) ≤ largestCount
+CountsAll = (s : Lent) (l : List ℕ) → nextOf (lentAfter s l .receiver) - nextOf (s .receiver) ≤ largestCount
 
 -- what taking a datagram promises beside its answer
 pub record EarlyPromises : Type 0 where

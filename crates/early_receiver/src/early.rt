@@ -1,4 +1,4 @@
-// The receiver's start, and its taking of a datagram.
+// The receiver's taking of a datagram.
 use early_holding::holding;
 use early_holding::holding::EarlyReceiver;
 use early_holding::holding::LENGTH_BYTES;
@@ -12,7 +12,6 @@ use receiver::receiver as plain;
 use receiver::receiver::Receiver;
 use wire::kinds::MessageCount;
 use wire::kinds::MessagePlace;
-use wire::kinds::SESSION_SIZE;
 use wire::kinds::SequenceNumber;
 use wire::refusal;
 use wire::refusal::Refusal;
@@ -28,7 +27,7 @@ ghost use Rattle.receiver.specs.Receiver.{namedBy, numberRead, refusalRead, row
 ghost use Rattle.early_holding.specs.Holding.{slotCount, slotBytes, lengthBytes, lent, early, takeAll};
 ghost use Rattle.early_receiver.specs.declared.early.Answer.the-variants.{Ahead, Ended};
 ghost use Rattle.early_receiver.specs.Answers.{requestWords};
-ghost use Rattle.early_receiver.specs.Early.{withSlots, wanted, StartsEarly, TakesEarly};
+ghost use Rattle.early_receiver.specs.Early.{withSlots, wanted, TakesEarly};
 ghost use Rattle.early_receiver.specs.Read.{messagesRead, TakesEarlyRead, EarlyReadAsWhole};
 ghost use Rattle.early_receiver.specs.Statements.{EarlyPromises};
 ghost use Rattle.early_receiver.specs.Steps.{Stays, movedPast, Delivers, TakesAhead, Accepts};
@@ -65,28 +64,6 @@ pub struct Taken {
     pub answer: Answer,
     pub request: Request,
     pub receiver: EarlyReceiver,
-}
-
-// The refusal of a start, its number 0 where there is none, and the receiver.
-pub struct Started {
-    pub refusal: Refusal,
-    pub receiver: EarlyReceiver,
-}
-
-// A fresh receiver that holds nothing, or the refusal 19. A blank name is learned, as by the plain receiver.
-pub fn start(session: [u8; SESSION_SIZE], next: SequenceNumber, limit: MessageCount) -> Started
-    ensures { λ r. ⌜ StartsEarly r session (next .0) (limit .0) ⌝ }
-{
-    let fresh = Receiver::new(session, next, limit);
-    let base = fresh.receiver;
-    let refused = fresh.refusal;
-    Started {
-        refusal: refused,
-        receiver: EarlyReceiver {
-            base,
-            held: Held::NOTHING,
-        },
-    }
 }
 
 // Takes a datagram, with one walk over its blocks, and a second over those that it keeps.
