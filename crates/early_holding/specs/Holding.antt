@@ -75,8 +75,8 @@ heldMessage s j = take (lengthOf (s .lengths) j) (drop (slotAt j) (s .slots))
 
 -- ---- one message
 
--- the number behind n and every held one that follows without a gap: the run of ones at the low end of the word. Numbers
--- end at the largest, which only a receiver that was made up comes to
+-- the number behind n and every held one that follows without a gap: the run of ones at the low end of the word.
+-- Numbers end at the largest, which only a receiver that was made up comes to
 unfoldable pub behind : ℕ → ℕ → ℕ
 behind n held = min largestNumber (n + (run held + 1))
 
@@ -115,7 +115,7 @@ unfoldable pub takeAll : Lent → ℕ → List (List ℕ) → Lent
 takeAll s f [] = s
 takeAll s f (m ∷ ms) = takeAll (takeOne s f m) (f + 1) ms
 
--- ---- n and the word alone, over the numbers f to f + c - 1 one at a time: those below n are left, and so are those above
+-- ---- n and the word alone, over the numbers f to f + c - 1 one at a time: those below n, and those above, are left
 
 abbrev pub moved : ℕ → ℕ → Moved
 moved n held = record { next = record { 0 = n }; held = record { 0 = held } }

@@ -13,11 +13,9 @@ use Rattle.wire.specs.declared.refusal.Refusal.{Refusal}
 use Rattle.wire.specs.declared.kinds.SequenceNumber.{SequenceNumber}
 use Rattle.wire.specs.declared.kinds.MessageCount.{MessageCount}
 use Rattle.wire.specs.declared.kinds.MessagePlace.{MessagePlace}
-use Rattle.receiver.specs.declared.receiver.Receiver.{Receiver}
 use Rattle.receiver.specs.declared.receiver.Answer.{Answer as Plain}
 use Rattle.receiver.specs.declared.receiver.Answer.the-variants as plain
 use Rattle.receiver.specs.Table.{answerWords}
-use Rattle.receiver.specs.Receiver.{startReceiver}
 use Rattle.early_word.specs.Word.{lowest}
 use Rattle.early_word.proofs.WordLaws.{zeros-le}
 use Rattle.early_holding.specs.declared.holding.EarlyReceiver.{EarlyReceiver}
@@ -28,7 +26,7 @@ use Rattle.early_receiver.specs.declared.early.Request.{Request}
 use Rattle.early_receiver.specs.declared.early.Request.the-variants.{Nothing, Ask}
 use Rattle.early_receiver.specs.declared.early.Taken.{Taken}
 use Rattle.early_receiver.specs.Answers.{requestWords}
-use Rattle.early_receiver.specs.Early.{startEarly, withSlots, wantedTo, wanted}
+use Rattle.early_receiver.specs.Early.{withSlots, wantedTo, wanted}
 use Rattle.early_receiver.specs.Steps.{Stays}
 
 -- ---- the plain receiver's refusal

@@ -1,4 +1,4 @@
--- What the receiver that keeps early messages answers, in words: an answer by the table, and beside it perhaps a request.
+-- What the receiver that keeps early messages answers, in words: an answer by the table, and perhaps a request beside.
 use Prim.Native.Nat.{ℕ}
 use mathlib.Core.List.{List, [], _∷_}
 use Rattle.wire.specs.Words.{Words, says, refusedWords}

@@ -1,5 +1,5 @@
--- The receiver that keeps early messages: its start, its refusals, what it is after a datagram, what it answers, and what
--- it asks for.
+-- The receiver that keeps early messages: its start, its refusals, what it is after a datagram, what it answers, and
+-- what it asks for.
 use Prim.Native.Nat.{ℕ, _+_, _-_, min}
 use mathlib.Core.List.{List, [], _∷_}
 use mathlib.Core.Bool.{Bool, true, _&&_}
@@ -85,8 +85,8 @@ wanted r f =
 unfoldable pub requestOf : Lent → List ℕ → List ℕ
 requestOf s l = if eqb (earlyRefusal s l) 0 then wanted (lentAfter s l .receiver) (numberOf l) else []
 
--- ---- the answer: the table's row at n before the step, f being the datagram's number; a deliver answer counts all that
--- the step delivers, held messages too, up to the number after it. A count holds that of every datagram
+-- ---- the answer: the table's row at n before the step, f being the datagram's number; a deliver answer counts all
+-- that the step delivers, held messages too, up to the number after it. A count holds that of every datagram
 
 unfoldable pub answerBy : Case AnswerKind → ℕ → ℕ → ℕ → Words AnswerKind
 answerBy (answer deliver) n f after = says deliver (n ∷ min largestCount (after - n) ∷ (n - f) ∷ [])

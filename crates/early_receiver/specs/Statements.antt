@@ -1,5 +1,5 @@
 -- What is promised of the receiver that keeps early messages at one datagram.
-use Prim.Native.Nat.{ℕ, _+_, _-_, _^_, _<_, _≤_}
+use Prim.Native.Nat.{ℕ, _+_, _-_, _<_, _≤_}
 use mathlib.Core.List.{List, [], _∷_}
 use mathlib.Core.Bool.{true, false}
 use mathlib.Core.Path.{_≡_}
@@ -8,7 +8,6 @@ use Rattle.wire.specs.Bounds.{largestCount}
 use Rattle.wire.specs.Words.{Injective}
 use Rattle.moldudp64.specs.Header.{numberOf}
 use Rattle.receiver.specs.Table.{askFor}
-use Rattle.early_word.specs.Word.{wordBits}
 use Rattle.early_holding.specs.Holding.{slotAt, Lent, nextOf, isHeld, heldMessage}
 use Rattle.early_receiver.specs.Answers.{earlyWords, requestWords}
 use Rattle.early_receiver.specs.Early.{earlyRefusal, lentAfter, requestOf, wantedTo}
