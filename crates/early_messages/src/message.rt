@@ -96,7 +96,8 @@ fn left_from(s: &[u8], at: ByteOffset) -> usize
 // Where the message of a number lies in the slots; a length that was made up ends with them.
 pub(crate) fn slot_part(lengths: &[u8], slots: &[u8], number: SequenceNumber) -> Part
     ensures { λ r. ⌜ r ≡ inSlots (slotAt (number .0))
-        (length (take (lengthOf (now (lengths .entry)) (number .0)) (drop (slotAt (number .0)) (now (slots .entry))))) ⌝ }
+        (length (take (lengthOf (now (lengths .entry)) (number .0))
+        (drop (slotAt (number .0)) (now (slots .entry))))) ⌝ }
 {
     let slot = holding::slot_of(number);
     let at = ByteOffset(slot * SLOT_SIZE);

@@ -1,5 +1,5 @@
-// The word of 64 bits that marks the numbers of held messages: what stands at its low end, a bit tested and set, and its
-// low bits dropped. Its lowest bit stands for the number after the expected one.
+// The word of 64 bits that marks the numbers of held messages: what stands at its low end, a bit tested and set, and
+// its low bits dropped. Its lowest bit stands for the number after the expected one.
 use wire::kinds::MessageCount;
 use wire::kinds::MessagePlace;
 ghost use mathlib.Core.Path.{_≡_};
