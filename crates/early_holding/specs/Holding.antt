@@ -75,8 +75,8 @@ heldMessage s j = take (lengthOf (s .lengths) j) (drop (slotAt j) (s .slots))
 
 -- ---- one message
 
--- the number behind n and every held one that follows without a gap: the run of ones at the low end of the word.
--- Numbers end at the largest, which only a receiver that was made up comes to
+-- the number after n and after every held one that follows without a gap: the run of ones at the low end of the word.
+-- Numbers end at the largest, which only a receiver that was made up would pass
 unfoldable pub behind : ℕ → ℕ → ℕ
 behind n held = min largestNumber (n + (run held + 1))
 

@@ -37,7 +37,7 @@ pub struct Moved {
 }
 
 // The expected number moved past the messages to just below end, and past every held message that follows one of them
-// without a gap. With nothing held it is end at once.
+// without a gap. With nothing held it is end at once, where that lies above.
 pub fn move_to(next: SequenceNumber, held: Held, end: SequenceNumber) -> Moved
     ensures { λ r. ⌜ r ≡ moveTo (next .0) (held .0) (end .0) ⌝ }
 {
@@ -68,7 +68,7 @@ pub fn slot_of(number: SequenceNumber) -> usize
 }
 
 impl EarlyReceiver {
-    // How far a number above the expected one lies behind the one after it: its place in the word.
+    // How far a number above the expected one lies from the one after that: its place in the word.
     fn place_of(self, number: SequenceNumber) -> MessagePlace
         requires { ⌜ self .base .next .0 < number .0 ⌝ }
         ensures { λ r. ⌜ r .0 ≡ min largestCount (number .0 - self .base .next .0 - 1) ⌝ }
@@ -132,7 +132,8 @@ impl EarlyReceiver {
         }
     }
 
-    // One message that isn't the expected one: kept, or left.
+    // One message that isn't the expected one: kept, or left. Where the slots are too short nothing is laid, though the
+    // number is marked: `take` has refused such slots before.
     pub fn keep(
         self,
         lengths: &mut [u8],

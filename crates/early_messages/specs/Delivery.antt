@@ -88,6 +88,7 @@ givesKind s end-of-session l = []
 unfoldable pub gives : Lent → List ℕ → List (List ℕ)
 gives s l = if eqb (earlyRefusal s l) 0 then givesKind s (kindOf l) l else []
 
--- the messages had by place before the step are those that the step delivers, for every receiver, made up or not
+-- the messages had by place before the step are those that the step delivers, for every receiver,
+-- made up or not, whose word is one of 64 bits
 unfoldable pub PlacesAreDelivered : Type 0
 PlacesAreDelivered = (s : Lent) (l : List ℕ) → s .receiver .held .0 < 2 ^ wordBits → delivery s l ≡ gives s l

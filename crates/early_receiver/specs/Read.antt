@@ -1,5 +1,6 @@
 -- The same by what a reader found, in its words w; l is the datagram whose session and whose blocks are looked at.
--- Anyone can make the words up, or take another datagram's: a message that isn't there then has no bytes.
+-- Anyone can make the words up, or take another datagram's: a message that isn't there then has no bytes, and a refusal
+-- of number 0 is none, so that it may name and ask.
 use Prim.Native.Nat.{ℕ, zero, suc}
 use mathlib.Core.List.{List, [], _∷_}
 use mathlib.Core.Path.{_≡_}

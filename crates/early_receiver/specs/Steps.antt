@@ -26,7 +26,7 @@ pub record Stays (x : Taken) (r : EarlyReceiver) (a : Answer) (f : ℕ) : Type 0
 abbrev pub movedPast : EarlyReceiver → ℕ → ℕ → EarlyReceiver
 movedPast r n c = early (at (r .base) (moveTo n (r .held .0) (n + c) .next .0)) (moveTo n (r .held .0) (n + c) .held .0)
 
--- x delivers those, and no number is above the expected one
+-- x delivers those; its request is by what is held, for the datagram states no number above the expected one
 pub record Delivers (x : Taken) (r : EarlyReceiver) (n c skipped : ℕ) : Type 0 where
   pub answers : earlyWords (x .answer)
       ≡ says deliver (n ∷ min largestCount (nextOf (movedPast r n c) - n) ∷ skipped ∷ [])

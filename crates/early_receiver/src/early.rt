@@ -66,7 +66,7 @@ pub struct Taken {
     pub receiver: EarlyReceiver,
 }
 
-// Takes a datagram, with one walk over its blocks, and a second over those that it keeps.
+// Takes a datagram: the reader walks over its blocks, and a datagram ahead of the expected number is walked over again.
 pub fn take(receiver: EarlyReceiver, lengths: &mut [u8], slots: &mut [u8], datagram: &[u8]) -> Taken
     ensures { λ r. ⌜ TakesEarly r (now (lengths .exit)) (now (slots .exit))
         (lent receiver (now (lengths .entry)) (now (slots .entry))) (now (datagram .entry)) ⌝ }
@@ -149,7 +149,7 @@ fn refusal_in(answer: plain::Answer) -> Refusal
     }
 }
 
-// A datagram that isn't refused, which the plain receiver took so; what was held before it is held still.
+// A datagram that isn't refused, which the plain receiver took so.
 fn accept(
     receiver: EarlyReceiver,
     taken: plain::Taken,
