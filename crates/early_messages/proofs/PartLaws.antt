@@ -21,6 +21,7 @@ use Rattle.early_holding.specs.Holding.{slotAt, Lent, lent, nextOf, isHeld, len
 use Rattle.early_holding.proofs.HoldingLaws.{either}
 use Rattle.early_messages.specs.declared.message.Part.{Part}
 use Rattle.early_messages.specs.Delivery.{deliveredCount, messageWith, messageAt, inSlots, inDatagram, noPart, partWith, partAt, bytesOf}
+use Rattle.early_messages.specs.Delivery.{PartsAreMessages}
 use Rattle.early_messages.proofs.ReachLaws.{opens}
 use Rattle.early_messages.proofs.CountLaws.{delivered, few}
 
@@ -129,6 +130,10 @@ module _ (s : Lent) (l : List ℕ) (p : ℕ) where
         is-it = part-of l (j - numberOf l) ∙ sym (at-there q h);
       })))
       (λ q. rw q (record { in-slots = λ x. absurd (true≢false (sym x)); in-datagram = λ x. omega arith; is-it = sym (at-none q) }))
+
+pub parts-are-messages : PartsAreMessages
+unfolding PartsAreMessages
+parts-are-messages s l p = names s l p .is-it
 
 module _ (r : EarlyReceiver) (k s l : List ℕ) (p : ℕ) (q : Part) (e : q ≡ partAt (lent r k s) l p) where
   named : Names (lent r k s) l p q

@@ -54,6 +54,10 @@ partAt s l p = if ltb p (deliveredCount s l) then partWith s l (numberAt s p) el
 abbrev pub bytesOf : List ℕ → List ℕ → Part → List ℕ
 bytesOf slots l p = take (p .length) (drop (p .offset .0) (if p .held then slots else l))
 
+-- a part by place names its message's bytes
+unfoldable pub PartsAreMessages : Type 0
+PartsAreMessages = (s : Lent) (l : List ℕ) (p : ℕ) → bytesOf (s .slots) l (partAt s l p) ≡ messageAt s l p
+
 -- the messages at k places from p on
 unfoldable pub messagesAt : Lent → List ℕ → ℕ → ℕ → List (List ℕ)
 messagesAt s l p zero = []

@@ -20,7 +20,7 @@ ghost use lib.ListN.{length, take, drop};
 ghost use Rattle.wire.specs.Bounds.{largestCount};
 ghost use Rattle.early_holding.specs.Holding.{slotAt, lengthOf, lent};
 ghost use Rattle.early_messages.specs.Delivery.{inSlots, inDatagram, noPart, deliveredCount, partAt};
-ghost use Rattle.early_messages.specs.Delivery.{messageAt, PlacesAreDelivered};
+ghost use Rattle.early_messages.specs.Delivery.{messageAt, PartsAreMessages, PlacesAreDelivered};
 
 // Whether the message is there, whether it lies in the slots, and its offset and length there or in the datagram.
 pub struct Part {
@@ -122,6 +122,7 @@ pub fn locate(
 ) -> Part
     ensures { λ r. ⌜ r ≡ partAt (lent receiver (now (lengths .entry)) (now (slots .entry))) (now (datagram .entry))
         (place .0) ⌝ }
+    ensures messages { λ _. ⌜ PartsAreMessages ⌝ }
 {
     let there = count(receiver, lengths, slots, datagram);
     let before = place.before();
