@@ -21,8 +21,8 @@ use Rattle.moldudp64.proofs.DownstreamLaws.{sound, count-sound}
 use Rattle.receiver.specs.declared.receiver.Receiver.{Receiver}
 use Rattle.receiver.specs.Table.{AnswerKind, deliver, old, quiet, ask, ended, askFor}
 use Rattle.receiver.proofs.Promises.{well-read}
-use Rattle.early_word.specs.Word.{bit, run, lowest, past}
-use Rattle.early_word.proofs.WordLaws.{ones-le, zeros-clear}
+use Rattle.early_word.specs.Word.{bit, run, lowest, past, wordBits}
+use Rattle.early_word.proofs.WordLaws.{ones-le, zeros-clear, zeros-one}
 use Rattle.early_holding.specs.declared.holding.EarlyReceiver.{EarlyReceiver}
 use Rattle.early_holding.specs.Holding.{Lent, nextOf, isHeld, behind, advance, takeOne, takeAll, moveBy, moveTo}
 use Rattle.early_holding.proofs.HoldingLaws.{either}
@@ -106,6 +106,26 @@ lowest-held r f j e = either (ltb (nextOf r) j) _ above (λ q. absurd (true≢fa
         (below-or-not _ (j - nextOf r - 1) (lowest (r .held .0)) (λ h. absurd (true≢false (sym b ∙ zeros-clear 64 (r .held .0) (j - nextOf r - 1) h)))
         (λ h. omega arith)))
 
+-- so that it is asked for, where something is held
+held-above : (r : EarlyReceiver) (f j : ℕ) → isHeld r j ≡ true → nextOf r < wantedTo r f
+unfolding isHeld wantedTo
+held-above r f j e = either (ltb (nextOf r) j) _ above (λ q. absurd (true≢false (sym e ∙ rw q)))
+  where
+    above : ltb (nextOf r) j ≡ true → nextOf r < (if eqb (r .held .0) 0 then f else nextOf r + 1 + lowest (r .held .0))
+    above q =
+        let b : bit (r .held .0) (j - nextOf r - 1) ≡ true = rw q at e in
+        zero-or-not _ (r .held .0) (λ z. absurd (true≢false (sym (rw z at b) ∙ bit-of-none (j - nextOf r - 1))))
+        (λ z. rw (ne-eqb _ _ z) (omega arith))
+
+-- and the lowest is held itself
+lowest-itself : (r : EarlyReceiver) (f : ℕ) → r .held .0 < 2 ^ wordBits → (r .held .0 ≡ 0 → ⊥) → isHeld r (wantedTo r f) ≡ true
+unfolding isHeld wantedTo
+lowest-itself r f w z =
+    let n = nextOf r in
+    let i = lowest (r .held .0) in
+    let p : n + 1 + i - n - 1 ≡ i = omega arith in
+    rw (ne-eqb _ _ z) (rw (lt-ltb n (n + 1 + i) (omega arith)) (rw p (zeros-one 64 (r .held .0) w z)))
+
 nothing-wanted : (r : EarlyReceiver) (f : ℕ) → r .held .0 ≡ 0 → f ≤ nextOf r → wanted r f ≡ []
 unfolding wanted wantedTo
 nothing-wanted r f z h = either (r .base .ended) _ (λ e. rw e) (λ e. rw (e, eq-eqb _ _ z, le-ltb _ _ h))
@@ -121,6 +141,8 @@ asks-exactly-when =
           request-open s l e ∙ wants-so (lentAfter s l .receiver) (numberOf l) o h
           ∙ ap (λ (k : ℕ). nextOf (lentAfter s l .receiver) ∷ askFor k (nextOf (lentAfter s l .receiver)) (wantedTo (lentAfter s l .receiver) (numberOf l)) ∷ []) (after-limit s l e);
       when-held = λ s l j e o h. lowest-held (lentAfter s l .receiver) (numberOf l) j h;
+      held-asks = held-above;
+      to-a-held-one = lowest-itself;
       else-nothing = λ s l z h.
           zero-or-not _ (earlyRefusal s l) (λ e. request-open s l e ∙ nothing-wanted (lentAfter s l .receiver) (numberOf l) z h) (refused-wants s l);
     }

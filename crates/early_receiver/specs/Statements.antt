@@ -1,5 +1,5 @@
 -- What is promised of the receiver that keeps early messages at one datagram.
-use Prim.Native.Nat.{ℕ, _+_, _-_, _<_, _≤_}
+use Prim.Native.Nat.{ℕ, _+_, _-_, _^_, _<_, _≤_}
 use mathlib.Core.List.{List, [], _∷_}
 use mathlib.Core.Bool.{true, false}
 use mathlib.Core.Path.{_≡_}
@@ -8,6 +8,8 @@ use Rattle.wire.specs.Bounds.{largestCount}
 use Rattle.wire.specs.Words.{Injective}
 use Rattle.moldudp64.specs.Header.{numberOf}
 use Rattle.receiver.specs.Table.{askFor}
+use Rattle.early_word.specs.Word.{wordBits}
+use Rattle.early_holding.specs.declared.holding.EarlyReceiver.{EarlyReceiver}
 use Rattle.early_holding.specs.Holding.{slotAt, Lent, nextOf, isHeld, heldMessage}
 use Rattle.early_receiver.specs.Answers.{earlyWords, requestWords}
 use Rattle.early_receiver.specs.Early.{earlyRefusal, lentAfter, requestOf, wantedTo}
@@ -44,6 +46,10 @@ pub record AsksExactlyWhen : Type 0 where
       → lentAfter s l .receiver .base .ended ≡ false
       → isHeld (lentAfter s l .receiver) j ≡ true
       → wantedTo (lentAfter s l .receiver) (numberOf l) ≤ j
+  -- where something is held it does ask, and the number that it asks up to is held
+  pub held-asks : (r : EarlyReceiver) (f j : ℕ) → isHeld r j ≡ true → nextOf r < wantedTo r f
+  pub to-a-held-one : (r : EarlyReceiver) (f : ℕ) → r .held .0 < 2 ^ wordBits → (r .held .0 ≡ 0 → ⊥)
+      → isHeld r (wantedTo r f) ≡ true
   pub else-nothing : (s : Lent) (l : List ℕ) → lentAfter s l .receiver .held .0 ≡ 0
       → numberOf l ≤ nextOf (lentAfter s l .receiver)
       → requestOf s l ≡ []
