@@ -96,7 +96,7 @@ impl Receiver {
 
     pub const LARGEST_LIMIT: MessageCount = kinds::LARGEST_LIMIT;
 
-    // A fresh receiver, or the refusal 19. A blank name, ten spaces, is learned from the first datagram that is accepted.
+    // A fresh receiver, or the refusal 19. A blank name, ten spaces, is learned from the first accepted datagram.
     pub fn new(session: [u8; SESSION_SIZE], next: SequenceNumber, limit: MessageCount) -> Started
         ensures { λ r. ⌜ Starts r session (next .0) (limit .0) ⌝ }
         ensures condition_3 { λ _. ⌜ Condition3 ⌝ }
