@@ -20,7 +20,8 @@ use Rattle.early_holding.specs.Holding.{Lent, lent, early, nextOf, isHeld, held
 use Rattle.early_receiver.specs.Early.{startEarly, earlyRefusal, namedLent, takeKind, lentAfter}
 use Rattle.early_messages.specs.Delivery.{deliveredCount, messageWith, delivery}
 use Rattle.early_condition_3.specs.Condition3.{keeper, EarlyCondition3For, EarlyCondition3}
-use Rattle.early_condition_3.proofs.StepLaws.{slots-right, refused-stays, open-takes, name-kept, empty-sound}
+use Rattle.early_messages.proofs.ReachLaws.{right-refusal, refused-after}
+use Rattle.early_condition_3.proofs.StepLaws.{open-takes, name-kept, empty-sound}
 use Rattle.early_condition_3.proofs.PlaceLaws.{still-none, same-delivery}
 use Rattle.early_condition_3.proofs.NamedLaws.{Inv, Behind, empty-inv, keeps}
 
@@ -34,7 +35,7 @@ pub refused-all : (r : Lent) (ds : List Datagram) → All (λ d. earlyRefusal r 
 unfolding after delivered
 refused-all r [] a = record { stays = refl; nothing = refl }
 refused-all r (d ∷ ds) a =
-    let z = refused-stays r d (first-of a) in
+    let z = refused-after r d (first-of a) in
     let g = still-none r d (ap (λ (x : Lent). nextOf (x .receiver)) z) in
     let rest = refused-all r ds (rest-of a) in
     record { stays = rw z (rest .stays); nothing = rw (g, z) (rest .nothing) }
@@ -77,9 +78,9 @@ module _ (s : Session) (start limit : ℕ) (lengths slots : List ℕ) (named : s
 
     pub same-after : lentAfter unnamed d ≡ lentAfter fresh d
     same-after =
-        open-takes unnamed d (slots-right unnamed d g k ∙ e)
+        open-takes unnamed d (right-refusal unnamed d k g ∙ e)
         ∙ ap (λ (x : Lent). takeKind x (kindOf d) d) (names ∙ sym (name-kept fresh d named))
-        ∙ sym (open-takes fresh d (slots-right fresh d g k ∙ accepts-too))
+        ∙ sym (open-takes fresh d (right-refusal fresh d k g ∙ accepts-too))
 
     same-count : deliveredCount unnamed d ≡ deliveredCount fresh d
     unfolding deliveredCount
@@ -112,6 +113,6 @@ early-condition-3 s name start limit lengths slots refused naming e h l g k o =
     by-opening (on-its-name b n) = rw n (on-name s start limit lengths slots b h l g k)
     by-opening (learns-it {refused} {d} n a f m) =
         let r : Lent = lent (early (receiver blank start limit false) 0) lengths slots in
-        let x : refusalFor (r .receiver .base) d ≡ 0 = sym (slots-right r d g k) ∙ (rw n at f) in
+        let x : refusalFor (r .receiver .base) d ≡ 0 = sym (right-refusal r d k g) ∙ (rw n at f) in
         let b : s .name ≡ blank → ⊥ = λ y. names-it (r .receiver .base) d x refl (m ∙ y) in
         rw n (on-learning s start limit lengths slots b h l g k d x m refused (refused-all r refused (rw n at a)))

@@ -33,7 +33,8 @@ use Rattle.early_condition_3.proofs.ModelLaws as one
 use Rattle.early_condition_3.proofs.DatagramLaws.{true-run, model-ahead, passed}
 use Rattle.early_condition_3.proofs.Reading.{Sound, reading, is-held, of-held}
 use Rattle.early_condition_3.proofs.KeepLaws.{all-is}
-use Rattle.early_condition_3.proofs.StepLaws.{slots-right, refused-stays, open-takes, name-kept, take-data, take-beat, take-end, take-end-ahead, same-base, none-read, empty-sound}
+use Rattle.early_messages.proofs.ReachLaws.{right-refusal, refused-after}
+use Rattle.early_condition_3.proofs.StepLaws.{open-takes, name-kept, take-data, take-beat, take-end, take-end-ahead, same-base, none-read, empty-sound}
 use Rattle.early_condition_3.proofs.PlaceLaws.{places-length, places-get, at-held, at-there, still}
 
 module _ (s : Session) (named : s .name ≡ blank → ⊥) where
@@ -84,12 +85,12 @@ module _ (s : Session) (named : s .name ≡ blank → ⊥) where
       own n = own-name (r .receiver .base) d has-name (n .name ∙ sym (i .name))
 
       base-refuses : (k : ℕ) → refusalFor (r .receiver .base) d ≡ k → (k ≡ 0 → ⊥) → lentAfter r d ≡ r
-      base-refuses k e z = refused-stays r d (λ q. z (sym e ∙ sym (slots-right r d (i .sound .noted) (i .sound .size)) ∙ q))
+      base-refuses k e z = refused-after r d (λ q. z (sym e ∙ sym (right-refusal r d (i .sound .size) (i .sound .noted)) ∙ q))
 
       base-opens : Named s d → r .receiver .base .ended ≡ false → endBelow (kindOf d) (numberOf d) (nextOf (r .receiver)) ≡ false
           → lentAfter r d ≡ takeKind r (kindOf d) d
       base-opens n x b =
-          open-takes r d (slots-right r d (i .sound .noted) (i .sound .size) ∙ ladder-open (r .receiver .base) d (n .well-formed) (own n) x b)
+          open-takes r d (right-refusal r d (i .sound .size) (i .sound .noted) ∙ ladder-open (r .receiver .base) d (n .well-formed) (own n) x b)
           ∙ ap (λ (q : Lent). takeKind q (kindOf d) d) (name-kept r d has-name)
 
       ended-stays : Named s d → r .receiver .base .ended ≡ true → lentAfter r d ≡ r

@@ -13,25 +13,17 @@ use Rattle.wire.proofs.Same.{different}
 use Rattle.moldudp64.specs.Header.{numberOf}
 use Rattle.moldudp64.specs.Downstream.{data-packet, heartbeat, end-of-session, kindOf, messagesOf}
 use Rattle.receiver.specs.declared.receiver.Receiver.{Receiver}
-use Rattle.receiver.specs.Receiver.{nameBy, refusalFor}
+use Rattle.receiver.specs.Receiver.{nameBy}
 use Rattle.feed.specs.Session.{Datagram, Message}
 use Rattle.early_word.specs.Word.{bit}
 use Rattle.early_word.proofs.WordLaws.{bit-none}
 use Rattle.early_holding.specs.Holding.{Lent, lent, nextOf, early, isHeld, advance, keep, keepOne, keeps, takeOne, takeAll}
 use Rattle.early_holding.proofs.HoldingLaws.{either}
-use Rattle.early_receiver.specs.Early.{withSlots, earlyRefusal, namedLent, endedNow, endAt, takeKind, lentAfter}
+use Rattle.early_receiver.specs.Early.{earlyRefusal, namedLent, endedNow, endAt, takeKind, lentAfter}
 use Rattle.early_condition_3.proofs.Model as model
 use Rattle.early_condition_3.proofs.Reading.{Sound, heldOf, is-held}
 
--- ---- the refusals
-
-pub slots-right : (s : Lent) (d : Datagram) → length (s .lengths) ≡ 128 → length (s .slots) ≡ 65536 → earlyRefusal s d ≡ refusalFor (s .receiver .base) d
-unfolding earlyRefusal withSlots
-slots-right s d e f = rw (eq-eqb _ _ f, eq-eqb _ _ e) refl
-
-pub refused-stays : (s : Lent) (d : Datagram) → (earlyRefusal s d ≡ 0 → ⊥) → lentAfter s d ≡ s
-unfolding lentAfter
-refused-stays s d z = rw (ne-eqb _ _ z) refl
+-- ---- what is accepted
 
 pub open-takes : (s : Lent) (d : Datagram) → earlyRefusal s d ≡ 0 → lentAfter s d ≡ takeKind (namedLent s d) (kindOf d) d
 unfolding lentAfter

@@ -27,7 +27,8 @@ use Rattle.early_condition_3.proofs.RunLaws.{cases}
 use Rattle.early_condition_3.proofs.ModelLaws.{Has}
 use Rattle.early_condition_3.proofs.MadeLaws.{Made, Run, same-made, made-all, same-next, same-held}
 use Rattle.early_condition_3.proofs.Reading.{reading, is-held, of-held}
-use Rattle.early_condition_3.proofs.StepLaws.{slots-right, same-base}
+use Rattle.early_messages.proofs.ReachLaws.{right-refusal}
+use Rattle.early_condition_3.proofs.StepLaws.{same-base}
 use Rattle.early_condition_3.proofs.NamedLaws as condition
 use Rattle.early_condition_3.proofs.ConditionLaws.{refused-all, fresh-inv, learned-inv}
 
@@ -176,7 +177,7 @@ swapped-neighbours s name start limit lengths slots refused naming ds r a b e h 
         either-order s y r (rw (w, n) i) x a b p q
     by-opening (learns-it {refused} {d} n c f m) t w =
         let u : Lent = lent (early (receiver blank start limit false) 0) lengths slots in
-        let v : refusalFor (u .receiver .base) d ≡ 0 = sym (slots-right u d g k) ∙ (rw n at f) in
+        let v : refusalFor (u .receiver .base) d ≡ 0 = sym (right-refusal u d k g) ∙ (rw n at f) in
         let y : s .name ≡ blank → ⊥ = λ z. names-it (u .receiver .base) d v refl (m ∙ z) in
         let i = learned-inv s start limit lengths slots y h l g k d v m refused ds (refused-all u refused (rw n at c)) t in
         either-order s y r (rw (w, n) i) x a b p q

@@ -124,7 +124,7 @@ take-below s f n h (m ∷ ms) g t =
 
 -- ---- a datagram
 
-refused-after : (s : Lent) (l : List ℕ) → (earlyRefusal s l ≡ 0 → ⊥) → lentAfter s l ≡ s
+pub refused-after : (s : Lent) (l : List ℕ) → (earlyRefusal s l ≡ 0 → ⊥) → lentAfter s l ≡ s
 unfolding lentAfter
 refused-after s l z = rw (ne-eqb _ _ z) refl
 
