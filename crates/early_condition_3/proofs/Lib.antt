@@ -7,6 +7,7 @@ pub mod KeepLaws
 pub mod DatagramLaws
 pub mod StepLaws
 pub mod PlaceLaws
+pub mod RuleLaws
 pub mod NamedLaws
 pub mod ConditionLaws
 pub mod MadeLaws

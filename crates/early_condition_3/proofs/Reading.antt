@@ -13,19 +13,11 @@ use Rattle.feed.specs.Session.{Message}
 use Rattle.early_word.specs.Word.{bit, run, onesOf, past}
 use Rattle.early_word.proofs.WordLaws.{bit-past, bit-none, ones-set, past-lt}
 use Rattle.early_holding.specs.declared.holding.EarlyReceiver.{EarlyReceiver}
-use Rattle.early_holding.specs.Holding.{Lent, early, nextOf, at, isHeld, lengthOf, heldMessage, numberPast, advance}
+use Rattle.early_holding.specs.Holding.{Lent, early, nextOf, at, isHeld, heldMessage, numberPast, advance}
 use Rattle.early_holding.proofs.HoldingLaws.{either, held-bit, holds-below}
+use Rattle.early_condition_3.specs.Rule.{Sound}
 use Rattle.early_condition_3.proofs.Model as model
 use Rattle.early_condition_3.proofs.Model.{Hold}
-
--- ---- what holds of a receiver that was brought up by datagrams, whatever they say
-
-pub record Sound (s : Lent) : Type 0 where
-  pub word : s .receiver .held .0 < 2 ^ 64
-  pub noted : length (s .lengths) ≡ 128
-  pub size : length (s .slots) ≡ 65536
-  pub short : (j : ℕ) → isHeld (s .receiver) j ≡ true → lengthOf (s .lengths) j ≤ 1024
-  pub low : (j : ℕ) → isHeld (s .receiver) j ≡ true → j < 18446744073709551615
 
 -- ---- which numbers are held
 
@@ -117,7 +109,7 @@ run-next s m =
     omega arith
 
 -- what is held after it
-advance-held : (s : Lent) (n k j : ℕ) → n ≡ nextOf (s .receiver) + (k + 1)
+pub advance-held : (s : Lent) (n k j : ℕ) → n ≡ nextOf (s .receiver) + (k + 1)
     → isHeld (early (at (s .receiver .base) n) (past (s .receiver .held .0) (k + 1))) j ≡ (if ltb n j then isHeld (s .receiver) j else false)
 unfolding isHeld
 advance-held s n k j e =

@@ -1,3 +1,4 @@
 pub mod Start
 pub mod Condition3
+pub mod Rule
 pub mod Swapped

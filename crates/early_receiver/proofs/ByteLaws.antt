@@ -29,11 +29,11 @@ use Rattle.early_receiver.proofs.RequestLaws.{after-open, well-open, si
 -- ---- bytes that a write leaves
 
 module _ (l : List ℕ) (at : ℕ) (bs : List ℕ) (i : ℕ) where
-  byte-before : i < at → getD (put l at bs) i 0 ≡ getD l i 0
+  pub byte-before : i < at → getD (put l at bs) i 0 ≡ getD l i 0
   byte-before h =
       sym (getD-take at (put l at bs) i 0 h) ∙ ap (λ (x : List ℕ). getD x i 0) (only-its-bytes l at bs .before) ∙ getD-take at l i 0 h
 
-  byte-behind : at + length bs ≤ i → getD (put l at bs) i 0 ≡ getD l i 0
+  pub byte-behind : at + length bs ≤ i → getD (put l at bs) i 0 ≡ getD l i 0
   byte-behind h =
       let to = at + length bs in
       let e : to + (i - to) ≡ i = omega arith in
