@@ -10,6 +10,7 @@ pub mod PlaceLaws
 pub mod RuleLaws
 pub mod NamedLaws
 pub mod ConditionLaws
+pub mod PlainLaws
 pub mod MadeLaws
 pub mod SwappedLaws
 pub mod StartLaws

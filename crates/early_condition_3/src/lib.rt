@@ -11,6 +11,7 @@ ghost use Rattle.early_receiver.specs.Early.{lentAfter};
 ghost use Rattle.early_messages.specs.Delivery.{delivery};
 ghost use Rattle.early_condition_3.specs.Start.{StartsEarly};
 ghost use Rattle.early_condition_3.specs.Condition3.{EarlyCondition3};
+ghost use Rattle.early_condition_3.specs.Plain.{NeverLess};
 ghost use Rattle.early_condition_3.specs.Rule.{SoundThroughout, OneMessage, FollowsTheRule};
 ghost use Rattle.early_condition_3.specs.Swapped.{SwappedNeighbours};
 
@@ -25,6 +26,7 @@ pub fn start(session: [u8; SESSION_SIZE], next: SequenceNumber, limit: MessageCo
     ensures { λ r. ⌜ StartsEarly r session (next .0) (limit .0) ⌝ }
     ensures condition_3 { λ _. ⌜ EarlyCondition3 ⌝ }
     ensures swapped { λ _. ⌜ SwappedNeighbours ⌝ }
+    ensures never_less { λ _. ⌜ NeverLess ⌝ }
     ensures sound { λ _. ⌜ SoundThroughout ⌝ }
     ensures one_message { λ _. ⌜ OneMessage ⌝ }
     ensures rule { λ _. ⌜ FollowsTheRule lentAfter delivery ⌝ }

@@ -74,7 +74,7 @@ number-past-run : (n h : ℕ) → numberPast n h < 18446744073709551615 → numb
 unfolding numberPast
 number-past-run n h e = omega arith
 
-number-past-above : (n h : ℕ) → n < 18446744073709551615 → n + 1 ≤ numberPast n h
+pub number-past-above : (n h : ℕ) → n < 18446744073709551615 → n + 1 ≤ numberPast n h
 unfolding numberPast
 number-past-above n h b = omega arith
 
