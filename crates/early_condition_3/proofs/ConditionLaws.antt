@@ -70,10 +70,10 @@ module _ (s : Session) (start limit : ℕ) (lengths slots : List ℕ) (named : s
         ∙ receiver-promises .keeps-settings .learns (unnamed .receiver .base) d refl e .its-name
         ∙ n
 
-    names : namedLent unnamed d ≡ fresh
+    pub names : namedLent unnamed d ≡ fresh
     names = ap (λ (x : List ℕ). lent (early (receiver x start limit false) 0) lengths slots) learned
 
-    accepts-too : refusalFor (fresh .receiver .base) d ≡ 0
+    pub accepts-too : refusalFor (fresh .receiver .base) d ≡ 0
     accepts-too = also-open (unnamed .receiver .base) (fresh .receiver .base) d e refl refl (own-name (fresh .receiver .base) d named n)
 
     pub same-after : lentAfter unnamed d ≡ lentAfter fresh d
@@ -90,7 +90,7 @@ module _ (s : Session) (start limit : ℕ) (lengths slots : List ℕ) (named : s
     unfolding messageWith isHeld heldMessage
     same-with j = refl
 
-    same-gives : delivery unnamed d ≡ delivery fresh d
+    pub same-gives : delivery unnamed d ≡ delivery fresh d
     same-gives = same-delivery unnamed fresh d refl same-count same-with
 
     pub on-learning : (refused : List Datagram) → ChangesNothing unnamed refused → Faithful keeper s start unnamed refused (d ∷ [])

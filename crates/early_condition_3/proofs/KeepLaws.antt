@@ -18,17 +18,18 @@ use Rattle.early_word.proofs.WordLaws.{bit-marked, marked-lt}
 use Rattle.early_holding.specs.declared.holding.EarlyReceiver.{EarlyReceiver}
 use Rattle.early_holding.specs.Holding.{Lent, nextOf, at, slotAt, lengthAt, isHeld, lengthOf, heldMessage, keeps, keep, keepOne, takeOne, takeAll}
 use Rattle.early_holding.proofs.HoldingLaws.{either, keepable}
+use Rattle.early_condition_3.specs.Rule.{Sound}
 use Rattle.early_condition_3.proofs.Model as model
 use Rattle.early_condition_3.proofs.Model.{Hold, single, holding, numbered, holdStep}
 use Rattle.early_condition_3.proofs.SlotLaws.{slot-own, slot-other, length-own, length-other}
-use Rattle.early_condition_3.proofs.Reading.{Sound, above, near, heldOf, reading, of-held, of-none, is-held, same-hold, advance-is, advance-sound}
+use Rattle.early_condition_3.proofs.Reading.{above, near, heldOf, reading, of-held, of-none, is-held, same-hold, advance-is, advance-sound}
 
 -- ---- a message that is kept
 
 same-place : (n i j : ℕ) → n < i → n < j → (i ≡ j → ⊥) → i - n - 1 ≡ j - n - 1 → ⊥
 same-place n i j a b z e = z (omega arith)
 
-keep-held : (s : Lent) (j : ℕ) (m : Message) (i : ℕ) → nextOf (s .receiver) < j → j ≤ nextOf (s .receiver) + 64
+pub keep-held : (s : Lent) (j : ℕ) (m : Message) (i : ℕ) → nextOf (s .receiver) < j → j ≤ nextOf (s .receiver) + 64
     → isHeld (keep s j m .receiver) i ≡ (if eqb i j then true else isHeld (s .receiver) i)
 unfolding keep isHeld
 keep-held s j m i a b =
@@ -51,7 +52,7 @@ keep-held s j m i a b =
     let x : i ≡ j → ⊥ = λ e. omega arith in
     rw (q, ne-eqb _ _ x) refl)
 
-keep-own : (s : Lent) (j : ℕ) (m : Message) → Sound s → length m ≤ 1024 → heldMessage (keep s j m) j ≡ m
+pub keep-own : (s : Lent) (j : ℕ) (m : Message) → Sound s → length m ≤ 1024 → heldMessage (keep s j m) j ≡ m
 unfolding keep heldMessage
 keep-own s j m g h =
     let r : j % 64 * 1024 + length m ≤ length (s .slots) = omega (arith, g .size) in
@@ -60,7 +61,7 @@ keep-own s j m g h =
 other-slot : (n i j : ℕ) → n < i → i ≤ n + 64 → n < j → j ≤ n + 64 → (i ≡ j → ⊥) → i % 64 ≡ j % 64 → ⊥
 other-slot n i j a b c d z e = z (omega arith)
 
-keep-other : (s : Lent) (j : ℕ) (m : Message) (i : ℕ) → Sound s → nextOf (s .receiver) < j → j ≤ nextOf (s .receiver) + 64 → length m ≤ 1024
+pub keep-other : (s : Lent) (j : ℕ) (m : Message) (i : ℕ) → Sound s → nextOf (s .receiver) < j → j ≤ nextOf (s .receiver) + 64 → length m ≤ 1024
     → isHeld (s .receiver) i ≡ true → (i ≡ j → ⊥) → heldMessage (keep s j m) i ≡ heldMessage s i
 unfolding keep heldMessage
 keep-other s j m i g a b h e z =

@@ -7,8 +7,10 @@ pub mod KeepLaws
 pub mod DatagramLaws
 pub mod StepLaws
 pub mod PlaceLaws
+pub mod RuleLaws
 pub mod NamedLaws
 pub mod ConditionLaws
+pub mod PlainLaws
 pub mod MadeLaws
 pub mod SwappedLaws
 pub mod StartLaws

@@ -26,12 +26,13 @@ use Rattle.early_messages.specs.Delivery.{deliveredCount, messageAt, messagesAt
 use Rattle.early_condition_3.specs.Condition3.{keeper}
 use Rattle.wire.proofs.Cases.{below-or-not}
 use Rattle.early_holding.proofs.HoldingLaws.{either}
+use Rattle.early_condition_3.specs.Rule.{Sound}
 use Rattle.early_condition_3.proofs.Model as model
 use Rattle.early_condition_3.proofs.Model.{Hold, holding, numbered}
 use Rattle.early_condition_3.proofs.RunLaws.{cases, has}
 use Rattle.early_condition_3.proofs.ModelLaws as one
 use Rattle.early_condition_3.proofs.DatagramLaws.{true-run, model-ahead, passed}
-use Rattle.early_condition_3.proofs.Reading.{Sound, reading, is-held, of-held}
+use Rattle.early_condition_3.proofs.Reading.{reading, is-held, of-held}
 use Rattle.early_condition_3.proofs.KeepLaws.{all-is}
 use Rattle.early_messages.proofs.ReachLaws.{right-refusal, refused-after}
 use Rattle.early_condition_3.proofs.StepLaws.{open-takes, name-kept, take-data, take-beat, take-end, take-end-ahead, same-base, none-read, empty-sound}

@@ -13,19 +13,11 @@ use Rattle.feed.specs.Session.{Message}
 use Rattle.early_word.specs.Word.{bit, run, onesOf, past}
 use Rattle.early_word.proofs.WordLaws.{bit-past, bit-none, ones-set, past-lt}
 use Rattle.early_holding.specs.declared.holding.EarlyReceiver.{EarlyReceiver}
-use Rattle.early_holding.specs.Holding.{Lent, early, nextOf, at, isHeld, lengthOf, heldMessage, behind, advance}
+use Rattle.early_holding.specs.Holding.{Lent, early, nextOf, at, isHeld, heldMessage, numberPast, advance}
 use Rattle.early_holding.proofs.HoldingLaws.{either, held-bit, holds-below}
+use Rattle.early_condition_3.specs.Rule.{Sound}
 use Rattle.early_condition_3.proofs.Model as model
 use Rattle.early_condition_3.proofs.Model.{Hold}
-
--- ---- what holds of a receiver that was brought up by datagrams, whatever they say
-
-pub record Sound (s : Lent) : Type 0 where
-  pub word : s .receiver .held .0 < 2 ^ 64
-  pub noted : length (s .lengths) ≡ 128
-  pub size : length (s .slots) ≡ 65536
-  pub short : (j : ℕ) → isHeld (s .receiver) j ≡ true → lengthOf (s .lengths) j ≤ 1024
-  pub low : (j : ℕ) → isHeld (s .receiver) j ≡ true → j < 18446744073709551615
 
 -- ---- which numbers are held
 
@@ -93,8 +85,8 @@ run-length s (suc k) i =
 
 -- no number is cut off: the run ends below the largest
 pub run-whole : (s : Lent) → Sound s → nextOf (s .receiver) < 18446744073709551615
-    → behind (nextOf (s .receiver)) (s .receiver .held .0) ≡ nextOf (s .receiver) + (run (s .receiver .held .0) + 1)
-unfolding behind
+    → numberPast (nextOf (s .receiver)) (s .receiver .held .0) ≡ nextOf (s .receiver) + (run (s .receiver .held .0) + 1)
+unfolding numberPast
 run-whole s g n = go (run (s .receiver .held .0)) refl
   where
     go : (t : ℕ) → run (s .receiver .held .0) ≡ t → min 18446744073709551615 (nextOf (s .receiver) + (t + 1)) ≡ nextOf (s .receiver) + (t + 1)
@@ -117,7 +109,7 @@ run-next s m =
     omega arith
 
 -- what is held after it
-advance-held : (s : Lent) (n k j : ℕ) → n ≡ nextOf (s .receiver) + (k + 1)
+pub advance-held : (s : Lent) (n k j : ℕ) → n ≡ nextOf (s .receiver) + (k + 1)
     → isHeld (early (at (s .receiver .base) n) (past (s .receiver .held .0) (k + 1))) j ≡ (if ltb n j then isHeld (s .receiver) j else false)
 unfolding isHeld
 advance-held s n k j e =
@@ -133,7 +125,7 @@ advance-held s n k j e =
 pub same-hold : (a b : Hold) → a .next ≡ b .next → ((j : ℕ) → a .held j ≡ b .held j) → a ≡ b
 same-hold a b e f = ap₂ (λ (n : ℕ) (h : ℕ → Option Message). record { next = n; held = h }) e (fun-ext f)
 
-advance-of : (s : Lent) (n j : ℕ) → n ≡ nextOf (s .receiver) + (run (s .receiver .held .0) + 1) → behind (nextOf (s .receiver)) (s .receiver .held .0) ≡ n
+advance-of : (s : Lent) (n j : ℕ) → n ≡ nextOf (s .receiver) + (run (s .receiver .held .0) + 1) → numberPast (nextOf (s .receiver)) (s .receiver .held .0) ≡ n
     → heldOf (advance s) j ≡ (if ltb n j then heldOf s j else none)
 unfolding advance heldOf heldMessage
 advance-of s n j e f =
@@ -147,7 +139,7 @@ unfolding advance
 advance-is s m g l =
     let n = nextOf (s .receiver) + length (model.run (reading s) m) in
     let e : n ≡ nextOf (s .receiver) + (run (s .receiver .held .0) + 1) = run-next s m in
-    let f : behind (nextOf (s .receiver)) (s .receiver .held .0) ≡ n = run-whole s g l ∙ sym e in
+    let f : numberPast (nextOf (s .receiver)) (s .receiver .held .0) ≡ n = run-whole s g l ∙ sym e in
     same-hold (reading (advance s)) (model.moved (reading s) m) f (λ j. advance-of s n j e f)
 
 pub advance-sound : (s : Lent) → Sound s → nextOf (s .receiver) < 18446744073709551615 → Sound (advance s)
@@ -163,7 +155,7 @@ advance-sound s g l =
   where
     was : (j : ℕ) → isHeld (advance s .receiver) j ≡ true → isHeld (s .receiver) j ≡ true
     was j e =
-        let n = behind (nextOf (s .receiver)) (s .receiver .held .0) in
+        let n = numberPast (nextOf (s .receiver)) (s .receiver .held .0) in
         let h = advance-held s n (run (s .receiver .held .0)) j (run-whole s g l) in
         either (ltb n j) _
         (λ q. sym (rw q at h) ∙ e)

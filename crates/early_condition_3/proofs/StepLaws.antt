@@ -20,8 +20,9 @@ use Rattle.early_word.proofs.WordLaws.{bit-none}
 use Rattle.early_holding.specs.Holding.{Lent, lent, nextOf, early, isHeld, advance, keep, keepOne, keeps, takeOne, takeAll}
 use Rattle.early_holding.proofs.HoldingLaws.{either}
 use Rattle.early_receiver.specs.Early.{earlyRefusal, namedLent, endedNow, endAt, takeKind, lentAfter}
+use Rattle.early_condition_3.specs.Rule.{Sound}
 use Rattle.early_condition_3.proofs.Model as model
-use Rattle.early_condition_3.proofs.Reading.{Sound, heldOf, is-held}
+use Rattle.early_condition_3.proofs.Reading.{heldOf, is-held}
 
 -- ---- what is accepted
 
@@ -80,7 +81,7 @@ same-base s f (m ∷ ms) =
 zero-bit : (k : ℕ) → bit 0 k ≡ false
 zero-bit k = bit-none 0 0 k (pow-pos 0) (omega arith)
 
-none-held : (b : Receiver) (j : ℕ) → isHeld (early b 0) j ≡ false
+pub none-held : (b : Receiver) (j : ℕ) → isHeld (early b 0) j ≡ false
 unfolding isHeld
 none-held b j = either (ltb (b .next .0) j) _ (λ q. rw q (zero-bit _)) (λ q. rw q refl)
 

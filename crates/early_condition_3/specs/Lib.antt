@@ -1,3 +1,5 @@
 pub mod Start
 pub mod Condition3
+pub mod Rule
+pub mod Plain
 pub mod Swapped

@@ -22,7 +22,7 @@ use Rattle.early_word.specs.Word.{bit, run, onesOf, past, marked}
 use Rattle.early_word.proofs.WordLaws.{bit-none, ones-le}
 use Rattle.early_holding.specs.declared.holding.EarlyReceiver.{EarlyReceiver}
 use Rattle.early_holding.specs.declared.holding.Moved.{Moved}
-use Rattle.early_holding.specs.Holding.{lent, nextOf, isHeld, behind, keeps, keep, keepOne, moved, moveBy, moveTo}
+use Rattle.early_holding.specs.Holding.{lent, nextOf, isHeld, numberPast, keeps, keep, keepOne, moved, moveBy, moveTo}
 
 pub either : (b : Bool) (P : Type 0) → (b ≡ true → P) → (b ≡ false → P) → P
 either true P f g = f refl
@@ -48,7 +48,7 @@ move-skip (suc c) f n h e =
 -- one turn of the loop
 pub move-step : (n h end k b w : ℕ) (r : Moved) → Fits w64 end → moveTo n h end ≡ r → n < end → k ≡ run h → b ≡ min 18446744073709551615 (n + (k + 1))
     → w ≡ past h (k + 1) → moveTo b w end ≡ r
-unfolding moveTo moveBy behind
+unfolding moveTo moveBy numberPast
 move-step n h end k b w r f e g i p q = go (end - n) refl e
   where
     up : n + 1 ≤ b
@@ -63,9 +63,9 @@ move-step n h end k b w r f e g i p q = go (end - n) refl e
         sym (rw (eq-eqb n n refl, to, low, ← u) (move-skip d (n + 1) b w up)) ∙ v
 
 -- with nothing held every number is the next
-none-behind : (n : ℕ) → n < 18446744073709551615 → behind n 0 ≡ n + 1
-unfolding behind onesOf bit
-none-behind n h = let z : min 18446744073709551615 (n + (0 + 1)) ≡ n + 1 = omega arith in z
+number-past-none : (n : ℕ) → n < 18446744073709551615 → numberPast n 0 ≡ n + 1
+unfolding numberPast onesOf bit
+number-past-none n h = let z : min 18446744073709551615 (n + (0 + 1)) ≡ n + 1 = omega arith in z
 
 none-past : (k : ℕ) → past 0 k ≡ 0
 unfolding past
@@ -76,7 +76,7 @@ unfolding moveBy
 move-none zero n h = let z : n + 0 ≡ n = omega arith in rw z refl
 move-none (suc c) n h =
     let z : n + suc c ≡ n + 1 + c = omega arith in
-    rw (eq-eqb n n refl, none-behind n (omega arith), none-past (run 0 + 1), z) (move-none c (n + 1) (omega arith))
+    rw (eq-eqb n n refl, number-past-none n (omega arith), none-past (run 0 + 1), z) (move-none c (n + 1) (omega arith))
 
 pub move-empty : (n h : ℕ) (end : SequenceNumber) (word : Held) (r : Moved) → Fits w64 (end .0) → moveTo n h (end .0) ≡ r → n < end .0 → h ≡ 0 → word .0 ≡ h
     → record { next = end; held = word } ≡ r

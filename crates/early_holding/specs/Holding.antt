@@ -77,15 +77,15 @@ heldMessage s j = take (lengthOf (s .lengths) j) (drop (slotAt j) (s .slots))
 
 -- the number after n and after every held one that follows without a gap: the run of ones at the low end of the word.
 -- Numbers end at the largest, which only a receiver that was made up would pass
-unfoldable pub behind : ℕ → ℕ → ℕ
-behind n held = min largestNumber (n + (run held + 1))
+unfoldable pub numberPast : ℕ → ℕ → ℕ
+numberPast n held = min largestNumber (n + (run held + 1))
 
 -- number n is delivered, and then every held message that follows without a gap
 unfoldable pub advance : Lent → Lent
 advance s =
     let n = nextOf (s .receiver) in
     let held = s .receiver .held .0 in
-    lent (early (at (s .receiver .base) (behind n held)) (past held (run held + 1))) (s .lengths) (s .slots)
+    lent (early (at (s .receiver .base) (numberPast n held)) (past held (run held + 1))) (s .lengths) (s .slots)
 
 -- a number from n + 1 to n + 64 with at most 1,024 bytes that isn't held already
 unfoldable pub keeps : EarlyReceiver → ℕ → ℕ → Bool
@@ -123,7 +123,7 @@ moved n held = record { next = record { 0 = n }; held = record { 0 = held } }
 unfoldable pub moveBy : ℕ → ℕ → ℕ → ℕ → Moved
 moveBy zero f n held = moved n held
 moveBy (suc c) f n held =
-    if eqb f n then moveBy c (f + 1) (behind n held) (past held (run held + 1)) else moveBy c (f + 1) n held
+    if eqb f n then moveBy c (f + 1) (numberPast n held) (past held (run held + 1)) else moveBy c (f + 1) n held
 
 -- from n to just below end
 unfoldable pub moveTo : ℕ → ℕ → ℕ → Moved

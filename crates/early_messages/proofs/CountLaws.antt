@@ -26,7 +26,7 @@ use Rattle.early_word.specs.Word.{run, past}
 use Rattle.early_word.proofs.WordLaws.{ones-le}
 use Rattle.early_holding.specs.declared.holding.EarlyReceiver.{EarlyReceiver}
 use Rattle.early_holding.specs.declared.holding.Moved.{Moved}
-use Rattle.early_holding.specs.Holding.{Lent, lent, nextOf, behind, moveBy, moveTo}
+use Rattle.early_holding.specs.Holding.{Lent, lent, nextOf, numberPast, moveBy, moveTo}
 use Rattle.early_holding.proofs.HoldingLaws.{either}
 use Rattle.early_receiver.specs.Early.{lentAfter}
 use Rattle.early_messages.specs.Delivery.{deliveredCount}
@@ -34,17 +34,17 @@ use Rattle.early_messages.proofs.ReachLaws.{opens, Moves, Stays, Step, 
 
 -- ---- how far the expected number moves
 
-behind-far : (n h : ℕ) → behind n h ≤ n + 65
-unfolding behind
-behind-far n h = omega (arith, ones-le 64 h)
+number-past-far : (n h : ℕ) → numberPast n h ≤ n + 65
+unfolding numberPast
+number-past-far n h = omega (arith, ones-le 64 h)
 
-pub behind-top : (n h : ℕ) → behind n h ≤ 18446744073709551615
-unfolding behind
-behind-top n h = omega arith
+pub number-past-top : (n h : ℕ) → numberPast n h ≤ 18446744073709551615
+unfolding numberPast
+number-past-top n h = omega arith
 
-behind-rises : (n h : ℕ) → n ≤ 18446744073709551615 → n ≤ behind n h
-unfolding behind
-behind-rises n h b = omega arith
+number-past-rises : (n h : ℕ) → n ≤ 18446744073709551615 → n ≤ numberPast n h
+unfolding numberPast
+number-past-rises n h b = omega arith
 
 move-far : (c f n h : ℕ) → moveBy c f n h .next .0 ≤ max n (f + c + 64)
 unfolding moveBy
@@ -53,21 +53,21 @@ move-far (suc c) f n h =
     either (eqb f n) _
     (λ q.
     let y : f ≡ n = eqb-true _ _ q in
-    rw q (omega (arith, behind-far n h, move-far c (f + 1) (behind n h) (past h (run h + 1)))))
+    rw q (omega (arith, number-past-far n h, move-far c (f + 1) (numberPast n h) (past h (run h + 1)))))
     (λ q. rw q (omega (arith, move-far c (f + 1) n h)))
 
 move-top : (c f n h : ℕ) → n ≤ 18446744073709551615 → moveBy c f n h .next .0 ≤ 18446744073709551615
 unfolding moveBy
 move-top zero f n h b = b
 move-top (suc c) f n h b =
-    either (eqb f n) _ (λ q. rw q (move-top c (f + 1) (behind n h) (past h (run h + 1)) (behind-top n h))) (λ q. rw q (move-top c (f + 1) n h b))
+    either (eqb f n) _ (λ q. rw q (move-top c (f + 1) (numberPast n h) (past h (run h + 1)) (number-past-top n h))) (λ q. rw q (move-top c (f + 1) n h b))
 
 pub move-rises : (c f n h : ℕ) → n ≤ 18446744073709551615 → n ≤ moveBy c f n h .next .0
 unfolding moveBy
 move-rises zero f n h b = omega arith
 move-rises (suc c) f n h b =
     either (eqb f n) _
-    (λ q. rw q (omega (arith, behind-rises n h b, move-rises c (f + 1) (behind n h) (past h (run h + 1)) (behind-top n h))))
+    (λ q. rw q (omega (arith, number-past-rises n h b, move-rises c (f + 1) (numberPast n h) (past h (run h + 1)) (number-past-top n h))))
     (λ q. rw q (move-rises c (f + 1) n h b))
 
 -- a block has two bytes or more

@@ -1,23 +1,25 @@
 -- The messages had by place are those that the step delivers, one at a time.
 use mathlib.Core.Path.{_≡_, refl, sym, ap, ap₂, _∙_}
 use mathlib.Core.List.{List, [], _∷_, _++_}
-use mathlib.Core.Bool.{true, false}
+use mathlib.Core.Bool.{true, false, true≢false}
 use Prim.Native.Nat.{ℕ, zero, suc, _+_, _-_, _^_, _≤_, _<_}
 use native.Mathlib.Omega.{arith}
 use lib.ListN.{length, getD}
 use lib.Dec.{eqb}
 use borrow.Author.Tests.{lt-ltb, le-ltb, eqb-true, eqb-false}
+use Rattle.wire.proofs.Cases.{below-or-not}
 use Rattle.moldudp64.specs.Header.{numberOf, countOf}
 use Rattle.moldudp64.specs.Downstream.{messagesOf, messageOf}
+use Rattle.moldudp64_messages.specs.Cursor.{locateOf}
 use Rattle.early_word.specs.Word.{bit, run, past}
 use Rattle.early_word.proofs.WordLaws.{bit-past, ones-set, ones-stop, past-lt}
-use Rattle.early_holding.specs.Holding.{Lent, nextOf, isHeld, heldMessage, behind, advance, keepOne, takeOne, moveBy, moveTo}
+use Rattle.early_holding.specs.Holding.{Lent, nextOf, isHeld, heldMessage, numberPast, advance, keepOne, takeOne, moveBy, moveTo}
 use Rattle.early_holding.proofs.HoldingLaws.{either, keeps-below, move-skip}
 use Rattle.early_holding.specs.declared.holding.Moved.{Moved}
 use Rattle.early_receiver.specs.Early.{lentAfter}
-use Rattle.early_messages.specs.Delivery.{deliveredCount, messageWith, messageAt, messagesAt, delivery, heldFrom, givesOne, givesAll, gives, PlacesAreDelivered}
+use Rattle.early_messages.specs.Delivery.{deliveredCount, messageWith, messageAt, inDatagram, partWith, partAt, messagesAt, delivery, heldFrom, givesOne, givesAll, gives, PlacesAreDelivered, PlacesExist}
 use Rattle.early_messages.proofs.ReachLaws.{stand, Moves, Stays, Step, moves, stays, step, data-gives, data-count, moved-to}
-use Rattle.early_messages.proofs.CountLaws.{reached, behind-top, move-rises}
+use Rattle.early_messages.proofs.CountLaws.{reached, delivered, number-past-top, move-rises}
 
 -- ---- the messages with k numbers from j on
 
@@ -68,17 +70,17 @@ held-stand s n h j (suc k) = ap (λ (x : List (List ℕ)). heldMessage s j ∷ x
 
 -- ---- the receiver moved on to n, with the messages from number f on to come
 
-behind-run : (n h : ℕ) → behind n h < 18446744073709551615 → behind n h ≡ n + (run h + 1)
-unfolding behind
-behind-run n h e = omega arith
+number-past-run : (n h : ℕ) → numberPast n h < 18446744073709551615 → numberPast n h ≡ n + (run h + 1)
+unfolding numberPast
+number-past-run n h e = omega arith
 
-behind-above : (n h : ℕ) → n < 18446744073709551615 → n + 1 ≤ behind n h
-unfolding behind
-behind-above n h b = omega arith
+pub number-past-above : (n h : ℕ) → n < 18446744073709551615 → n + 1 ≤ numberPast n h
+unfolding numberPast
+number-past-above n h b = omega arith
 
-behind-within : (n h : ℕ) → behind n h ≤ n + (run h + 1)
-unfolding behind
-behind-within n h = omega arith
+number-past-within : (n h : ℕ) → numberPast n h ≤ n + (run h + 1)
+unfolding numberPast
+number-past-within n h = omega arith
 
 -- what is held there is what was held at first; once the number is past all that is to come it doesn't matter
 record Standing (s : Lent) (l : List ℕ) (n h f : ℕ) (ms : List (List ℕ)) : Type 0 where
@@ -98,32 +100,32 @@ module _ (s : Lent) (l : List ℕ) (n h f : ℕ) (m : List ℕ) (ms : List (List
     ahead : n < f + suc (length ms)
     ahead = omega arith
 
-    next-standing : Standing s l (behind n h) (past h (run h + 1)) (f + 1) ms
+    next-standing : Standing s l (numberPast n h) (past h (run h + 1)) (f + 1) ms
     next-standing =
         record {
-          below = omega (arith, g .top, behind-above n h (omega (arith, g .top)));
+          below = omega (arith, g .top, number-past-above n h (omega (arith, g .top)));
           word = past-lt h 64 (run h + 1) (g .word);
           same = λ b i.
-              let d : behind n h ≡ n + (run h + 1) = behind-run n h (omega (arith, g .top)) in
-              let z : behind n h + 1 + i ≡ n + 1 + (run h + 1 + i) = omega arith in
+              let d : numberPast n h ≡ n + (run h + 1) = number-past-run n h (omega (arith, g .top)) in
+              let z : numberPast n h + 1 + i ≡ n + 1 + (run h + 1 + i) = omega arith in
               bit-past h (run h + 1) i ∙ g .same ahead (run h + 1 + i) ∙ ap (isHeld (s .receiver)) (sym z);
           free = λ b.
-              let d : behind n h ≡ n + (run h + 1) = behind-run n h (omega (arith, g .top)) in
-              let z : behind n h ≡ n + 1 + run h = omega arith in
+              let d : numberPast n h ≡ n + (run h + 1) = number-past-run n h (omega (arith, g .top)) in
+              let z : numberPast n h ≡ n + 1 + run h = omega arith in
               rw z (sym (g .same ahead (run h)) ∙ ones-stop 64 h (g .word));
           rest = rest-after l f m ms (g .rest);
           top = omega (arith, g .top);
         }
 
     -- number n and what follows it
-    run-is : m ∷ heldFrom (stand s n h) (f + 1) (behind n h - n - 1) ≡ withFrom s l n (suc (behind n h - n - 1))
+    run-is : m ∷ heldFrom (stand s n h) (f + 1) (numberPast n h - n - 1) ≡ withFrom s l n (suc (numberPast n h - n - 1))
     unfolding withFrom
     run-is =
-        let t = behind n h - n - 1 in
+        let t = numberPast n h - n - 1 in
         let z : f + 0 ≡ n = omega arith in
         let a : m ≡ messageOf l (n - numberOf l) = rw z at (g .rest 0 (omega arith)) in
         let b : messageWith s l n ≡ m = with-is-there s l n (g .free ahead) ∙ sym a in
-        let c = with-held s l (n + 1) t (λ i k. sym (g .same ahead i) ∙ ones-set 64 h i (omega (arith, behind-within n h))) in
+        let c = with-held s l (n + 1) t (λ i k. sym (g .same ahead i) ∙ ones-set 64 h i (omega (arith, number-past-within n h))) in
         rw e (ap₂ (λ (x : List ℕ) (y : List (List ℕ)). x ∷ y) (sym b) (held-stand s n h (n + 1) t ∙ sym c))
 
   skip-standing : (f ≡ n → ⊥) → Standing s l n h (f + 1) ms
@@ -149,11 +151,11 @@ gives-with s l n h f (m ∷ ms) g =
     either (eqb f n) _
     (λ q.
     let e : f ≡ n = eqb-true _ _ q in
-    let b = behind n h in
+    let b = numberPast n h in
     let t = b - n - 1 in
     let end = moveBy (length ms) (f + 1) b (past h (run h + 1)) .next .0 in
-    let r : b ≤ end = move-rises (length ms) (f + 1) b (past h (run h + 1)) (behind-top n h) in
-    let u : n + 1 ≤ b = behind-above n h (omega (arith, g .top)) in
+    let r : b ≤ end = move-rises (length ms) (f + 1) b (past h (run h + 1)) (number-past-top n h) in
+    let u : n + 1 ≤ b = number-past-above n h (omega (arith, g .top)) in
     let z : end - n ≡ suc t + (end - b) = omega arith in
     let y : n + suc t ≡ b = omega arith in
     rw (q, z)
@@ -163,6 +165,32 @@ gives-with s l n h f (m ∷ ms) g =
     (λ q.
     let e : f ≡ n → ⊥ = eqb-false _ _ q in
     rw (q, ← keeps-below (stand s n h .receiver) f (length m) (g .below)) (gives-with s l n h (f + 1) ms (skip-standing s l n h f m ms g e)))
+
+-- a number that the receiver moves past was held or is one of those to come
+past-or-held : (s : Lent) (l : List ℕ) (n h f : ℕ) (ms : List (List ℕ)) → Standing s l n h f ms → (j : ℕ) → n ≤ j
+    → j < moveBy (length ms) f n h .next .0 → isHeld (s .receiver) j ≡ false → j < f + length ms
+unfolding moveBy
+past-or-held s l n h f [] g j a b c = absurd (omega arith)
+past-or-held s l n h f (m ∷ ms) g j a b c =
+    either (eqb f n) _
+    (λ q.
+    let e : f ≡ n = eqb-true _ _ q in
+    let d : j < moveBy (length ms) (f + 1) (numberPast n h) (past h (run h + 1)) .next .0 = rw q at b in
+    below-or-not _ j (numberPast n h) (in-run e)
+    (λ i. omega (arith, past-or-held s l (numberPast n h) (past h (run h + 1)) (f + 1) ms (next-standing s l n h f m ms g e) j i d c)))
+    (λ q.
+    let e : f ≡ n → ⊥ = eqb-false _ _ q in
+    let d : j < moveBy (length ms) (f + 1) n h .next .0 = rw q at b in
+    omega (arith, past-or-held s l n h (f + 1) ms (skip-standing s l n h f m ms g e) j a d c))
+  where
+    in-run : f ≡ n → j < numberPast n h → j < f + suc (length ms)
+    in-run e i =
+        below-or-not _ n j
+        (λ k.
+        let z : n + 1 + (j - n - 1) ≡ j = omega arith in
+        let y = sym (g .same (omega arith) (j - n - 1)) ∙ ones-set 64 h (j - n - 1) (omega (arith, number-past-within n h)) in
+        absurd (true≢false (sym (rw z at y) ∙ c)))
+        (λ k. omega arith)
 
 -- ---- every datagram
 
@@ -225,3 +253,21 @@ places-are-delivered s l w = go (step s l)
     go : Step s l → delivery s l ≡ gives s l
     go (moves g) = data-delivered s l w g
     go (stays g) = none-delivered s l g ∙ sym (g .nothing)
+
+there-so : (l : List ℕ) (i : ℕ) → i < length (messagesOf l) → inDatagram (locateOf l i) .exists ≡ true
+unfolding locateOf
+there-so l i h = rw (lt-ltb _ _ h) refl
+
+data-exists : (s : Lent) (l : List ℕ) (p : ℕ) → s .receiver .held .0 < 2 ^ 64 → Moves s l → p < deliveredCount s l → partAt s l p .exists ≡ true
+unfolding partAt partWith
+data-exists s l p w g h =
+    let n = nextOf (s .receiver) in
+    either (isHeld (s .receiver) (n + p)) _ (λ q. rw (lt-ltb _ _ h, q) refl)
+    (λ q.
+    let b = past-or-held s l n (s .receiver .held .0) (numberOf l) (messagesOf l) (first-standing s l w g) (n + p) (omega arith)
+    (omega (arith, counted s l g)) q in
+    rw (lt-ltb _ _ h, q) (there-so l (n + p - numberOf l) (omega (arith, g .begins))))
+
+pub places-exist : PlacesExist
+unfolding PlacesExist
+places-exist s l p w h = data-exists s l p w (delivered s l p h .its-data) h

@@ -19,7 +19,7 @@ use Rattle.receiver.specs.Receiver.{refusalFor, tableRow, answerOf}
 use Rattle.receiver.proofs.TableLaws.{row-answer}
 use Rattle.receiver.proofs.Promises.{row-of, refused-answers, well-read}
 use Rattle.early_holding.specs.declared.holding.Moved.{Moved}
-use Rattle.early_holding.specs.Holding.{Lent, lent, nextOf, early, at, behind, advance, keeps, keep, keepOne, takeOne, takeAll, moveBy, moveTo}
+use Rattle.early_holding.specs.Holding.{Lent, lent, nextOf, early, at, numberPast, advance, keeps, keep, keepOne, takeOne, takeAll, moveBy, moveTo}
 use Rattle.early_holding.proofs.HoldingLaws.{either, keeps-below, move-skip}
 use Rattle.early_receiver.specs.Early.{withSlots, earlyRefusal, namedLent, endAt, takeKind, lentAfter}
 use Rattle.early_messages.specs.Delivery.{givesOne, givesAll, givesKind, gives}
@@ -113,7 +113,7 @@ standBy s m = stand s (m .next .0) (m .held .0)
 
 -- from the expected number on down it moves alone
 take-below : (s : Lent) (f n h : ℕ) (ms : List (List ℕ)) → f ≤ n → f + length ms ≤ 18446744073709551615 → takeAll (stand s n h) f ms ≡ standBy s (moveBy (length ms) f n h)
-unfolding takeAll moveBy takeOne advance keepOne behind
+unfolding takeAll moveBy takeOne advance keepOne numberPast
 take-below s f n h [] g t = refl
 take-below s f n h (m ∷ ms) g t =
     either (eqb f n) _

@@ -12,7 +12,7 @@ use Rattle.moldudp64.specs.Downstream.{messageOf}
 use Rattle.moldudp64_messages.specs.declared.cursor.Located.{Located}
 use Rattle.moldudp64_messages.specs.Cursor.{locateOf}
 use Rattle.early_word.specs.Word.{wordBits}
-use Rattle.early_holding.specs.Holding.{slotAt, Lent, nextOf, isHeld, heldMessage, behind, takeOne}
+use Rattle.early_holding.specs.Holding.{slotAt, Lent, nextOf, isHeld, heldMessage, numberPast, takeOne}
 use Rattle.early_receiver.specs.Early.{earlyRefusal, lentAfter}
 use Rattle.early_messages.specs.declared.message.Part.{Part}
 
@@ -37,7 +37,7 @@ abbrev pub inSlots : ℕ → ℕ → Part
 inSlots at n = record { exists = true; held = true; offset = record { 0 = at }; length = n }
 
 abbrev pub inDatagram : Located → Part
-inDatagram p = record { exists = true; held = false; offset = p .offset; length = p .length }
+inDatagram p = record { exists = p .exists; held = false; offset = p .offset; length = p .length }
 
 abbrev pub noPart : Part
 noPart = record { exists = false; held = false; offset = record { 0 = 0 }; length = 0 }
@@ -58,6 +58,11 @@ bytesOf slots l p = take (p .length) (drop (p .offset .0) (if p .held then slots
 unfoldable pub PartsAreMessages : Type 0
 PartsAreMessages = (s : Lent) (l : List ℕ) (p : ℕ) → bytesOf (s .slots) l (partAt s l p) ≡ messageAt s l p
 
+-- every place below the count has its message, where the word is one of 64 bits
+unfoldable pub PlacesExist : Type 0
+PlacesExist = (s : Lent) (l : List ℕ) (p : ℕ) → s .receiver .held .0 < 2 ^ wordBits → p < deliveredCount s l
+    → partAt s l p .exists ≡ true
+
 -- the messages at k places from p on
 unfoldable pub messagesAt : Lent → List ℕ → ℕ → ℕ → List (List ℕ)
 messagesAt s l p zero = []
@@ -77,7 +82,7 @@ heldFrom s j (suc k) = heldMessage s j ∷ heldFrom s (j + 1) k
 unfoldable pub givesOne : Lent → ℕ → List ℕ → List (List ℕ)
 givesOne s j m =
     if eqb j (nextOf (s .receiver))
-    then m ∷ heldFrom s (j + 1) (behind (nextOf (s .receiver)) (s .receiver .held .0) - nextOf (s .receiver) - 1)
+    then m ∷ heldFrom s (j + 1) (numberPast (nextOf (s .receiver)) (s .receiver .held .0) - nextOf (s .receiver) - 1)
     else []
 
 unfoldable pub givesAll : Lent → ℕ → List (List ℕ) → List (List ℕ)

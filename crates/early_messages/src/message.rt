@@ -20,7 +20,7 @@ ghost use lib.ListN.{length, take, drop};
 ghost use Rattle.wire.specs.Bounds.{largestCount};
 ghost use Rattle.early_holding.specs.Holding.{slotAt, lengthOf, lent};
 ghost use Rattle.early_messages.specs.Delivery.{inSlots, inDatagram, noPart, deliveredCount, partAt};
-ghost use Rattle.early_messages.specs.Delivery.{messageAt, PartsAreMessages, PlacesAreDelivered};
+ghost use Rattle.early_messages.specs.Delivery.{messageAt, PartsAreMessages, PlacesExist, PlacesAreDelivered};
 
 // Whether the message is there, whether it lies in the slots, and its offset and length there or in the datagram.
 pub struct Part {
@@ -47,7 +47,7 @@ pub(crate) fn in_datagram(found: Located) -> Part
 {
     let offset = found.offset;
     Part {
-        exists: true,
+        exists: found.exists,
         held: false,
         offset,
         length: found.length,
@@ -123,6 +123,7 @@ pub fn locate(
     ensures { λ r. ⌜ r ≡ partAt (lent receiver (now (lengths .entry)) (now (slots .entry))) (now (datagram .entry))
         (place .0) ⌝ }
     ensures messages { λ _. ⌜ PartsAreMessages ⌝ }
+    ensures exists { λ _. ⌜ PlacesExist ⌝ }
 {
     let there = count(receiver, lengths, slots, datagram);
     let before = place.before();

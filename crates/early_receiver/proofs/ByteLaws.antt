@@ -19,7 +19,7 @@ use Rattle.moldudp64.specs.Downstream.{DownstreamKind, data-packet, heartbeat, 
 use Rattle.moldudp64.proofs.DownstreamLaws.{sound, count-sound}
 use Rattle.early_word.specs.Word.{bit}
 use Rattle.early_word.proofs.WordLaws.{bit-marked}
-use Rattle.early_holding.specs.Holding.{slotOf, slotAt, lengthAt, Lent, nextOf, isHeld, lengthOf, heldMessage, keeps, keep, keepOne, takeAll}
+use Rattle.early_holding.specs.Holding.{slotOf, slotAt, lengthAt, Lent, nextOf, isHeld, lengthOf, heldMessage, keeps, keep, keepOne, advance, takeOne, takeAll}
 use Rattle.early_holding.proofs.HoldingLaws.{either, Keepable, keepable}
 use Rattle.early_receiver.specs.Early.{earlyRefusal, namedLent, endAt, takeKind, lentAfter}
 use Rattle.early_receiver.specs.Statements.{ByteOfHeld, OnlyHeldBytesChange}
@@ -29,11 +29,11 @@ use Rattle.early_receiver.proofs.RequestLaws.{after-open, well-open, si
 -- ---- bytes that a write leaves
 
 module _ (l : List ℕ) (at : ℕ) (bs : List ℕ) (i : ℕ) where
-  byte-before : i < at → getD (put l at bs) i 0 ≡ getD l i 0
+  pub byte-before : i < at → getD (put l at bs) i 0 ≡ getD l i 0
   byte-before h =
       sym (getD-take at (put l at bs) i 0 h) ∙ ap (λ (x : List ℕ). getD x i 0) (only-its-bytes l at bs .before) ∙ getD-take at l i 0 h
 
-  byte-behind : at + length bs ≤ i → getD (put l at bs) i 0 ≡ getD l i 0
+  pub byte-behind : at + length bs ≤ i → getD (put l at bs) i 0 ≡ getD l i 0
   byte-behind h =
       let to = at + length bs in
       let e : to + (i - to) ≡ i = omega arith in
@@ -105,6 +105,48 @@ one-length s j m k h g =
     ap (λ (x : Lent). lengthOf (x .lengths) k) (kept-is s j m q) ∙ length-other (s .lengths) j k (length m) (λ z. omega arith))
     (λ q. ap (λ (x : Lent). lengthOf (x .lengths) k) (left-is s j m q))
 
+-- ---- what is lent keeps its size
+
+take-slots : (s : Lent) (j : ℕ) (m : List ℕ) → length (takeOne s j m .slots) ≡ length (s .slots)
+unfolding takeOne advance
+take-slots s j m = either (eqb j (nextOf (s .receiver))) _ (λ q. rw q) (λ q. rw q (one-slots s j m))
+
+take-lengths : (s : Lent) (j : ℕ) (m : List ℕ) → length (takeOne s j m .lengths) ≡ length (s .lengths)
+unfolding takeOne advance
+take-lengths s j m = either (eqb j (nextOf (s .receiver))) _ (λ q. rw q) (λ q. rw q (one-lengths s j m))
+
+all-slots : (ms : List (List ℕ)) (s : Lent) (f : ℕ) → length (takeAll s f ms .slots) ≡ length (s .slots)
+unfolding takeAll
+all-slots [] s f = refl
+all-slots (m ∷ ms) s f = all-slots ms (takeOne s f m) (f + 1) ∙ take-slots s f m
+
+all-lengths : (ms : List (List ℕ)) (s : Lent) (f : ℕ) → length (takeAll s f ms .lengths) ≡ length (s .lengths)
+unfolding takeAll
+all-lengths [] s f = refl
+all-lengths (m ∷ ms) s f = all-lengths ms (takeOne s f m) (f + 1) ∙ take-lengths s f m
+
+kind-slots : (s : Lent) (k : DownstreamKind) (l : List ℕ) → length (takeKind s k l .slots) ≡ length (s .slots)
+unfolding takeKind endAt
+kind-slots s data-packet l = all-slots (messagesOf l) s (numberOf l)
+kind-slots s heartbeat l = refl
+kind-slots s end-of-session l = either (eqb (numberOf l) (nextOf (s .receiver))) _ (λ q. rw q) (λ q. rw q)
+
+kind-lengths : (s : Lent) (k : DownstreamKind) (l : List ℕ) → length (takeKind s k l .lengths) ≡ length (s .lengths)
+unfolding takeKind endAt
+kind-lengths s data-packet l = all-lengths (messagesOf l) s (numberOf l)
+kind-lengths s heartbeat l = refl
+kind-lengths s end-of-session l = either (eqb (numberOf l) (nextOf (s .receiver))) _ (λ q. rw q) (λ q. rw q)
+
+pub after-slots : (s : Lent) (l : List ℕ) → length (lentAfter s l .slots) ≡ length (s .slots)
+unfolding lentAfter
+after-slots s l =
+    either (eqb (earlyRefusal s l) 0) _ (λ q. rw q (kind-slots (namedLent s l) (kindOf l) l)) (λ q. rw q)
+
+pub after-lengths : (s : Lent) (l : List ℕ) → length (lentAfter s l .lengths) ≡ length (s .lengths)
+unfolding lentAfter
+after-lengths s l =
+    either (eqb (earlyRefusal s l) 0) _ (λ q. rw q (kind-lengths (namedLent s l) (kindOf l) l)) (λ q. rw q)
+
 -- ---- all messages of a datagram ahead
 
 all-held : (ms : List (List ℕ)) (s : Lent) (f k : ℕ) → nextOf (s .receiver) < f → isHeld (s .receiver) k ≡ true → isHeld (takeAll s f ms .receiver) k ≡ true
@@ -120,12 +162,6 @@ all-length [] s f k h g = refl
 all-length (m ∷ ms) s f k h g =
     ap (λ (x : Lent). lengthOf (x .lengths) k) (step-above m ms s f (omega arith))
     ∙ all-length ms (keepOne s f m) (f + 1) k (omega (arith, one-next s f m)) (omega arith) ∙ one-length s f m k h g
-
-all-slots : (ms : List (List ℕ)) (s : Lent) (f : ℕ) → nextOf (s .receiver) < f → length (takeAll s f ms .slots) ≡ length (s .slots)
-unfolding takeAll
-all-slots [] s f h = refl
-all-slots (m ∷ ms) s f h =
-    ap (λ (x : Lent). length (x .slots)) (step-above m ms s f h) ∙ all-slots ms (keepOne s f m) (f + 1) (omega (arith, one-next s f m)) ∙ one-slots s f m
 
 -- the message that a changed byte belongs to: it was kept, and nothing after it touches it
 module _ (s : Lent) (f : ℕ) (m : List ℕ) (ms : List (List ℕ)) (i : ℕ) (h : nextOf (s .receiver) < f) (a : length (s .slots) ≡ 65536) (b : length (s .lengths) ≡ 128)
@@ -159,7 +195,7 @@ module _ (s : Lent) (f : ℕ) (m : List ℕ) (ms : List (List ℕ)) (i : ℕ) (h
   message-length : length (heldMessage all f) ≡ length m
   unfolding heldMessage
   message-length =
-      let c : length (all .slots) ≡ 65536 = all-slots ms t (f + 1) above-t ∙ one-slots s f m ∙ a in
+      let c : length (all .slots) ≡ 65536 = all-slots ms t (f + 1) ∙ one-slots s f m ∙ a in
       let short = its s f m was-kept .short in
       rw its-length (omega (arith, length-take (length m) (drop (slotAt f) (all .slots)), length-drop (slotAt f) (all .slots)))
 
@@ -226,9 +262,9 @@ of-named : (s t : Lent) (l : List ℕ) (i : ℕ) → ByteOfHeld (namedLent s l) 
 unfolding isHeld
 of-named s t l i r = record { number = r .number; held-now = r .held-now; not-before = r .not-before; from = r .from; to = r .to }
 
-pub only-held-bytes-change : OnlyHeldBytesChange
-unfolding OnlyHeldBytesChange lentAfter
-only-held-bytes-change s l i z = zero-or-not _ (earlyRefusal s l) accepted (λ e. absurd (z (rw (ne-eqb _ _ e))))
+after-changes : (s : Lent) (l : List ℕ) (i : ℕ) → (getD (lentAfter s l .slots) i 0 ≡ getD (s .slots) i 0 → ⊥) → ByteOfHeld s (lentAfter s l) i
+unfolding lentAfter
+after-changes s l i z = zero-or-not _ (earlyRefusal s l) accepted (λ e. absurd (z (rw (ne-eqb _ _ e))))
   where
     accepted : earlyRefusal s l ≡ 0 → ByteOfHeld s (lentAfter s l) i
     accepted e =
@@ -238,3 +274,6 @@ only-held-bytes-change s l i z = zero-or-not _ (earlyRefusal s l) accepted (λ e
         subst (λ (x : Lent). ByteOfHeld s x i) (sym o)
         (of-named s (takeKind (namedLent s l) (kindOf l) l) l i
         (kind-changes (namedLent s l) (kindOf l) l i (well-open s l e) (eqb-true _ _ (c .0)) (eqb-true _ _ (c .1)) y))
+
+pub only-held-bytes-change : OnlyHeldBytesChange
+only-held-bytes-change = record { bytes = after-changes; lengths-stay = after-lengths; slots-stay = after-slots }

@@ -18,7 +18,7 @@ use Rattle.receiver.specs.Table.{numbered}
 use Rattle.early_word.specs.Word.{run, past}
 use Rattle.early_holding.specs.declared.holding.EarlyReceiver.{EarlyReceiver}
 use Rattle.early_holding.specs.declared.holding.Moved.{Moved}
-use Rattle.early_holding.specs.Holding.{Lent, lent, early, nextOf, at, behind, advance, keeps, keep, keepOne, takeOne, takeAll, moveBy, moveTo}
+use Rattle.early_holding.specs.Holding.{Lent, lent, early, nextOf, at, numberPast, advance, keeps, keep, keepOne, takeOne, takeAll, moveBy, moveTo}
 use Rattle.early_holding.proofs.HoldingLaws.{either, move-skip, keeps-below}
 use Rattle.early_receiver.specs.Read.{messagesFromCursor, messagesRead}
 
@@ -79,7 +79,7 @@ one-below s j m h = rw (← keeps-below (s .receiver) j (length m) h)
 -- the number behind one that is delivered isn't below it, even at the end of the numbers
 take-below : (ms : List (List ℕ)) (s : Lent) (f : ℕ) → f ≤ nextOf (s .receiver) → f + length ms ≤ 18446744073709551615
     → takeAll s f ms ≡ movedBy s (moveBy (length ms) f (nextOf (s .receiver)) (s .receiver .held .0))
-unfolding takeAll moveBy takeOne advance behind
+unfolding takeAll moveBy takeOne advance numberPast
 take-below [] s f h g = refl
 take-below (m ∷ ms) s f h g =
     either (eqb f (nextOf (s .receiver))) _
@@ -96,7 +96,7 @@ all-below s f ms h g =
 
 -- the number never falls, but for one beyond the largest
 pub move-rises : (c f n h : ℕ) → n ≤ 18446744073709551615 → n ≤ moveBy c f n h .next .0
-unfolding moveBy behind
+unfolding moveBy numberPast
 move-rises zero f n h e = omega arith
 move-rises (suc c) f n h e =
     either (eqb f n) _

@@ -24,7 +24,7 @@ use Rattle.receiver.proofs.Promises.{well-read}
 use Rattle.early_word.specs.Word.{bit, run, lowest, past, wordBits}
 use Rattle.early_word.proofs.WordLaws.{ones-le, zeros-clear, zeros-one}
 use Rattle.early_holding.specs.declared.holding.EarlyReceiver.{EarlyReceiver}
-use Rattle.early_holding.specs.Holding.{Lent, nextOf, isHeld, behind, advance, takeOne, takeAll, moveBy, moveTo}
+use Rattle.early_holding.specs.Holding.{Lent, nextOf, isHeld, numberPast, advance, takeOne, takeAll, moveBy, moveTo}
 use Rattle.early_holding.proofs.HoldingLaws.{either}
 use Rattle.early_receiver.specs.declared.early.Answer.{Answer}
 use Rattle.early_receiver.specs.declared.early.Answer.the-variants.{Deliver, Old, Quiet, Ahead, Ended, Refused}
@@ -150,7 +150,7 @@ asks-exactly-when =
 -- ---- how far the number moves
 
 move-bound : (c f n h : ℕ) → moveBy c f n h .next .0 ≤ max n (f + c + 64)
-unfolding moveBy behind
+unfolding moveBy numberPast
 move-bound zero f n h = omega arith
 move-bound (suc c) f n h =
     either (eqb f n) _

@@ -12,7 +12,7 @@ use Rattle.early_word.specs.Word.{wordBits}
 use Rattle.early_holding.specs.declared.holding.EarlyReceiver.{EarlyReceiver}
 use Rattle.early_holding.specs.Holding.{slotAt, Lent, nextOf, isHeld, heldMessage}
 use Rattle.early_receiver.specs.Answers.{earlyWords, requestWords}
-use Rattle.early_receiver.specs.Early.{earlyRefusal, lentAfter, requestOf, wantedTo}
+use Rattle.early_receiver.specs.Early.{rightSize, earlyRefusal, lentAfter, earlyAnswer, requestOf, wantedTo}
 
 -- a refusal changes nothing: neither the receiver nor one lent byte
 unfoldable pub EarlyRefusalKeeps : Type 0
@@ -27,9 +27,23 @@ pub record ByteOfHeld (s t : Lent) (i : ℕ) : Type 0 where
   pub from : slotAt number ≤ i
   pub to : i < slotAt number + length (heldMessage t number)
 
-unfoldable pub OnlyHeldBytesChange : Type 0
-OnlyHeldBytesChange = (s : Lent) (l : List ℕ) (i : ℕ) → (getD (lentAfter s l .slots) i 0 ≡ getD (s .slots) i 0 → ⊥)
-    → ByteOfHeld s (lentAfter s l) i
+-- and what is lent keeps its size
+pub record OnlyHeldBytesChange : Type 0 where
+  pub bytes : (s : Lent) (l : List ℕ) (i : ℕ) → (getD (lentAfter s l .slots) i 0 ≡ getD (s .slots) i 0 → ⊥)
+      → ByteOfHeld s (lentAfter s l) i
+  pub lengths-stay : (s : Lent) (l : List ℕ) → length (lentAfter s l .lengths) ≡ length (s .lengths)
+  pub slots-stay : (s : Lent) (l : List ℕ) → length (lentAfter s l .slots) ≡ length (s .slots)
+
+-- what bytes the lent slots and lengths have doesn't matter to the receiver: lent some of their size, the same receiver
+-- goes on the same, and answers and asks the same
+pub record SameBut (s t : Lent) (l : List ℕ) : Type 0 where
+  pub receiver : lentAfter s l .receiver ≡ lentAfter t l .receiver
+  pub answers : earlyAnswer s l ≡ earlyAnswer t l
+  pub asks : requestOf s l ≡ requestOf t l
+
+unfoldable pub SlotsDontMatter : Type 0
+SlotsDontMatter = (s t : Lent) (l : List ℕ) → s .receiver ≡ t .receiver → rightSize s ≡ true → rightSize t ≡ true
+    → SameBut s t l
 
 -- after an accepted datagram that leaves the receiver unended it asks exactly when the datagram's number is above the
 -- number then, or something is held: from that number to just below the lowest held one, or the datagram's, within the
@@ -62,6 +76,7 @@ CountsAll = (s : Lent) (l : List ℕ) → nextOf (lentAfter s l .receiver) - nex
 pub record EarlyPromises : Type 0 where
   pub refusal-keeps : EarlyRefusalKeeps
   pub only-held-bytes-change : OnlyHeldBytesChange
+  pub slots-dont-matter : SlotsDontMatter
   pub asks-exactly-when : AsksExactlyWhen
   pub counts-all : CountsAll
   pub answers-apart : Injective earlyWords

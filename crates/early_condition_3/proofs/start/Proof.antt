@@ -1,5 +1,7 @@
--- The plain receiver's start; condition 3 and order 13 are theorems of their own.
+-- The plain receiver's start; the rule, condition 3 and order 13 are theorems of their own.
 use Rattle.early_condition_3.proofs.ConditionLaws.{early-condition-3}
+use Rattle.early_condition_3.proofs.PlainLaws.{never-less}
+use Rattle.early_condition_3.proofs.RuleLaws.{sound-throughout, one-message, follows-the-rule}
 use Rattle.early_condition_3.proofs.SwappedLaws.{swapped-neighbours}
 use Rattle.early_condition_3.proofs.Rules.{starts}
 use Rattle.early_condition_3.proofs.start.Statement.{statement}
@@ -10,5 +12,5 @@ start-spec =
     tie.close
     (tie.spec
     (λ c κs. search starts)  -- new-requires
-    (λ c. ((search starts, search starts), (early-condition-3, swapped-neighbours)))  -- returns
+    (λ c. ((search starts, search starts), (early-condition-3, (swapped-neighbours, (never-less, (sound-throughout, (one-message, follows-the-rule)))))))  -- returns
     )
