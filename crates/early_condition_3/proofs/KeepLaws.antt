@@ -91,7 +91,7 @@ kept-of s j m i g e =
     (λ y. of-held (keep s j m) i (c ∙ y) ∙ ap (λ (v : Message). some v) (keep-other s j m i g (p .above) (p .near) (p .short) y x) ∙ sym (of-held s i y))
     (λ y. of-none (keep s j m) i (c ∙ y) ∙ sym (of-none s i y))))
 
-keep-sound : (s : Lent) (j : ℕ) (m : Message) → Sound s → keeps (s .receiver) j (length m) ≡ true → j < 18446744073709551615 → Sound (keep s j m)
+pub keep-sound : (s : Lent) (j : ℕ) (m : Message) → Sound s → keeps (s .receiver) j (length m) ≡ true → j < 18446744073709551615 → Sound (keep s j m)
 unfolding keep
 keep-sound s j m g e l =
     record {
