@@ -1,7 +1,7 @@
 -- Laws of what is held: how far the expected number moves, and one message kept.
 use mathlib.Core.Path.{_≡_, refl, sym, ap, ap₂, _∙_}
 use mathlib.Core.List.{List}
-use mathlib.Core.Bool.{Bool, true, false, not, true≢false}
+use mathlib.Core.Bool.{Bool, true, false, not, _&&_, true≢false}
 use Prim.Native.Nat.{ℕ, zero, suc, _+_, _-_, _*_, _%_, _^_, _≤_, _<_, min}
 use native.Mathlib.Omega.{arith}
 use native.Mathlib.Nat.{zero-div}
@@ -27,6 +27,10 @@ use Rattle.early_holding.specs.Holding.{lent, early, nextOf, isHeld, num
 pub either : (b : Bool) (P : Type 0) → (b ≡ true → P) → (b ≡ false → P) → P
 either true P f g = f refl
 either false P f g = g refl
+
+pub both : (a b : Bool) → (a && b) ≡ true → (a ≡ true) × (b ≡ true)
+both true b e = (refl, e)
+both false b e = absurd (true≢false (sym e))
 
 -- ---- how far the expected number moves
 
@@ -121,6 +125,11 @@ place-is n j p b f g e h = omega arith
 pub held-bit : (r : EarlyReceiver) (j : ℕ) → nextOf r < j → isHeld r j ≡ bit (r .held .0) (j - nextOf r - 1)
 unfolding isHeld
 held-bit r j h = rw (lt-ltb _ _ h) refl
+
+pub held-at : (r : EarlyReceiver) (i : ℕ) → isHeld r (nextOf r + 1 + i) ≡ bit (r .held .0) i
+held-at r i =
+    let z : nextOf r + 1 + i - nextOf r - 1 ≡ i = omega arith in
+    held-bit r (nextOf r + 1 + i) (omega arith) ∙ ap (bit (r .held .0)) z
 
 pub holds-below : (r : EarlyReceiver) (j : ℕ) → j ≤ nextOf r → false ≡ isHeld r j
 unfolding isHeld
