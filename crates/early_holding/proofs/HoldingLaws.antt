@@ -7,6 +7,7 @@ use native.Mathlib.Omega.{arith}
 use native.Mathlib.Nat.{zero-div}
 use lib.ListN.{length}
 use lib.Dec.{ltb, leb, eqb}
+use lib.Pow.{pow-pos}
 use mir.Val.{Fits}
 use mir.Syntax.{w16, w64}
 use borrow.Author.Tests.{lt-ltb, le-ltb, le-leb, lt-leb, ltb-true, ltb-false, leb-false, not-true, not-false, eq-eqb, eqb-true, eqb-false}
@@ -93,13 +94,32 @@ move-turns (suc fuel) n h end k f w l e =
     let y : k + (run h - k + 1) ≡ run h + 1 = omega arith in
     sym step ∙ t ∙ sym (rw (r, x, y) refl))
 
+-- with nothing held every number is the next
+none-past : (k : ℕ) → past 0 k ≡ 0
+unfolding past
+none-past k = zero-div (2 ^ k)
+
+none-run : run 0 ≡ 0
+unfolding onesOf bit
+none-run = refl
+
+pub move-free : (n end : ℕ) → n ≤ end → Fits w64 end → moveTo n 0 end ≡ moved end 0
+move-free n end h f =
+    below-or-not _ n end
+    (λ i.
+    let k = end - n - 1 in
+    let x : min 18446744073709551615 (end + 0) ≡ end = omega arith in
+    let t = move-turns (end - n) n 0 end k (omega arith) (pow-pos 64) (omega arith) (omega arith) in
+    rw (none-past k, none-run, none-past (k + (0 + 1)), x) at t)
+    (λ i. let e : n ≡ end = omega arith in sym (move-none (record { 0 = n }) (record { 0 = 0 }) end i) ∙ ap (λ (k : ℕ). moved k 0) e)
+
 pub move-far : (n h end g y w r : ℕ) (b : SequenceNumber) (q : Held) → Fits w64 h → Fits w64 end → n < end → g ≡ min 65535 (end - n) → y ≡ g - 1 → w ≡ past h y → r ≡ run w
     → b .0 ≡ min 18446744073709551615 (end + r) → q .0 ≡ past w (r + 1) → record { next = b; held = q } ≡ moveTo n h end
 move-far n h end g y w r b q f l lt d s e i p u =
     let k = end - n - 1 in
     let fit : h < 2 ^ 64 = omega (arith, f) in
     let same : past h y ≡ past h k =
-        below-or-not _ (end - n) 65536 (λ x. ap (past h) (omega arith)) (λ x. sym (past-none h 64 y fit (omega arith)) ∙ past-none h 64 k fit (omega arith)) in
+    below-or-not _ (end - n) 65536 (λ x. ap (past h) (omega arith)) (λ x. sym (past-none h 64 y fit (omega arith)) ∙ past-none h 64 k fit (omega arith)) in
     let w′ : w ≡ past h k = e ∙ same in
     let t = move-turns (end - n) n h end k (omega arith) fit (omega (arith, l)) (omega arith) in
     let x : b .0 ≡ min 18446744073709551615 (end + run (past h k)) = p ∙ rw (i, w′) refl in

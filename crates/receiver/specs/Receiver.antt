@@ -173,9 +173,7 @@ Takes x r l = (answerWords (x .answer) ≡ answerOf r l) × (x .receiver ≡ rec
 abbrev pub TakesRead : Taken → Receiver → List ℕ → Words DownstreamKind → Type 0
 TakesRead x r l w = (answerWords (x .answer) ≡ answerRead r l w) × (x .receiver ≡ afterRead r l w)
 
--- ---- for private helpers alone; no public promise uses it
-
--- a row taken: x is the answer with the next receiver
+-- of a function that takes one row of the table, which returned x: the answer with the next receiver
 pub record TakesRow (x : Taken) (r : Receiver) (o : Outcome) : Type 0 where
   pub answers : answerWords (x .answer) ≡ o .reply
   pub leaves : x .receiver ≡ afterRow r o

@@ -285,7 +285,7 @@ impl Receiver {
     }
 
     // The rows for data: as many messages of it as can be numbered.
-    fn take_data(self, first: SequenceNumber, count: MessageCount) -> Taken
+    pub fn take_data(self, first: SequenceNumber, count: MessageCount) -> Taken
         ensures { λ r. ⌜ TakesRow r self (table (self .limit .0) (self .next .0) data-packet (first .0)
             (numbered (first .0) (count .0))) ⌝ }
     {
@@ -311,7 +311,7 @@ impl Receiver {
     }
 
     // The rows for a heartbeat.
-    fn take_heartbeat(self, at: SequenceNumber) -> Taken
+    pub fn take_heartbeat(self, at: SequenceNumber) -> Taken
         ensures { λ r. ⌜ TakesRow r self (table (self .limit .0) (self .next .0) heartbeat (at .0) 0) ⌝ }
     {
         let next = self.next;
