@@ -4,8 +4,8 @@ use mathlib.Core.List.{List, [], _∷_, _++_, append-assoc}
 use mathlib.Core.Bool.{Bool, true, false, not}
 use mathlib.Core.Path.{_≡_, refl, ap, ap₂, _∙_}
 use native.Mathlib.Omega.{arith}
-use lib.ListN.{length, take, drop, length-append, length-replicate}
-use lib.Seq.{take-at}
+use lib.ListN.{length, take, drop, length-append, length-replicate, length-drop}
+use lib.Seq.{take-at, length-take-le}
 use borrow.Author.Tests.{lt-ltb, le-ltb, eq-eqb}
 use Rattle.wire.specs.Bounds.{sessionSize}
 use Rattle.wire.specs.Output.{put, Writes}
@@ -46,6 +46,20 @@ unfolding earlyIn
 early-ten l =
     below-or-not _ (length l) 157 (λ h. rw (lt-ltb (length l) 157 h) refl)
     (λ h. rw (le-ltb (length l) 157 h) (name-ten (drop 1 l)))
+
+pub lengths-long : (l : List ℕ) → 157 ≤ length l → lengthsIn l ≡ take 128 (drop 29 l)
+unfolding lengthsIn
+lengths-long l h = rw (le-ltb (length l) 157 h) refl
+
+length-none : length noLengths ≡ 128
+length-none = length-replicate {A = ℕ} 128 0
+
+-- and 128 bytes of lengths
+pub lengths-few : (l : List ℕ) → length (lengthsIn l) ≡ 128
+unfolding lengthsIn
+lengths-few l =
+    below-or-not _ (length l) 157 (λ h. rw (lt-ltb (length l) 157 h) length-none)
+    (λ h. rw (le-ltb (length l) 157 h) (length-take-le 128 (drop 29 l) (omega (arith, length-drop 29 l))))
 
 -- ---- laid
 
@@ -137,7 +151,7 @@ module _ (r : EarlyReceiver) (lengths l : List ℕ) (ten : length (r .base .sess
         fits = length-kept;
         leaves = all;
         reads-back = λ t g. ap₂ kept (d .back (omega arith))
-            (ap lengthsIn (all ∙ front)
+            (lengths-long m (omega (arith, ap length all ∙ length-put l 0 (headBytes r ++ lengths))) ∙ ap (λ (x : List ℕ). take 128 (drop 29 x)) (all ∙ front)
             ∙ ap (take 128) (ap (drop 29) (append-assoc (headBytes r) lengths _) ∙ past-field (headBytes r) _ 29 head)
             ∙ take-at lengths _ 128 few);
       }
@@ -149,9 +163,6 @@ pub kept-promises : StatePromises KeepsKept 157 keptBytes
 kept-promises = state-promises 157 keptIn keptBytes
 
 -- ---- a fresh one, as `write_fresh` has it
-
-length-none : length noLengths ≡ 128
-length-none = length-replicate {A = ℕ} 128 0
 
 pub lengths-put : (l m bs : List ℕ) (x : Written) → Writes x l m 0 29 bs → m ≡ put l 29 bs
 lengths-put l m bs x w = w .leaves

@@ -56,8 +56,12 @@ earlyIn l =
     (receiver (nameIn l) (little l numberAt numberSize) (little l limitAt countSize) (not (isOpen earlyCode l)))
     (little l wordAt wordSize)
 
-abbrev pub lengthsIn : List ℕ → List ℕ
-lengthsIn l = take lengthBytes (drop lengthsAt l)
+-- no lengths yet
+abbrev pub noLengths : List ℕ
+noLengths = replicate lengthBytes 0
+
+unfoldable pub lengthsIn : List ℕ → List ℕ
+lengthsIn l = if ltb (length l) earlySize then noLengths else take lengthBytes (drop lengthsAt l)
 
 abbrev pub keptIn : List ℕ → Kept
 keptIn l = kept (earlyIn l) (lengthsIn l)
@@ -68,10 +72,6 @@ lentIn l ss = lent (earlyIn l) (lengthsIn l) ss
 
 abbrev pub KeepsKept : Bool → List ℕ → List ℕ → Kept → Type 0
 KeepsKept lays l m k = Keeps lays l m earlySize keptIn (keptBytes k) k
-
--- no lengths yet
-abbrev pub noLengths : List ℕ
-noLengths = replicate lengthBytes 0
 
 -- ---- what `write` promises: the bytes before the lengths are laid where there is room for all, and read back
 
