@@ -108,6 +108,7 @@ module _ (s : Lent) (l : List ℕ) where
 pub early-read-as-whole : EarlyReadAsWhole
 early-read-as-whole =
     record {
+      refuses = λ s l. by-reader (s .receiver .base) l (λ bad. refused-same s l bad ∙ sym (refused-so s l bad)) (well-refusal s l);
       answers = λ s l. by-reader (s .receiver .base) l (bad-answer s l) (well-answer s l);
       asks = λ s l. by-reader (s .receiver .base) l (bad-request s l) (well-request s l);
       leaves = λ s l. by-reader (s .receiver .base) l (bad-after s l) (well-after s l);

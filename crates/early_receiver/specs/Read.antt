@@ -16,7 +16,7 @@ use Rattle.early_holding.specs.Holding.{Lent, lent, nextOf, takeAll}
 use Rattle.early_receiver.specs.declared.early.Taken.{Taken}
 use Rattle.early_receiver.specs.Answers.{earlyWords, requestWords}
 use Rattle.early_receiver.specs.Early.{rightSize, withSlots, namedLent, endAt, wanted, answerBy, earlyAnswer}
-use Rattle.early_receiver.specs.Early.{requestOf, lentAfter}
+use Rattle.early_receiver.specs.Early.{earlyRefusal, requestOf, lentAfter}
 
 -- k messages from a cursor on
 unfoldable pub messagesFromCursor : List ℕ → Cursor → ℕ → List (List ℕ)
@@ -52,6 +52,7 @@ earlyAnswerRead s l w =
 
 -- what a reader finds in a datagram is answered as the datagram is
 pub record EarlyReadAsWhole : Type 0 where
+  pub refuses : (s : Lent) (l : List ℕ) → earlyRefusalRead s l (downstreamOf l) ≡ earlyRefusal s l
   pub answers : (s : Lent) (l : List ℕ) → earlyAnswerRead s l (downstreamOf l) ≡ earlyAnswer s l
   pub asks : (s : Lent) (l : List ℕ) → requestRead s l (downstreamOf l) ≡ requestOf s l
   pub leaves : (s : Lent) (l : List ℕ) → lentAfterRead s l (downstreamOf l) ≡ lentAfter s l

@@ -3,9 +3,6 @@ use Prim.Native.Nat.{ℕ}
 use mathlib.Core.List.{List, [], _∷_}
 use mathlib.Core.Bool.{Bool}
 use mathlib.Core.Path.{_≡_, refl, _∙_}
-use lib.Dec.{ltb}
-use Rattle.wire.specs.Bounds.{sessionSize, leastNumber, largestNumber, leastLimit, largestLimit}
-use Rattle.wire.specs.Refusals.{badSetting}
 use Rattle.wire.proofs.Words.{refusal-of}
 use Rattle.moldudp64.specs.declared.downstream.Downstream.{Downstream}
 use Rattle.moldudp64.specs.Downstream.{refusalOf, downstreamOf, downstreamWords}
@@ -13,10 +10,10 @@ use Rattle.moldudp64.proofs.DownstreamLaws.{refusal-found}
 use Rattle.receiver.specs.declared.receiver.Receiver.{Receiver}
 use Rattle.receiver.specs.declared.receiver.Answer.{Answer}
 use Rattle.receiver.specs.Table.{answerWords}
-use Rattle.receiver.specs.Receiver.{receiverStartRefusal, refusalFor, answerOf, answerRead}
+use Rattle.receiver.specs.Receiver.{refusalFor, answerOf, answerRead}
 use Rattle.receiver.proofs.ReadLaws.{read-as-whole}
-use Rattle.host_answers.specs.Answers.{orElse, short, unlessSized, isOneOf, RefusesOnly, AnswersWith}
-use Rattle.host_answers.proofs.OnlyLaws.{only-if, only-sized, only-ending, answers-only, only-within, within}
+use Rattle.host_answers.specs.Answers.{orElse, short, isOneOf, RefusesOnly, AnswersWith}
+use Rattle.host_answers.proofs.OnlyLaws.{only-ending, answers-only, only-within, within}
 use Rattle.host_receiver.proofs.RefusalLaws.{said-refusal, receiver-only}
 use Rattle.host_cursor.proofs.DatagramLaws.{datagramGrounds, datagram-only}
 
@@ -44,12 +41,3 @@ module _ (d : List ℕ) (p : Downstream) (e : downstreamWords p ≡ downstreamOf
 pub short-only : RefusesOnly 41 (11 ∷ 12 ∷ 13 ∷ 14 ∷ 15 ∷ 16 ∷ 17 ∷ 18 ∷ 20 ∷ 41 ∷ [])
 unfolding isOneOf
 short-only = refl
-
-pub start-only : (r g h n limit lent : ℕ) (b : Bool) → h ≡ receiverStartRefusal n limit → g ≡ unlessSized lent sessionSize badSetting h → r ≡ orElse g (short b) → RefusesOnly r (19 ∷ 41 ∷ [])
-unfolding isOneOf receiverStartRefusal
-start-only r g h n limit lent b e f q =
-    only-ending r g b (19 ∷ 41 ∷ []) q
-    (rw (f, e) (only-sized lent sessionSize badSetting (receiverStartRefusal n limit) (19 ∷ 41 ∷ []) refl
-    (only-if (ltb n leastNumber) 19 _ (19 ∷ 41 ∷ []) refl
-    (only-if (ltb largestNumber n) 19 _ (19 ∷ 41 ∷ []) refl (only-if (ltb limit leastLimit) 19 _ (19 ∷ 41 ∷ []) refl (only-if (ltb largestLimit limit) 19 0 (19 ∷ 41 ∷ []) refl refl))))))
-    refl

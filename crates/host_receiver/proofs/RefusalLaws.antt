@@ -3,19 +3,22 @@ use Prim.Native.Nat.{ℕ}
 use mathlib.Core.List.{List, [], _∷_}
 use mathlib.Core.Bool.{Bool, false}
 use mathlib.Core.Path.{_≡_, refl, ap, sym, _∙_}
+use lib.Dec.{ltb}
 use borrow.Author.Tests.{ne-eqb}
+use Rattle.wire.specs.Bounds.{sessionSize, leastNumber, largestNumber, leastLimit, largestLimit}
+use Rattle.wire.specs.Refusals.{badSetting}
 use Rattle.wire.proofs.Cases.{zero-or-not}
 use Rattle.wire.proofs.Words.{refusal-of}
 use Rattle.moldudp64.specs.Downstream.{DownstreamKind, kindOf, refusalOf, wellFormed}
 use Rattle.moldudp64.specs.Header.{numberOf}
 use Rattle.receiver.specs.declared.receiver.Receiver.{Receiver}
 use Rattle.receiver.specs.Table.{Outcome, Row, data-reaches, data-below, heartbeat-below, heartbeat-at, any-above, end-at}
-use Rattle.receiver.specs.Receiver.{otherSession, endBelow, ownRefusal, refusalFor, answerOf}
+use Rattle.receiver.specs.Receiver.{receiverStartRefusal, otherSession, endBelow, ownRefusal, refusalFor, answerOf}
 use Rattle.receiver.proofs.Promises.{row-of, refused-answers}
 use Rattle.receiver.proofs.TableLaws.{row-answer}
-use Rattle.host_answers.specs.Answers.{short, stateLadder, isOneOf, RefusesOnly}
+use Rattle.host_answers.specs.Answers.{orElse, short, unlessSized, stateLadder, isOneOf, RefusesOnly}
 use Rattle.host_answers.proofs.AnswerLaws.{or-first, or-next}
-use Rattle.host_answers.proofs.OnlyLaws.{only-if}
+use Rattle.host_answers.proofs.OnlyLaws.{only-if, only-sized, only-ending}
 
 -- no row of the table refuses
 no-refusal : (limit n f c : ℕ) (k : DownstreamKind) (o : Outcome) → Row limit n k f c o → o .reply .refusal ≡ 0
@@ -56,3 +59,12 @@ own-only r d b = only-if (otherSession r d) 17 _ takeGrounds refl (only-if (r .e
 pub receiver-only : (r : Receiver) (d : List ℕ) → RefusesOnly (refusalOf d) takeGrounds → RefusesOnly (refusalFor r d) takeGrounds
 unfolding refusalFor
 receiver-only r d h = only-if (wellFormed d) _ (refusalOf d) takeGrounds (own-only r d (endBelow (kindOf d) (numberOf d) (r .next .0))) h
+
+pub start-only : (r g h n limit lent : ℕ) (b : Bool) → h ≡ receiverStartRefusal n limit → g ≡ unlessSized lent sessionSize badSetting h → r ≡ orElse g (short b) → RefusesOnly r (19 ∷ 41 ∷ [])
+unfolding isOneOf receiverStartRefusal
+start-only r g h n limit lent b e f q =
+    only-ending r g b (19 ∷ 41 ∷ []) q
+    (rw (f, e) (only-sized lent sessionSize badSetting (receiverStartRefusal n limit) (19 ∷ 41 ∷ []) refl
+    (only-if (ltb n leastNumber) 19 _ (19 ∷ 41 ∷ []) refl
+    (only-if (ltb largestNumber n) 19 _ (19 ∷ 41 ∷ []) refl (only-if (ltb limit leastLimit) 19 _ (19 ∷ 41 ∷ []) refl (only-if (ltb largestLimit limit) 19 0 (19 ∷ 41 ∷ []) refl refl))))))
+    refl

@@ -1,0 +1,61 @@
+// What a datagram will deliver, before it is taken: how many messages, and each by its place.
+use early_holding::holding::SLOT_BYTES;
+use early_messages::message;
+use host_early::LENGTHS_AT;
+use host_early::answers;
+use wire::kinds::MessagePlace;
+use wire::refusal;
+use wire::refusal::Refusal;
+
+// The refusal of slots of another size.
+pub(crate) fn slots_refusal(size: usize) -> Refusal {
+    if size == SLOT_BYTES {
+        return refusal::NONE;
+    }
+    refusal::BAD_SETTING
+}
+
+// How many messages a datagram will deliver.
+#[no_mangle]
+pub extern "C" fn eiderwagon_early_count(
+    state: &[u8],
+    slots: &[u8],
+    datagram: &[u8],
+    words: &mut [u64],
+) -> u32 {
+    if state.len() < host_early::SIZE {
+        return host_answers::SHORT;
+    }
+    let from = LENGTHS_AT.0;
+    let to = host_early::SIZE;
+    let count = message::count(host_early::read(state), &state[from..to], slots, datagram);
+    host_answers::answer(words, slots_refusal(slots.len()), &[count.0 as u64])
+}
+
+// Where the message at a place lies.
+#[no_mangle]
+pub extern "C" fn eiderwagon_early_locate(
+    state: &[u8],
+    slots: &[u8],
+    datagram: &[u8],
+    place: u16,
+    words: &mut [u64],
+) -> u32 {
+    if state.len() < host_early::SIZE {
+        return host_answers::SHORT;
+    }
+    let from = LENGTHS_AT.0;
+    let to = host_early::SIZE;
+    let part = message::locate(
+        host_early::read(state),
+        &state[from..to],
+        slots,
+        datagram,
+        MessagePlace(place),
+    );
+    host_answers::answer(
+        words,
+        slots_refusal(slots.len()),
+        &answers::part_words(part),
+    )
+}
