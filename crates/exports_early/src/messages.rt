@@ -6,10 +6,16 @@ use host_early::answers;
 use wire::kinds::MessagePlace;
 use wire::refusal;
 use wire::refusal::Refusal;
+ghost use mathlib.Core.Path.{_≡_};
+ghost use mathlib.Core.List.{[], _∷_};
+ghost use Rattle.host_answers.specs.Answers.{RefusesOnly};
+ghost use Rattle.exports_early.specs.Calls.{slotsRefusal, CountsMessages, LocatesMessage};
 
 // The refusal of slots of another size.
-pub(crate) fn slots_refusal(size: usize) -> Refusal {
-    if size == SLOT_BYTES {
+pub(crate) fn slots_refusal(slots: &[u8]) -> Refusal
+    ensures { λ r. ⌜ r .number ≡ slotsRefusal (now (slots .entry)) ⌝ }
+{
+    if slots.len() == SLOT_BYTES {
         return refusal::NONE;
     }
     refusal::BAD_SETTING
@@ -22,14 +28,18 @@ pub extern "C" fn eiderwagon_early_count(
     slots: &[u8],
     datagram: &[u8],
     words: &mut [u64],
-) -> u32 {
+) -> u32
+    ensures { λ r. ⌜ CountsMessages r (now (state .entry)) (now (slots .entry)) (now (datagram .entry))
+        (now (words .entry)) (now (words .exit)) ⌝ }
+    ensures refuses { λ r. ⌜ RefusesOnly r (19 ∷ 41 ∷ []) ⌝ }
+{
     if state.len() < host_early::SIZE {
         return host_answers::SHORT;
     }
     let from = LENGTHS_AT.0;
     let to = host_early::SIZE;
     let count = message::count(host_early::read(state), &state[from..to], slots, datagram);
-    host_answers::answer(words, slots_refusal(slots.len()), &[count.0 as u64])
+    host_answers::answer(words, slots_refusal(slots), &[count.0 as u64])
 }
 
 // Where the message at a place lies.
@@ -40,7 +50,11 @@ pub extern "C" fn eiderwagon_early_locate(
     datagram: &[u8],
     place: u16,
     words: &mut [u64],
-) -> u32 {
+) -> u32
+    ensures { λ r. ⌜ LocatesMessage r (now (state .entry)) (now (slots .entry)) (now (datagram .entry)) place
+        (now (words .entry)) (now (words .exit)) ⌝ }
+    ensures refuses { λ r. ⌜ RefusesOnly r (19 ∷ 41 ∷ []) ⌝ }
+{
     if state.len() < host_early::SIZE {
         return host_answers::SHORT;
     }
@@ -53,9 +67,5 @@ pub extern "C" fn eiderwagon_early_locate(
         datagram,
         MessagePlace(place),
     );
-    host_answers::answer(
-        words,
-        slots_refusal(slots.len()),
-        &answers::part_words(part),
-    )
+    host_answers::answer(words, slots_refusal(slots), &answers::part_words(part))
 }

@@ -109,7 +109,7 @@ still-room l m bs at h e = omega (arith, ap length e ∙ length-put l at bs)
 -- ---- kept
 
 module _ (w : Walk) (l : List ℕ) (r : ℕ) where
-  walk-length : length (walkBytes w) ≡ 21
+  pub walk-length : length (walkBytes w) ≡ 21
   walk-length = length-walk (w .number .0) (w .left .0) (w .cursor .at .0) (w .cursor .left .0)
 
   pub walk-not : (r ≡ 0 → ⊥) → KeepsWalk (onCode r) l l w
