@@ -1,3 +1,4 @@
 pub mod TakeLaws
 pub mod PartLaws
+pub mod RunLaws
 pub mod Rules

@@ -45,7 +45,6 @@ pub record Gets (l ss : List ℕ) (d : Datagram) (ms : List Message) : Type 0 wh
 -- a call that is lent its seven words: the state's bytes l become m, the slots ss become ss′, and the host gets the
 -- messages ms
 pub record TakeCall (l ss : List ℕ) (d : Datagram) (m ss′ : List ℕ) (ms : List Message) : Type 0 where
-  pub are-bytes : AreBytes d
   pub gets : Gets l ss d ms
   pub code : ℕ
   pub words : List ℕ
@@ -82,7 +81,6 @@ pub record StartCall (s : Session) (start : ℕ) (m ss : List ℕ) (refused nami
   pub name : List ℕ
   pub limit : ℕ
   pub state : List ℕ
-  pub are-bytes : AreBytes state
   pub room : earlySize ≤ length state
   pub slots : length ss ≡ slotBytes
   pub call : StartsKeeper 0 name start limit state m

@@ -38,6 +38,8 @@ pub extern "C" fn eiderwagon_early_start(
 ) -> u32
     ensures { λ r. ⌜ StartsKeeper r (now (session .entry)) next limit (now (state .entry)) (now (state .exit)) ⌝ }
     ensures refuses { λ r. ⌜ RefusesOnly r (19 ∷ 41 ∷ []) ⌝ }
+    ensures hands_on { λ _. ⌜ HandsOn ⌝ }
+    ensures condition_3 { λ _. ⌜ HostGetsTrue ⌝ }
 {
     let started = early_condition_3::start(
         parts::ten(session),
