@@ -27,6 +27,7 @@ ghost use Rattle.host_answers.specs.Answers.{orElse, RefusesOnly};
 ghost use Rattle.host_early.specs.Early.{earlySize, lentIn};
 ghost use Rattle.early_receiver.specs.Early.{earlyRefusal};
 ghost use Rattle.exports_early.specs.Calls.{StartsKeeper, TakesLent, Answered};
+ghost use Rattle.exports_early.specs.Run.{HandsOn, HostGetsTrue};
 
 // Starts a receiver.
 #[no_mangle]
