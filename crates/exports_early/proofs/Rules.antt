@@ -2,10 +2,9 @@
 use borrow.Author.Needs.{needs}
 use Rattle.host_receiver.proofs.RefusalLaws.{start-only}
 use Rattle.exports_early.proofs.TakeLaws.{starts-keeper, keep-refused, keep-done, refuse-so, takes-unread, takes-short, takes-few, takes-there, takes-settled, takes-only, unread-only, short-only}
-use Rattle.exports_early.proofs.RunLaws.{hands-on, host-gets-true}
 use Rattle.exports_early.proofs.PartLaws.{slots-right, slots-wrong, short-part, counts-so, counts-short, locates-so, locates-short, part-only, walk-so, walk-short, walk-only, step-only, next-short, next-state, next-stays, next-moves, told-only, part-told, part-there}
 
-pub ruleset starts = (starts-keeper, start-only, hands-on, host-gets-true, needs)
+pub ruleset starts = (starts-keeper, start-only, needs)
 
 pub ruleset keeps = (keep-refused, keep-done, needs)
 

@@ -1,5 +1,6 @@
 -- Started, and laid with no lengths.
 use Rattle.exports_early.proofs.Rules.{starts}
+use Rattle.exports_early.proofs.RunLaws.{hands-on, host-gets-true}
 use Rattle.exports_early.proofs.eiderwagon_early_start.Statement.{statement}
 use Rattle.exports_early.proofs.eiderwagon_early_start.Tie as tie
 
@@ -13,5 +14,5 @@ eiderwagon-early-start-spec =
     (λ c. search starts)  -- cast-write-fresh
     (λ c κs. search starts)  -- write-fresh-requires
     (λ c. search starts)  -- same-length
-    (λ c. search starts)  -- returns
+    (λ c. (search starts, (search starts, (hands-on, host-gets-true))))  -- returns
     )
