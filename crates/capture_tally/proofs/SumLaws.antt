@@ -17,6 +17,7 @@ use Rattle.receiver.specs.Receiver.{tableRow}
 use Rattle.receiver.proofs.TableLaws.{row-answer}
 use Rattle.feed.specs.Session.{Datagram}
 use Rattle.feed.specs.Machine.{after, delivered}
+use Rattle.early_word.specs.declared.Held.{Held}
 use Rattle.early_holding.specs.Holding.{Lent, nextOf, moveTo}
 use Rattle.early_receiver.specs.Early.{earlyRefusal, lentAfter, requestOf, answerBy, earlyAnswer}
 use Rattle.early_messages.specs.Delivery.{deliveredCount, delivery}
@@ -78,8 +79,9 @@ rises : (s : Lent) (d : Datagram) → Moves s d → nextOf (s .receiver) ≤ nex
 unfolding moveTo
 rises s d g =
     let n = nextOf (s .receiver) in
+    let word : Held = s .receiver .held in
     let h : n ≤ largestNumber = omega (arith, g .ends, reached s d g .fit) in
-    rw (moved-to s d g) (move-rises (numberOf d + countOf d - n) n n (s .receiver .held .0) h)
+    rw (moved-to s d g) (move-rises (numberOf d + countOf d - n) n n (word .0) h)
 
 delivers-so : (s : Lent) (d : Datagram) → Delivers (earlyAnswer s d) (length (delivery s d)) (nextOf (s .receiver)) (nextOf (lentAfter s d .receiver))
 unfolding deliveredCount
