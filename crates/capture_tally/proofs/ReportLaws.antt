@@ -2,16 +2,19 @@
 use mathlib.Core.Path.{_≡_}
 use mathlib.Core.List.{List}
 use Prim.Native.Nat.{ℕ, _+_}
+use lib.ListN.{length}
 use borrow.Author.Tests.{eq-eqb, ne-eqb}
 use Rattle.feed.specs.Session.{Datagram}
+use Rattle.early_holding.proofs.HoldingLaws.{either}
 use Rattle.early_receiver.specs.declared.early.Taken.{Taken}
 use Rattle.early_receiver.specs.Answers.{earlyWords, requestWords}
 use Rattle.early_receiver.specs.Early.{lentAfter, earlyAnswer, requestOf, TakesEarly}
+use Rattle.early_receiver.proofs.ByteLaws.{after-lengths, after-slots}
 use Rattle.capture_records.specs.Records.{mostRecords}
 use Rattle.capture_tally.specs.declared.tally.Tally.{Tally}
 use Rattle.capture_tally.specs.declared.report.Report.{Report}
 use Rattle.capture_tally.specs.Tally.{partsOf, cutParts, plusOf}
-use Rattle.capture_tally.specs.Report.{report, counted, cutOf, LentReport, lentReport, lentOf, countedLent, stepOf}
+use Rattle.capture_tally.specs.Report.{report, isFull, counted, cutOf, LentReport, lentReport, lentOf, countedLent, stepOf}
 
 -- ---- a full report stays, and any other has one record more
 
@@ -23,6 +26,15 @@ pub step-more : (x : LentReport) (d : Datagram) → (x .report .records ≡ most
     → stepOf x d ≡ countedLent x (lentAfter (lentOf x) d) (partsOf (earlyAnswer (lentOf x) d) (requestOf (lentOf x) d))
 unfolding stepOf
 step-more x d h = simp (ne-eqb _ _ h)
+
+-- what is lent keeps its size
+pub step-lengths : (x : LentReport) (d : Datagram) → length (stepOf x d .lengths) ≡ length (x .lengths)
+unfolding stepOf
+step-lengths x d = either (isFull (x .report)) _ (λ q. rw q) (λ q. rw q (after-lengths (lentOf x) d))
+
+pub step-slots : (x : LentReport) (d : Datagram) → length (stepOf x d .slots) ≡ length (x .slots)
+unfolding stepOf
+step-slots x d = either (isFull (x .report)) _ (λ q. rw q) (λ q. rw q (after-slots (lentOf x) d))
 
 pub cut-full : (x : Report) → x .records ≡ mostRecords → x ≡ cutOf x
 unfolding cutOf
