@@ -19,8 +19,8 @@ use Rattle.capture_tally.specs.Sums.{summed, summedCut}
 use Rattle.capture_text.specs.Text.{room}
 use Rattle.capture.specs.declared.reading.Stage.the-variants.{Done, Refused}
 use Rattle.capture.specs.declared.reading.Reading.{Reading}
-use Rattle.capture.specs.Reading.{startReading, LentReading, lentReading, readingWith, fedWith, fedReading, startedOf}
-use Rattle.capture.specs.Reading.{isOver, feedOf, finishOf, textOf}
+use Rattle.capture.specs.Reading.{startReading, LentReading, lentReading, readingWith, fedWith, fedReading}
+use Rattle.capture.specs.Reading.{startedOf, isOver, feedOf, finishOf, textOf}
 use Rattle.capture.specs.Turning.{startTurning, LentTurning, lentTurning, turnedOf, byTurns}
 
 -- ---- what a capture means

@@ -57,8 +57,8 @@ summed s ds = summedWith s ds (length ds) (refusalsOf s ds)
 abbrev pub summedCut : Lent → List Datagram → LentReport
 summedCut s ds = summedWith s ds (length ds + 1) (refusalsOf s ds + 1)
 
--- for every receiver, whatever is lent to it, and every list that isn't too long, with a cut record after it or without:
--- no sum is capped
+-- for every receiver, whatever is lent to it, and every list that isn't too long, with a cut record after it or
+-- without: no sum is capped
 pub record Sums : Type 0 where
   pub whole : (s : Lent) (ds : List Datagram) → length ds ≤ mostRecords → over (freshLent s) ds ≡ summed s ds
   pub with-cut : (s : Lent) (ds : List Datagram) → length ds + 1 ≤ mostRecords
