@@ -19,9 +19,10 @@ use Rattle.feed.proofs.FeedLaws.{first-of, rest-of, faithful, led, led-after, i
 use Rattle.early_holding.specs.Holding.{Lent, lent, early, nextOf, isHeld, heldMessage}
 use Rattle.early_receiver.specs.Early.{startEarly, earlyRefusal, namedLent, takeKind, lentAfter}
 use Rattle.early_messages.specs.Delivery.{deliveredCount, messageWith, delivery}
+use Rattle.early_receiver.proofs.RequestLaws.{after-open}
 use Rattle.early_condition_3.specs.Condition3.{keeper, EarlyCondition3For, EarlyCondition3}
 use Rattle.early_messages.proofs.ReachLaws.{right-refusal, refused-after}
-use Rattle.early_condition_3.proofs.StepLaws.{open-takes, name-kept, empty-sound}
+use Rattle.early_condition_3.proofs.StepLaws.{name-kept, empty-sound}
 use Rattle.early_condition_3.proofs.PlaceLaws.{still-none, same-delivery}
 use Rattle.early_condition_3.proofs.NamedLaws.{Inv, Behind, empty-inv, keeps}
 
@@ -78,9 +79,9 @@ module _ (s : Session) (start limit : ℕ) (lengths slots : List ℕ) (named : s
 
     pub same-after : lentAfter unnamed d ≡ lentAfter fresh d
     same-after =
-        open-takes unnamed d (right-refusal unnamed d k g ∙ e)
+        after-open unnamed d (right-refusal unnamed d k g ∙ e)
         ∙ ap (λ (x : Lent). takeKind x (kindOf d) d) (names ∙ sym (name-kept fresh d named))
-        ∙ sym (open-takes fresh d (right-refusal fresh d k g ∙ accepts-too))
+        ∙ sym (after-open fresh d (right-refusal fresh d k g ∙ accepts-too))
 
     same-count : deliveredCount unnamed d ≡ deliveredCount fresh d
     unfolding deliveredCount

@@ -18,10 +18,11 @@ use Rattle.early_word.proofs.WordLaws.{bit-marked, marked-lt}
 use Rattle.early_holding.specs.declared.holding.EarlyReceiver.{EarlyReceiver}
 use Rattle.early_holding.specs.Holding.{Lent, nextOf, at, slotAt, lengthAt, isHeld, lengthOf, heldMessage, keeps, keep, keepOne, takeOne, takeAll}
 use Rattle.early_holding.proofs.HoldingLaws.{either, keepable}
+use Rattle.early_receiver.proofs.ByteLaws.{length-own, length-other}
 use Rattle.early_condition_3.specs.Rule.{Sound}
 use Rattle.early_condition_3.proofs.Model as model
 use Rattle.early_condition_3.proofs.Model.{Hold, single, holding, numbered, holdStep}
-use Rattle.early_condition_3.proofs.SlotLaws.{slot-own, slot-other, length-own, length-other}
+use Rattle.early_condition_3.proofs.SlotLaws.{slot-own, slot-other}
 use Rattle.early_condition_3.proofs.Reading.{above, near, heldOf, reading, of-held, of-none, is-held, same-hold, advance-is, advance-sound}
 
 -- ---- a message that is kept
@@ -68,7 +69,7 @@ keep-other s j m i g a b h e z =
     let c = above (s .receiver) i e in
     let d = near (s .receiver) i (g .word) e in
     let o = other-slot (nextOf (s .receiver)) i j c d a b z in
-    rw (length-other (s .lengths) i j (length m) o) (slot-other (s .slots) m i j (lengthOf (s .lengths) i) o (g .short i e) h)
+    rw (length-other (s .lengths) j i (length m) (λ e. o (sym e))) (slot-other (s .slots) m i j (lengthOf (s .lengths) i) o (g .short i e) h)
 
 kept-of : (s : Lent) (j : ℕ) (m : Message) (i : ℕ) → Sound s → keeps (s .receiver) j (length m) ≡ true
     → heldOf (keep s j m) i ≡ (if eqb i j && not (model.isHeld (heldOf s i)) then some m else heldOf s i)
@@ -91,7 +92,7 @@ kept-of s j m i g e =
     (λ y. of-held (keep s j m) i (c ∙ y) ∙ ap (λ (v : Message). some v) (keep-other s j m i g (p .above) (p .near) (p .short) y x) ∙ sym (of-held s i y))
     (λ y. of-none (keep s j m) i (c ∙ y) ∙ sym (of-none s i y))))
 
-keep-sound : (s : Lent) (j : ℕ) (m : Message) → Sound s → keeps (s .receiver) j (length m) ≡ true → j < 18446744073709551615 → Sound (keep s j m)
+pub keep-sound : (s : Lent) (j : ℕ) (m : Message) → Sound s → keeps (s .receiver) j (length m) ≡ true → j < 18446744073709551615 → Sound (keep s j m)
 unfolding keep
 keep-sound s j m g e l =
     record {
@@ -122,7 +123,7 @@ keep-sound s j m g e l =
         let z : i ≡ j → ⊥ = eqb-false _ _ q in
         let y = was i z h in
         let o = other-slot (nextOf (s .receiver)) i j (above (s .receiver) i y) (near (s .receiver) i (g .word) y) (k .above) (k .near) z in
-        rw (length-other (s .lengths) i j (length m) o) (g .short i y))
+        rw (length-other (s .lengths) j i (length m) (λ e. o (sym e))) (g .short i y))
 
 -- ---- any message
 

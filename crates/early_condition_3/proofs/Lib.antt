@@ -13,5 +13,8 @@ pub mod ConditionLaws
 pub mod PlainLaws
 pub mod MadeLaws
 pub mod SwappedLaws
+pub mod ListLaws
+pub mod ExampleLaws
+pub mod WitnessLaws
 pub mod StartLaws
 pub mod Rules

@@ -2,7 +2,7 @@
 use Prim.Native.Nat.{ℕ, suc, _+_, _-_, _<_, _≤_}
 use mathlib.Core.Path.{_≡_, refl, sym, ap, _∙_}
 use mathlib.Core.List.{[]}
-use mathlib.Core.Bool.{Bool, true, false, not, _&&_, true≢false, false≢true}
+use mathlib.Core.Bool.{true, false, not, _&&_, true≢false, false≢true}
 use mathlib.Core.Option.{some}
 use mathlib.Core.Logic.{_⊎_, inl, inr}
 use native.Mathlib.Omega.{arith}
@@ -13,7 +13,7 @@ use Rattle.feed.specs.Session.{Message, Session, lastOf, IsMessage, messagesFro
 use Rattle.feed.proofs.FeedLaws.{none-from, Keeps}
 use Rattle.early_condition_3.proofs.Model.{Numbered, Hold, isHeld, follow, run, fits, moved, kept, holdStep, holdGives, holding}
 use Rattle.wire.proofs.Cases.{below-or-not}
-use Rattle.early_holding.proofs.HoldingLaws.{either}
+use Rattle.early_holding.proofs.HoldingLaws.{either, both}
 use Rattle.early_condition_3.proofs.RunLaws.{cases, cons-true, runs, run-has, run-stop, run-end, run-true, run-longer}
 
 -- ---- one message at a time
@@ -42,10 +42,6 @@ module _ (s : Session) where
     later : h .next < e .number → e .number ≤ h .next + 64 → length (e .message) ≤ 1024 → holdStep h e ≡ kept h e →
         holdGives h e ≡ [] → Effect e h
     never : holdStep h e ≡ h → holdGives h e ≡ [] → Effect e h
-
-  both : (a b : Bool) → (a && b) ≡ true → (a ≡ true) × (b ≡ true)
-  both true b e = (refl, e)
-  both false b e = (e, cc)
 
   pub effect : (e : Numbered) (h : Hold) → Effect e h
   unfolding holdStep holdGives fits

@@ -23,6 +23,7 @@ use Rattle.feed.proofs.Sorts.{Named, TrueData, TrueEnd, Sort, is-bad, is-other,
 use Rattle.early_holding.specs.Holding.{Lent, lent, early, nextOf, isHeld, heldMessage, takeAll}
 use Rattle.early_receiver.specs.Early.{endedNow, takeKind, lentAfter}
 use Rattle.early_messages.specs.Delivery.{deliveredCount, messageAt, messagesAt, delivery}
+use Rattle.early_receiver.proofs.RequestLaws.{after-open}
 use Rattle.early_condition_3.specs.Condition3.{keeper}
 use Rattle.wire.proofs.Cases.{below-or-not}
 use Rattle.early_holding.proofs.HoldingLaws.{either}
@@ -34,9 +35,10 @@ use Rattle.early_condition_3.proofs.ModelLaws as one
 use Rattle.early_condition_3.proofs.DatagramLaws.{true-run, model-ahead, passed}
 use Rattle.early_condition_3.proofs.Reading.{reading, is-held, of-held}
 use Rattle.early_condition_3.proofs.KeepLaws.{all-is}
+use Rattle.early_messages.proofs.PartLaws.{at-held, at-there}
 use Rattle.early_messages.proofs.ReachLaws.{right-refusal, refused-after}
-use Rattle.early_condition_3.proofs.StepLaws.{open-takes, name-kept, take-data, take-beat, take-end, take-end-ahead, same-base, none-read, empty-sound}
-use Rattle.early_condition_3.proofs.PlaceLaws.{places-length, places-get, at-held, at-there, still}
+use Rattle.early_condition_3.proofs.StepLaws.{name-kept, take-data, take-beat, take-end, take-end-ahead, same-base, none-read, empty-sound}
+use Rattle.early_condition_3.proofs.PlaceLaws.{places-length, places-get, still}
 
 module _ (s : Session) (named : s .name ≡ blank → ⊥) where
   -- what holds of the receiver at every step
@@ -91,7 +93,7 @@ module _ (s : Session) (named : s .name ≡ blank → ⊥) where
       base-opens : Named s d → r .receiver .base .ended ≡ false → endBelow (kindOf d) (numberOf d) (nextOf (r .receiver)) ≡ false
           → lentAfter r d ≡ takeKind r (kindOf d) d
       base-opens n x b =
-          open-takes r d (right-refusal r d (i .sound .size) (i .sound .noted) ∙ ladder-open (r .receiver .base) d (n .well-formed) (own n) x b)
+          after-open r d (right-refusal r d (i .sound .size) (i .sound .noted) ∙ ladder-open (r .receiver .base) d (n .well-formed) (own n) x b)
           ∙ ap (λ (q : Lent). takeKind q (kindOf d) d) (name-kept r d has-name)
 
       ended-stays : Named s d → r .receiver .base .ended ≡ true → lentAfter r d ≡ r

@@ -2,15 +2,11 @@
 use Prim.Native.Nat.{ℕ, zero, suc, _+_, _-_, _<_}
 use mathlib.Core.Path.{_≡_, refl, sym, ap, ap₂, _∙_}
 use mathlib.Core.List.{List, [], _∷_}
-use mathlib.Core.Bool.{true, false}
 use native.Mathlib.Omega.{arith}
 use lib.ListN.{length, getD}
-use borrow.Author.Tests.{lt-ltb}
-use Rattle.moldudp64.specs.Header.{numberOf}
-use Rattle.moldudp64.specs.Downstream.{messageOf}
 use Rattle.feed.specs.Session.{Datagram, Session, messagesFrom}
 use Rattle.feed.proofs.FeedLaws.{none-from}
-use Rattle.early_holding.specs.Holding.{Lent, nextOf, isHeld, heldMessage}
+use Rattle.early_holding.specs.Holding.{Lent, nextOf}
 use Rattle.early_receiver.specs.Early.{lentAfter}
 use Rattle.early_messages.specs.Delivery.{deliveredCount, messageWith, messageAt, messagesAt, delivery}
 
@@ -24,15 +20,6 @@ unfolding messagesAt
 places-get s d p zero i h = absurd (omega arith)
 places-get s d p (suc k) zero h = let z : p + 0 ≡ p = omega arith in rw z refl
 places-get s d p (suc k) (suc i) h = let z : p + suc i ≡ p + 1 + i = omega arith in rw z (places-get s d (p + 1) k i (omega arith))
-
-module _ (s : Lent) (d : Datagram) (p : ℕ) (h : p < deliveredCount s d) where
-  pub at-held : isHeld (s .receiver) (nextOf (s .receiver) + p) ≡ true → messageAt s d p ≡ heldMessage s (nextOf (s .receiver) + p)
-  unfolding messageAt messageWith
-  at-held e = rw (lt-ltb _ _ h, e) refl
-
-  pub at-there : isHeld (s .receiver) (nextOf (s .receiver) + p) ≡ false → messageAt s d p ≡ messageOf d (nextOf (s .receiver) + p - numberOf d)
-  unfolding messageAt messageWith
-  at-there e = rw (lt-ltb _ _ h, e) refl
 
 -- where the number stays, nothing is delivered
 pub still-none : (r : Lent) (d : Datagram) → nextOf (lentAfter r d .receiver) ≡ nextOf (r .receiver) → delivery r d ≡ []

@@ -172,7 +172,7 @@ module _ (s : Session) (name : List ℕ) (start limit : ℕ) (lengths slots : Li
   abbrev first : Lent
   first = lent (early (startReceiver name start limit) 0) lengths slots
 
-  plain-opens : {refused naming : List Datagram} → Opens s name (earlyRefusal first) refused naming → Opens s name (refusalFor (startReceiver name start limit)) refused naming
+  pub plain-opens : {refused naming : List Datagram} → Opens s name (earlyRefusal first) refused naming → Opens s name (refusalFor (startReceiver name start limit)) refused naming
   plain-opens (on-its-name b n) = on-its-name b n
   plain-opens (learns-it n a f m) =
       learns-it n (λ x y z. a x y (right-refusal first x k g ∙ z)) (sym (right-refusal first _ k g) ∙ f) m

@@ -14,19 +14,12 @@ use Rattle.early_word.specs.Word.{bit, run, onesOf, past}
 use Rattle.early_word.proofs.WordLaws.{bit-past, bit-none, ones-set, past-lt}
 use Rattle.early_holding.specs.declared.holding.EarlyReceiver.{EarlyReceiver}
 use Rattle.early_holding.specs.Holding.{Lent, early, nextOf, at, isHeld, heldMessage, numberPast, advance}
-use Rattle.early_holding.proofs.HoldingLaws.{either, held-bit, holds-below}
+use Rattle.early_holding.proofs.HoldingLaws.{either, held-at, held-bit, holds-below}
 use Rattle.early_condition_3.specs.Rule.{Sound}
 use Rattle.early_condition_3.proofs.Model as model
 use Rattle.early_condition_3.proofs.Model.{Hold}
 
 -- ---- which numbers are held
-
-pub held-at : (r : EarlyReceiver) (i : ℕ) → isHeld r (nextOf r + 1 + i) ≡ bit (r .held .0) i
-unfolding isHeld
-held-at r i =
-    let a : nextOf r < nextOf r + 1 + i = omega arith in
-    let b : nextOf r + 1 + i - nextOf r - 1 ≡ i = omega arith in
-    rw (lt-ltb _ _ a, b) refl
 
 pub above : (r : EarlyReceiver) (j : ℕ) → isHeld r j ≡ true → nextOf r < j
 above r j e = either (ltb (nextOf r) j) _ (λ q. ltb-true _ _ q) (λ q. absurd (true≢false (sym e ∙ sym (holds-below r j (ltb-false _ _ q)))))

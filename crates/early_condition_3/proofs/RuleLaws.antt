@@ -16,18 +16,18 @@ use Rattle.feed.specs.Session.{Datagram, Message}
 use Rattle.early_word.specs.Word.{run}
 use Rattle.early_word.proofs.WordLaws.{ones-set, ones-stop}
 use Rattle.early_holding.specs.Holding.{slotAt, Lent, lent, nextOf, isHeld, numberPast, advance, keeps, keep, keepOne, takeOne}
-use Rattle.early_holding.proofs.HoldingLaws.{either, keepable}
+use Rattle.early_holding.proofs.HoldingLaws.{either, held-at, keepable}
 use Rattle.early_receiver.specs.Early.{startEarly, earlyRefusal, namedLent, endedNow, endAt, takeKind, lentAfter}
 use Rattle.early_receiver.proofs.ByteLaws.{byte-before, byte-behind}
-use Rattle.early_receiver.proofs.RequestLaws.{well-open}
+use Rattle.early_receiver.proofs.RequestLaws.{after-open, well-open}
 use Rattle.early_messages.specs.Delivery.{heldFrom, givesOne, givesAll, delivery, PlacesAreDelivered}
 use Rattle.early_messages.proofs.ReachLaws.{refused-after, data-gives}
 use Rattle.early_messages.proofs.GivesLaws.{places-are-delivered}
 use Rattle.early_condition_3.specs.Rule.{Sound, SoundThroughout, DeliversOn, MayBeHeld, Holds, OneMessage, EndsHere, FollowsTheRule}
 use Rattle.early_condition_3.proofs.SlotLaws.{slot-own}
-use Rattle.early_condition_3.proofs.Reading.{held-at, run-whole, advance-held}
+use Rattle.early_condition_3.proofs.Reading.{run-whole, advance-held}
 use Rattle.early_condition_3.proofs.KeepLaws.{keep-held, keep-own, keep-other, one-is, all-is}
-use Rattle.early_condition_3.proofs.StepLaws.{open-takes, take-data, take-beat, take-end, take-end-ahead, none-held, empty-sound}
+use Rattle.early_condition_3.proofs.StepLaws.{take-data, take-beat, take-end, take-end-ahead, none-held, empty-sound}
 use Rattle.early_condition_3.proofs.PlaceLaws.{still-none}
 
 -- ---- number n
@@ -166,23 +166,23 @@ module _ (s : Lent) (l : Datagram) where
     by-kind-gives w k = places-are-delivered s l w ∙ data-gives s l z k
 
     beats : kindOf l ≡ heartbeat → lentAfter s l ≡ namedLent s l
-    beats k = open-takes s l z ∙ take-beat (namedLent s l) l k
+    beats k = after-open s l z ∙ take-beat (namedLent s l) l k
 
     ends : kindOf l ≡ end-of-session → numberOf l ≡ nextOf (s .receiver)
         → lentAfter s l ≡ lent (endedNow (namedLent s l .receiver)) (s .lengths) (s .slots)
-    ends k e = open-takes s l z ∙ take-end (namedLent s l) l k e
+    ends k e = after-open s l z ∙ take-end (namedLent s l) l k e
 
     ends-here : EndsHere s (lent (endedNow (namedLent s l .receiver)) (s .lengths) (s .slots))
     ends-here = record { ended = refl; number = refl; nothing-held = none-held _; lengths = refl; slots = refl }
 
     end-ahead : kindOf l ≡ end-of-session → nextOf (s .receiver) < numberOf l → lentAfter s l ≡ namedLent s l
-    end-ahead k h = open-takes s l z ∙ take-end-ahead (namedLent s l) l k (λ e. omega arith)
+    end-ahead k h = after-open s l z ∙ take-end-ahead (namedLent s l) l k (λ e. omega arith)
 
 pub follows-the-rule : FollowsTheRule lentAfter delivery
 follows-the-rule =
     record {
       refused = λ s l z. let e = refused-after s l z in (e, none-at s l s e refl);
-      data-taken = λ s l z k. open-takes s l z ∙ take-data (namedLent s l) l k;
+      data-taken = λ s l z k. after-open s l z ∙ take-data (namedLent s l) l k;
       data-gives = λ s l w z k. by-kind-gives s l z w k;
       heartbeat-names = λ s l z k. let e = beats s l z k in (e, none-at s l _ e refl);
       end-ends = λ s l z k q. let e = ends s l z k q in (rw e (ends-here s l z), none-at s l _ e refl);
@@ -206,7 +206,7 @@ kind-sound s end-of-session l w g =
 after-sound : (s : Lent) (l : Datagram) → Sound s → Sound (lentAfter s l)
 after-sound s l g =
     zero-or-not _ (earlyRefusal s l)
-    (λ z. rw (open-takes s l z) (kind-sound (namedLent s l) (kindOf l) l (well-open s l z) (named-sound s l g)))
+    (λ z. rw (after-open s l z) (kind-sound (namedLent s l) (kindOf l) l (well-open s l z) (named-sound s l g)))
     (λ z. rw (refused-after s l z) g)
 
 start-sound : (name : List ℕ) (n limit : ℕ) (lengths slots : List ℕ) → length lengths ≡ 128 → length slots ≡ 65536

@@ -1,16 +1,13 @@
--- What is laid in a slot reads back, and the other slots keep what they had; the same for the noted lengths.
+-- What is laid in a slot reads back, and the other slots keep what they had.
 use mathlib.Core.Path.{_≡_, refl, sym, ap, _∙_}
 use mathlib.Core.List.{List, _++_, append-assoc}
 use Prim.Native.Nat.{ℕ, _+_, _-_, _*_, _%_, _≤_, _<_}
 use native.Mathlib.Omega.{arith}
 use lib.ListN.{length, getD, take, drop, length-take, length-drop}
 use lib.Seq.{getD-take, getD-drop, ext-getD, drop-drop, take-at, drop-at, length-take-le}
-use Rattle.wire.specs.Bytes.{number, bytes}
-use Rattle.wire.specs.Output.{put, ReadsBack}
+use Rattle.wire.specs.Output.{put}
 use Rattle.wire.proofs.Cases.{below-or-not}
-use Rattle.wire.proofs.Numbers.{number-take, number-drop, length-bytes}
-use Rattle.wire.proofs.Outputs.{put-room, only-its-bytes, output-laws}
-use Rattle.early_holding.specs.Holding.{lengthOf}
+use Rattle.wire.proofs.Outputs.{put-room, only-its-bytes}
 
 -- ---- a part that lies before or behind what changed
 
@@ -28,14 +25,6 @@ part-behind : (l m : List ℕ) (to a n : ℕ) → drop to m ≡ drop to l → to
 part-behind l m to a n e h =
     let k : to + (a - to) ≡ a = omega arith in
     ap (take n) (rw (← k) (sym (drop-drop (a - to) to m) ∙ ap (drop (a - to)) e ∙ drop-drop (a - to) to l))
-
-number-before : (l m : List ℕ) (at a n : ℕ) → take at m ≡ take at l → a + n ≤ at → number m a n ≡ number l a n
-number-before l m at a n e h = sym (number-take at m a n h) ∙ ap (λ (x : List ℕ). number x a n) e ∙ number-take at l a n h
-
-number-behind : (l m : List ℕ) (to a n : ℕ) → drop to m ≡ drop to l → to ≤ a → number m a n ≡ number l a n
-number-behind l m to a n e h =
-    let k : to + (a - to) ≡ a = omega arith in
-    rw (← k) (sym (number-drop to m (a - to) n) ∙ ap (λ (x : List ℕ). number x (a - to) n) e ∙ number-drop to l (a - to) n)
 
 -- ---- a slot
 
@@ -59,18 +48,3 @@ slot-other l m i j n z h k =
     apart _ (i % 64) (j % 64) z
     (λ g. part-before l (put l (j % 64 * 1024) m) (j % 64 * 1024) (i % 64 * 1024) n (u .size) (u .before) (omega arith))
     (λ g. part-behind l (put l (j % 64 * 1024) m) (j % 64 * 1024 + length m) (i % 64 * 1024) n (u .behind) (omega arith))
-
--- ---- a noted length
-
-pub length-own : (l : List ℕ) (j k : ℕ) → length l ≡ 128 → k ≤ 1024 → lengthOf (put l (j % 64 * 2) (bytes 2 k)) j ≡ k
-unfolding lengthOf ReadsBack
-length-own l j k h g = output-laws .reads-back 2 k l (j % 64 * 2) (omega arith) (omega arith)
-
-pub length-other : (l : List ℕ) (i j k : ℕ) → (i % 64 ≡ j % 64 → ⊥) → lengthOf (put l (j % 64 * 2) (bytes 2 k)) i ≡ lengthOf l i
-unfolding lengthOf
-length-other l i j k z =
-    let u = only-its-bytes l (j % 64 * 2) (bytes 2 k) in
-    let n = length-bytes 2 k in
-    apart _ (i % 64) (j % 64) z
-    (λ g. number-before l (put l (j % 64 * 2) (bytes 2 k)) (j % 64 * 2) (i % 64 * 2) 2 (u .before) (omega arith))
-    (λ g. number-behind l (put l (j % 64 * 2) (bytes 2 k)) (j % 64 * 2 + length (bytes 2 k)) (i % 64 * 2) 2 (u .behind) (omega arith))

@@ -3,7 +3,6 @@ use Prim.Native.Nat.{ℕ, _+_}
 use mathlib.Core.Path.{_≡_, refl, sym, _∙_}
 use mathlib.Core.List.{List, [], _∷_}
 use mathlib.Core.Bool.{true, false, true≢false}
-use native.Mathlib.Omega.{arith}
 use lib.ListN.{length}
 use lib.Dec.{ltb, eqb}
 use lib.Pow.{pow-pos}
@@ -15,22 +14,16 @@ use Rattle.moldudp64.specs.Downstream.{data-packet, heartbeat, end-of-session, 
 use Rattle.receiver.specs.declared.receiver.Receiver.{Receiver}
 use Rattle.receiver.specs.Receiver.{nameBy}
 use Rattle.feed.specs.Session.{Datagram, Message}
-use Rattle.early_word.specs.Word.{bit}
-use Rattle.early_word.proofs.WordLaws.{bit-none}
 use Rattle.early_holding.specs.Holding.{Lent, lent, nextOf, early, isHeld, advance, keep, keepOne, keeps, takeOne, takeAll}
 use Rattle.early_holding.proofs.HoldingLaws.{either}
-use Rattle.early_receiver.specs.Early.{earlyRefusal, namedLent, endedNow, endAt, takeKind, lentAfter}
+use Rattle.early_receiver.specs.Early.{namedLent, endedNow, endAt, takeKind}
+use Rattle.early_receiver.proofs.RequestLaws.{bit-of-none}
 use Rattle.early_condition_3.specs.Rule.{Sound}
 use Rattle.early_condition_3.proofs.Model as model
 use Rattle.early_condition_3.proofs.Reading.{heldOf, is-held}
 
--- ---- what is accepted
+-- ---- a receiver that has a name keeps it
 
-pub open-takes : (s : Lent) (d : Datagram) → earlyRefusal s d ≡ 0 → lentAfter s d ≡ takeKind (namedLent s d) (kindOf d) d
-unfolding lentAfter
-open-takes s d z = rw z refl
-
--- a receiver that has a name keeps it
 pub name-kept : (s : Lent) (d : Datagram) → (s .receiver .base .session ≡ blank → ⊥) → namedLent s d ≡ s
 unfolding nameBy
 name-kept s d b = rw (different (s .receiver .base .session) blank b) refl
@@ -78,12 +71,9 @@ same-base s f (m ∷ ms) =
 
 -- ---- a receiver that holds nothing
 
-zero-bit : (k : ℕ) → bit 0 k ≡ false
-zero-bit k = bit-none 0 0 k (pow-pos 0) (omega arith)
-
 pub none-held : (b : Receiver) (j : ℕ) → isHeld (early b 0) j ≡ false
 unfolding isHeld
-none-held b j = either (ltb (b .next .0) j) _ (λ q. rw q (zero-bit _)) (λ q. rw q refl)
+none-held b j = either (ltb (b .next .0) j) _ (λ q. rw q (bit-of-none _)) (λ q. rw q refl)
 
 module _ (b : Receiver) (lengths slots : List ℕ) where
   pub none-read : (j : ℕ) → model.isHeld (heldOf (lent (early b 0) lengths slots) j) ≡ true → ⊥

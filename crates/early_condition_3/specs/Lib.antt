@@ -3,3 +3,4 @@ pub mod Condition3
 pub mod Rule
 pub mod Plain
 pub mod Swapped
+pub mod Witnesses

@@ -24,7 +24,7 @@ pub record Sound (s : Lent) : Type 0 where
   pub short : (j : ℕ) → isHeld (s .receiver) j ≡ true → lengthOf (s .lengths) j ≤ slotSize
   pub low : (j : ℕ) → isHeld (s .receiver) j ≡ true → j < largestNumber
 
--- whatever bytes of their size it is lent at the start
+-- a start is so, with lengths and slots of any bytes, of their size, and every datagram leaves it so
 pub record SoundThroughout : Type 0 where
   pub at-start : (name : List ℕ) (n limit : ℕ) (lengths slots : List ℕ) → length lengths ≡ lengthBytes
       → length slots ≡ slotBytes

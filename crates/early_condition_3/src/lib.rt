@@ -14,6 +14,7 @@ ghost use Rattle.early_condition_3.specs.Condition3.{EarlyCondition3};
 ghost use Rattle.early_condition_3.specs.Plain.{NeverLess};
 ghost use Rattle.early_condition_3.specs.Rule.{SoundThroughout, OneMessage, FollowsTheRule};
 ghost use Rattle.early_condition_3.specs.Swapped.{SwappedNeighbours};
+ghost use Rattle.early_condition_3.specs.Witnesses.{NotVacuous, NotWeak, SwappedExample};
 
 // The refusal of a start, its number 0 where there is none, and the receiver.
 pub struct Started {
@@ -30,6 +31,9 @@ pub fn start(session: [u8; SESSION_SIZE], next: SequenceNumber, limit: MessageCo
     ensures sound { λ _. ⌜ SoundThroughout ⌝ }
     ensures one_message { λ _. ⌜ OneMessage ⌝ }
     ensures rule { λ _. ⌜ FollowsTheRule lentAfter delivery ⌝ }
+    ensures not_vacuous { λ _. ⌜ NotVacuous ⌝ }
+    ensures not_weak { λ _. ⌜ NotWeak ⌝ }
+    ensures swapped_example { λ _. ⌜ SwappedExample ⌝ }
 {
     let fresh = Receiver::new(session, next, limit);
     let base = fresh.receiver;

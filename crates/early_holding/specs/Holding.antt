@@ -2,7 +2,7 @@
 use Prim.Native.Nat.{ℕ, zero, suc, _+_, _-_, _*_, _%_, min}
 use mathlib.Core.List.{List, [], _∷_}
 use mathlib.Core.Bool.{Bool, false, not}
-use lib.ListN.{length, take, drop}
+use lib.ListN.{length, getD, take, drop, set}
 use lib.Dec.{ltb, leb, eqb}
 use Rattle.wire.specs.Choice.{if_then_else_}
 use Rattle.wire.specs.Bounds.{largestNumber, countSize}
@@ -128,3 +128,20 @@ moveBy (suc c) f n held =
 -- from n to just below end
 unfoldable pub moveTo : ℕ → ℕ → ℕ → Moved
 moveTo n held end = moveBy (end - n) n n held
+
+-- ---- for private helpers alone; no public promise uses it
+
+-- eight bytes set one after the other from a place on
+abbrev pub eightAt : List ℕ → ℕ → ℕ → ℕ → ℕ → ℕ → ℕ → ℕ → ℕ → ℕ → List ℕ
+eightAt l at a b c d e f g h =
+    set (set (set (set (set (set (set (set l at a) (at + 1) b) (at + 2) c) (at + 3) d) (at + 4) e) (at + 5) f) (at + 6) g)
+    (at + 7)
+    h
+
+-- those of a source from i on
+abbrev pub eightOf : List ℕ → ℕ → List ℕ → ℕ → List ℕ
+eightOf l at s i =
+    eightAt l at (getD s i 0) (getD s (i + 1) 0) (getD s (i + 2) 0) (getD s (i + 3) 0) (getD s (i + 4) 0)
+    (getD s (i + 5) 0)
+    (getD s (i + 6) 0)
+    (getD s (i + 7) 0)

@@ -9,10 +9,12 @@ use wire::kinds::SequenceNumber;
 use wire::output;
 ghost use mathlib.Core.Path.{_≡_};
 ghost use mathlib.Core.Bool.{true};
-ghost use Prim.Native.Nat.{_-_, _<_, min};
-ghost use lib.ListN.{length};
+ghost use Prim.Native.Nat.{_+_, _-_, _<_, _≤_, min};
+ghost use Rattle.wire.specs.Output.{put};
+ghost use lib.ListN.{length, take};
 ghost use Rattle.wire.specs.Bounds.{largestCount};
-ghost use Rattle.early_holding.specs.Holding.{slotOf, lent, isHeld, keeps, keep, keepOne, moveTo};
+ghost use Rattle.early_holding.specs.Holding.{slotOf, lent, early, isHeld, keeps, keep, keepOne, moveTo, eightAt};
+ghost use Rattle.early_holding.specs.Holding.{eightOf};
 
 // How many slots there are, the bytes of one, and of all; and the bytes of all lengths, two each, the most significant
 // first.
@@ -37,26 +39,18 @@ pub struct Moved {
 }
 
 // The expected number moved past the messages to just below end, and past every held message that follows one of them
-// without a gap. With nothing held it is end at once, where that lies above.
+// without a gap: in one step, since all of them follow the last.
 pub fn move_to(next: SequenceNumber, held: Held, end: SequenceNumber) -> Moved
     ensures { λ r. ⌜ r ≡ moveTo (next .0) (held .0) (end .0) ⌝ }
 {
-    let mut n = next;
-    let mut word = held;
-    while n.is_below(end) {
-        if word.is_nothing() {
-            return Moved {
-                next: end,
-                held: word,
-            };
-        }
-        let count = MessageCount(word.run().0 + 1);
-        n = n.plus(count);
-        word = word.past(count);
+    if !next.is_below(end) {
+        return Moved { next, held };
     }
+    let from_end = held.past(next.gap(end).less_one());
+    let run = from_end.run();
     Moved {
-        next: n,
-        held: word,
+        next: end.plus(run),
+        held: from_end.past(MessageCount(run.0 + 1)),
     }
 }
 
@@ -65,6 +59,69 @@ pub fn slot_of(number: SequenceNumber) -> usize
     ensures { λ r. ⌜ r ≡ slotOf (number .0) ⌝ }
 {
     (number.0 % 64) as usize
+}
+
+// Eight bytes laid at a place that has room for them.
+fn lay_eight(out: &mut [u8], at: usize, a: u8, b: u8, c: u8, d: u8, e: u8, f: u8, g: u8, h: u8)
+    requires { ⌜ at + 8 ≤ length (now out) ⌝ }
+    ensures { λ _. ⌜ now (out .exit) ≡ eightAt (now (out .entry)) at a b c d e f g h ⌝ }
+{
+    out[at] = a;
+    out[at + 1] = b;
+    out[at + 2] = c;
+    out[at + 3] = d;
+    out[at + 4] = e;
+    out[at + 5] = f;
+    out[at + 6] = g;
+    out[at + 7] = h;
+}
+
+// Eight bytes of a source laid as far behind a place as they stand in it. All are read before one is laid, which the
+// compiler makes one move of a word: it doesn't know that slots and datagram are apart.
+fn copy_eight(out: &mut [u8], at: usize, src: &[u8], i: usize)
+    requires { ⌜ (at + i + 8 ≤ length (now out)) × (i + 8 ≤ length (now src)) ⌝ }
+    ensures { λ _. ⌜ now (out .exit) ≡ eightOf (now (out .entry)) (at + i) (now (src .entry)) i ⌝ }
+{
+    lay_eight(
+        out,
+        at + i,
+        src[i],
+        src[i + 1],
+        src[i + 2],
+        src[i + 3],
+        src[i + 4],
+        src[i + 5],
+        src[i + 6],
+        src[i + 7],
+    );
+}
+
+// Bytes laid at a place that has room for them, as many as eights make; how many were laid.
+fn copy_by_eight(out: &mut [u8], at: usize, src: &[u8]) -> usize
+    requires { ⌜ at + length (now src) ≤ length (now out) ⌝ }
+    ensures { λ r. ⌜ (r ≤ length (now (src .entry)))
+        × (now (out .exit) ≡ put (now (out .entry)) at (take r (now (src .entry)))) ⌝ }
+{
+    let mut i: usize = 0;
+    while 8 <= src.len() - i {
+        copy_eight(out, at, src, i);
+        i += 8;
+    }
+    i
+}
+
+// Bytes laid at a place, where there is room.
+fn copy(out: &mut [u8], at: usize, src: &[u8])
+    ensures { λ _. ⌜ now (out .exit) ≡ put (now (out .entry)) at (now (src .entry)) ⌝ }
+{
+    if out.len() < at {
+        return;
+    }
+    if out.len() - at < src.len() {
+        return;
+    }
+    let laid = copy_by_eight(out, at, src);
+    output::put_bytes(out, ByteOffset(at + laid), &src[laid..]);
 }
 
 impl EarlyReceiver {
@@ -91,7 +148,7 @@ impl EarlyReceiver {
         held.has(self.place_of(number))
     }
 
-    // Whether a message of this number and length is to be kept: not too far, not too long, and not held already.
+    // Whether a message of this number and length is to be kept: not too long, not too far, and not held already.
     fn keeps(self, number: SequenceNumber, size: usize) -> bool
         ensures { λ r. ⌜ r ≡ keeps self (number .0) size ⌝ }
     {
@@ -100,13 +157,15 @@ impl EarlyReceiver {
         if !next.is_below(number) {
             return false;
         }
-        if SLOTS.is_below(next.gap(number)) {
-            return false;
-        }
         if SLOT_SIZE < size {
             return false;
         }
-        !self.holds(number)
+        let place = self.place_of(number);
+        if !place.before().is_below(SLOTS) {
+            return false;
+        }
+        let held = self.held;
+        !held.has(place)
     }
 
     // A message laid from the first byte of its slot, its length noted and its number marked.
@@ -116,37 +175,33 @@ impl EarlyReceiver {
         slots: &mut [u8],
         number: SequenceNumber,
         message: &[u8],
-    ) -> EarlyReceiver
+    ) -> Held
         requires { ⌜ keeps self (number .0) (length (now message)) ≡ true ⌝ }
-        ensures { λ r. ⌜ lent r (now (lengths .exit)) (now (slots .exit))
+        ensures { λ r. ⌜ lent (early (self .base) (r .0)) (now (lengths .exit)) (now (slots .exit))
             ≡ keep (lent self (now (lengths .entry)) (now (slots .entry))) (number .0) (now (message .entry)) ⌝ }
     {
         let slot = slot_of(number);
-        output::put_bytes(slots, ByteOffset(slot * SLOT_SIZE), message);
+        copy(slots, slot * SLOT_SIZE, message);
         output::put16(lengths, ByteOffset(slot * COUNT_SIZE), message.len() as u16);
-        let base = self.base;
         let held = self.held;
-        EarlyReceiver {
-            base,
-            held: held.marked(self.place_of(number)),
-        }
+        held.marked(self.place_of(number))
     }
 
-    // One message that isn't the expected one: kept, or left. Where the slots are too short nothing is laid, though the
-    // number is marked: `take` has refused such slots before.
+    // One message that isn't the expected one, kept or left: the numbers that are held then. Where the slots are too
+    // short nothing is laid, though the number is marked: `take` has refused such slots before.
     pub fn keep(
         self,
         lengths: &mut [u8],
         slots: &mut [u8],
         number: SequenceNumber,
         message: &[u8],
-    ) -> EarlyReceiver
-        ensures { λ r. ⌜ lent r (now (lengths .exit)) (now (slots .exit))
+    ) -> Held
+        ensures { λ r. ⌜ lent (early (self .base) (r .0)) (now (lengths .exit)) (now (slots .exit))
             ≡ keepOne (lent self (now (lengths .entry)) (now (slots .entry))) (number .0) (now (message .entry)) ⌝ }
     {
         if self.keeps(number, message.len()) {
             return self.store(lengths, slots, number, message);
         }
-        self
+        self.held
     }
 }

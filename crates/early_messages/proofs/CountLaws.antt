@@ -1,12 +1,10 @@
 -- How many messages a datagram delivers: few, and as the code counts them.
 use mathlib.Core.Path.{_≡_, refl, sym, _∙_}
 use mathlib.Core.List.{List, [], _∷_}
-use Prim.Native.Nat.{ℕ, zero, suc, _+_, _-_, _*_, _≤_, _<_, min, max}
-use mathlib.Core.Bool.{true}
+use Prim.Native.Nat.{ℕ, zero, suc, _+_, _-_, _≤_, _<_, min, max}
 use native.Mathlib.Omega.{arith}
 use lib.ListN.{length, drop, length-drop}
 use lib.Dec.{eqb}
-use borrow.Author.Tests.{eqb-true}
 use Rattle.wire.specs.Words.{answer, says}
 use Rattle.wire.specs.declared.refusal.Refusal.{Refusal}
 use Rattle.wire.specs.declared.kinds.SequenceNumber.{SequenceNumber}
@@ -14,68 +12,34 @@ use Rattle.wire.specs.declared.kinds.MessageCount.{MessageCount}
 use Rattle.wire.specs.declared.kinds.MessagePlace.{MessagePlace}
 use Rattle.wire.proofs.Words.{which-of, values-of}
 use Rattle.moldudp64.specs.Header.{numberOf, countOf}
-use Rattle.moldudp64.specs.Blocks.{blockSize, afterBlock, allFit}
 use Rattle.moldudp64.specs.Downstream.{data-packet, blockCount}
-use Rattle.moldudp64.proofs.BlockLaws.{first-fits, rest-fit, sound-fit}
+use Rattle.moldudp64.proofs.BlockLaws.{sound-fit}
 use Rattle.moldudp64.proofs.DownstreamLaws.{sound, kind-blocks}
 use Rattle.receiver.specs.declared.receiver.Answer.{Answer as Plain}
 use Rattle.receiver.specs.declared.receiver.Answer.the-variants as plain
 use Rattle.receiver.specs.Table.{deliver, answerWords}
 use Rattle.receiver.specs.Receiver.{answerOf}
 use Rattle.early_word.specs.Word.{run, past}
-use Rattle.early_word.proofs.WordLaws.{ones-le}
 use Rattle.early_holding.specs.declared.holding.EarlyReceiver.{EarlyReceiver}
 use Rattle.early_holding.specs.declared.holding.Moved.{Moved}
 use Rattle.early_holding.specs.Holding.{Lent, lent, nextOf, numberPast, moveBy, moveTo}
 use Rattle.early_holding.proofs.HoldingLaws.{either}
 use Rattle.early_receiver.specs.Early.{lentAfter}
+use Rattle.early_receiver.proofs.RequestLaws.{move-bound, fit-length}
 use Rattle.early_messages.specs.Delivery.{deliveredCount}
 use Rattle.early_messages.proofs.ReachLaws.{opens, Moves, Stays, Step, moves, stays, step, moved-to}
 
 -- ---- how far the expected number moves
 
-number-past-far : (n h : ℕ) → numberPast n h ≤ n + 65
-unfolding numberPast
-number-past-far n h = omega (arith, ones-le 64 h)
-
 pub number-past-top : (n h : ℕ) → numberPast n h ≤ 18446744073709551615
 unfolding numberPast
 number-past-top n h = omega arith
-
-number-past-rises : (n h : ℕ) → n ≤ 18446744073709551615 → n ≤ numberPast n h
-unfolding numberPast
-number-past-rises n h b = omega arith
-
-move-far : (c f n h : ℕ) → moveBy c f n h .next .0 ≤ max n (f + c + 64)
-unfolding moveBy
-move-far zero f n h = omega arith
-move-far (suc c) f n h =
-    either (eqb f n) _
-    (λ q.
-    let y : f ≡ n = eqb-true _ _ q in
-    rw q (omega (arith, number-past-far n h, move-far c (f + 1) (numberPast n h) (past h (run h + 1)))))
-    (λ q. rw q (omega (arith, move-far c (f + 1) n h)))
 
 move-top : (c f n h : ℕ) → n ≤ 18446744073709551615 → moveBy c f n h .next .0 ≤ 18446744073709551615
 unfolding moveBy
 move-top zero f n h b = b
 move-top (suc c) f n h b =
     either (eqb f n) _ (λ q. rw q (move-top c (f + 1) (numberPast n h) (past h (run h + 1)) (number-past-top n h))) (λ q. rw q (move-top c (f + 1) n h b))
-
-pub move-rises : (c f n h : ℕ) → n ≤ 18446744073709551615 → n ≤ moveBy c f n h .next .0
-unfolding moveBy
-move-rises zero f n h b = omega arith
-move-rises (suc c) f n h b =
-    either (eqb f n) _
-    (λ q. rw q (omega (arith, number-past-rises n h b, move-rises c (f + 1) (numberPast n h) (past h (run h + 1)) (number-past-top n h))))
-    (λ q. rw q (move-rises c (f + 1) n h b))
-
--- a block has two bytes or more
-fit-length : (c : ℕ) (l : List ℕ) → allFit c l ≡ true → 2 * c ≤ length l
-fit-length zero l e = omega arith
-fit-length (suc c) l e =
-    let g : blockSize l ≤ length l = first-fits c l e in
-    omega (arith, fit-length c (afterBlock l) (rest-fit c l e), length-drop (blockSize l) l)
 
 -- ---- where data moves the number
 
@@ -97,7 +61,7 @@ reached s l g =
     let m = numberOf l + countOf l - n in
     let fit : numberOf l + countOf l ≤ 18446744073709551615 = omega (arith, d .numbers-fit) in
     let few : countOf l ≤ 32743 = omega (arith, length-drop 20 l, d .short) in
-    let far : moveBy m n n h .next .0 ≤ max n (n + m + 64) = move-far m n n h in
+    let far : moveBy m n n h .next .0 ≤ max n (n + m + 64) = move-bound m n n h in
     record { fit = fit; top = rw (moved-to s l g) (move-top m n n h (omega arith)); near = rw (moved-to s l g) (omega arith) }
 
 pub few : (s : Lent) (l : List ℕ) → deliveredCount s l ≤ 65535

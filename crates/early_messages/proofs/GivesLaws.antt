@@ -14,12 +14,13 @@ use Rattle.moldudp64_messages.specs.Cursor.{locateOf}
 use Rattle.early_word.specs.Word.{bit, run, past}
 use Rattle.early_word.proofs.WordLaws.{bit-past, ones-set, ones-stop, past-lt}
 use Rattle.early_holding.specs.Holding.{Lent, nextOf, isHeld, heldMessage, numberPast, advance, keepOne, takeOne, moveBy, moveTo}
-use Rattle.early_holding.proofs.HoldingLaws.{either, keeps-below, move-skip}
+use Rattle.early_holding.proofs.HoldingLaws.{either, held-at, keeps-below, move-skip}
 use Rattle.early_holding.specs.declared.holding.Moved.{Moved}
 use Rattle.early_receiver.specs.Early.{lentAfter}
+use Rattle.early_receiver.proofs.KeepingLaws.{move-rises}
 use Rattle.early_messages.specs.Delivery.{deliveredCount, messageWith, messageAt, inDatagram, partWith, partAt, messagesAt, delivery, heldFrom, givesOne, givesAll, gives, PlacesAreDelivered, PlacesExist}
 use Rattle.early_messages.proofs.ReachLaws.{stand, Moves, Stays, Step, moves, stays, step, data-gives, data-count, moved-to}
-use Rattle.early_messages.proofs.CountLaws.{reached, delivered, number-past-top, move-rises}
+use Rattle.early_messages.proofs.CountLaws.{reached, delivered, number-past-top}
 
 -- ---- the messages with k numbers from j on
 
@@ -198,14 +199,6 @@ none-delivered : (s : Lent) (l : List ℕ) → Stays s l → delivery s l ≡ []
 unfolding messagesAt deliveredCount
 none-delivered s l g = let z : nextOf (lentAfter s l .receiver) - nextOf (s .receiver) ≡ 0 = omega (arith, g .number) in rw z refl
 
-held-at : (s : Lent) (i : ℕ) → bit (s .receiver .held .0) i ≡ isHeld (s .receiver) (nextOf (s .receiver) + 1 + i)
-unfolding isHeld
-held-at s i =
-    let n = nextOf (s .receiver) in
-    let a : n < n + 1 + i = omega arith in
-    let b : n + 1 + i - n - 1 ≡ i = omega arith in
-    rw (lt-ltb _ _ a, b) refl
-
 next-free : (s : Lent) → isHeld (s .receiver) (nextOf (s .receiver)) ≡ false
 unfolding isHeld
 next-free s = let x : nextOf (s .receiver) ≤ nextOf (s .receiver) = omega arith in rw (le-ltb _ _ x) refl
@@ -220,7 +213,7 @@ first-standing s l w g =
     record {
       below = g .begins;
       word = w;
-      same = λ b i. held-at s i;
+      same = λ b i. sym (held-at (s .receiver) i);
       free = λ b. next-free s;
       rest = λ i b. first-rest l i;
       top = omega (arith, data-count l (g .well) (g .kind), reached s l g .fit);

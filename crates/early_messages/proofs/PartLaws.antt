@@ -97,15 +97,15 @@ module _ (s : Lent) (l : List ℕ) (p : ℕ) where
   unfolding messageAt
   at-none e = rw e refl
 
-  at-held : ltb p (deliveredCount s l) ≡ true → isHeld (s .receiver) (nextOf (s .receiver) + p) ≡ true
+  pub at-held : p < deliveredCount s l → isHeld (s .receiver) (nextOf (s .receiver) + p) ≡ true
       → messageAt s l p ≡ heldMessage s (nextOf (s .receiver) + p)
   unfolding messageAt messageWith
-  at-held e h = rw (e, h) refl
+  at-held e h = rw (lt-ltb _ _ e, h) refl
 
-  at-there : ltb p (deliveredCount s l) ≡ true → isHeld (s .receiver) (nextOf (s .receiver) + p) ≡ false
+  pub at-there : p < deliveredCount s l → isHeld (s .receiver) (nextOf (s .receiver) + p) ≡ false
       → messageAt s l p ≡ messageOf l (nextOf (s .receiver) + p - numberOf l)
   unfolding messageAt messageWith
-  at-there e h = rw (e, h) refl
+  at-there e h = rw (lt-ltb _ _ e, h) refl
 
   record Names (q : Part) : Type 0 where
     in-slots : q .held ≡ true → q .offset .0 + q .length ≤ length (s .slots)
@@ -121,13 +121,13 @@ module _ (s : Lent) (l : List ℕ) (p : ℕ) where
       let j = nextOf (s .receiver) + p in
       either (isHeld (s .receiver) j) _
       (λ h.
-      rw (q, h) (record { in-slots = λ x. slot-in s j (d .slots); in-datagram = λ x. absurd (true≢false x); is-it = slot-is s j ∙ sym (at-held q h) }))
+      rw (q, h) (record { in-slots = λ x. slot-in s j (d .slots); in-datagram = λ x. absurd (true≢false x); is-it = slot-is s j ∙ sym (at-held (ltb-true _ _ q) h) }))
       (λ h.
       rw (q, h)
       (record {
         in-slots = λ x. absurd (true≢false (sym x));
         in-datagram = λ x. locate-in l (j - numberOf l);
-        is-it = part-of l (j - numberOf l) ∙ sym (at-there q h);
+        is-it = part-of l (j - numberOf l) ∙ sym (at-there (ltb-true _ _ q) h);
       })))
       (λ q. rw q (record { in-slots = λ x. absurd (true≢false (sym x)); in-datagram = λ x. omega arith; is-it = sym (at-none q) }))
 

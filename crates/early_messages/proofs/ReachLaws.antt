@@ -1,53 +1,36 @@
 -- Data that reaches the expected number moves it, and nothing else does: what each datagram comes to.
 use mathlib.Core.Path.{_≡_, refl, sym, ap, _∙_}
 use mathlib.Core.List.{List, [], _∷_}
-use mathlib.Core.Bool.{Bool, true, false, _&&_}
+use mathlib.Core.Bool.{_&&_}
 use Prim.Native.Nat.{ℕ, _+_, _-_, _≤_, _<_}
 use native.Mathlib.Omega.{arith}
 use lib.ListN.{length}
-use lib.Dec.{ltb, eqb}
-use borrow.Author.Tests.{eq-eqb, ne-eqb, eqb-true, eqb-false}
-use Rattle.wire.specs.Choice.{if_then_else_}
+use lib.Dec.{eqb}
+use borrow.Author.Tests.{eq-eqb, ne-eqb, eqb-true}
 use Rattle.wire.specs.Words.{answer, says}
 use Rattle.wire.proofs.Cases.{zero-or-not}
 use Rattle.wire.proofs.Words.{which-of}
 use Rattle.moldudp64.specs.Header.{numberOf, countOf}
 use Rattle.moldudp64.specs.Downstream.{DownstreamKind, data-packet, heartbeat, end-of-session, kindOf, refusalOf, messagesOf}
 use Rattle.moldudp64.proofs.DownstreamLaws.{sound, count-sound, kind-blocks}
+use Rattle.receiver.specs.declared.receiver.Receiver.{Receiver}
 use Rattle.receiver.specs.Table.{deliver, Outcome, Row, data-reaches, data-below, heartbeat-below, heartbeat-at, any-above, end-at}
 use Rattle.receiver.specs.Receiver.{refusalFor, tableRow, answerOf}
 use Rattle.receiver.proofs.TableLaws.{row-answer}
 use Rattle.receiver.proofs.Promises.{row-of, refused-answers, well-read}
-use Rattle.early_holding.specs.declared.holding.Moved.{Moved}
-use Rattle.early_holding.specs.Holding.{Lent, lent, nextOf, early, at, numberPast, advance, keeps, keep, keepOne, takeOne, takeAll, moveBy, moveTo}
-use Rattle.early_holding.proofs.HoldingLaws.{either, keeps-below, move-skip}
-use Rattle.early_receiver.specs.Early.{withSlots, earlyRefusal, namedLent, endAt, takeKind, lentAfter}
+use Rattle.early_holding.specs.Holding.{Lent, lent, nextOf, early, at, keepOne, takeOne, takeAll, moveTo}
+use Rattle.early_holding.proofs.HoldingLaws.{either, both, keeps-below}
+use Rattle.early_receiver.specs.Early.{earlyRefusal, namedLent, endAt, takeKind, lentAfter}
+use Rattle.early_receiver.proofs.AnswerLaws.{slots-open}
+use Rattle.early_receiver.proofs.KeepingLaws.{one-above, one-next, above-base, all-below, all-old}
+use Rattle.early_receiver.proofs.RequestLaws.{after-open}
+use Rattle.early_receiver.proofs.AloneLaws.{refusal-alone}
 use Rattle.early_messages.specs.Delivery.{givesOne, givesAll, givesKind, gives}
 
 -- ---- the refusals
 
 pub right-refusal : (s : Lent) (l : List ℕ) → length (s .slots) ≡ 65536 → length (s .lengths) ≡ 128 → earlyRefusal s l ≡ refusalFor (s .receiver .base) l
-unfolding earlyRefusal withSlots
-right-refusal s l e f = rw (eq-eqb _ _ e, eq-eqb _ _ f) refl
-
--- with no refusal the slots are right
-slots-open : (b : Bool) (k : ℕ) → withSlots b k ≡ 0 → (b ≡ true) × (k ≡ 0)
-unfolding withSlots
-slots-open true k e = (refl, e)
-slots-open false k e = absurd (go (eqb k 0) refl (ltb 19 k) e)
-  where
-    go : (z : Bool) → eqb k 0 ≡ z → (a : Bool) → (if z then 19 else if a then 19 else k) ≡ 0 → ⊥
-    go true q a x = omega arith
-    go false q true x = omega arith
-    go false q false x = eqb-false _ _ q x
-
-both : (a b : Bool) → (a && b) ≡ true → (a ≡ true) × (b ≡ true)
-both true true e = (refl, refl)
-both true false e = (refl, e)
-both false b e = absurd (go e)
-  where
-    go : false ≡ true → ⊥
-    go x = let z : _≡_ {A = ℕ} 0 1 = cc in omega arith
+right-refusal s l e f = refusal-alone s l (rw (eq-eqb _ _ e, eq-eqb _ _ f))
 
 pub record Opens (s : Lent) (l : List ℕ) : Type 0 where
   pub slots : length (s .slots) ≡ 65536
@@ -69,20 +52,12 @@ one-below s j m h =
     let z : j ≡ nextOf (s .receiver) → ⊥ = λ e. omega arith in
     rw (ne-eqb _ _ z, ← keeps-below (s .receiver) j (length m) (omega arith)) refl
 
-one-above : (s : Lent) (j : ℕ) (m : List ℕ) → nextOf (s .receiver) < j → nextOf (takeOne s j m .receiver) ≡ nextOf (s .receiver)
-unfolding takeOne keepOne keep
-one-above s j m h =
-    let z : j ≡ nextOf (s .receiver) → ⊥ = λ e. omega arith in
-    rw (ne-eqb _ _ z) (either (keeps (s .receiver) j (length m)) _ (λ q. rw q refl) (λ q. rw q refl))
+above-next : (s : Lent) (j : ℕ) (m : List ℕ) → nextOf (s .receiver) < j → nextOf (takeOne s j m .receiver) ≡ nextOf (s .receiver)
+above-next s j m h = ap (λ (x : Lent). nextOf (x .receiver)) (one-above s j m h) ∙ one-next s j m
 
 other-none : (s : Lent) (j : ℕ) (m : List ℕ) → (j ≡ nextOf (s .receiver) → ⊥) → givesOne s j m ≡ []
 unfolding givesOne
 other-none s j m z = rw (ne-eqb _ _ z) refl
-
-all-below : (s : Lent) (f : ℕ) (ms : List (List ℕ)) → f + length ms ≤ nextOf (s .receiver) → takeAll s f ms ≡ s
-unfolding takeAll
-all-below s f [] h = refl
-all-below s f (m ∷ ms) h = rw (one-below s f m (omega arith)) (all-below s (f + 1) ms (omega arith))
 
 none-below : (s : Lent) (f : ℕ) (ms : List (List ℕ)) → f + length ms ≤ nextOf (s .receiver) → givesAll s f ms ≡ []
 unfolding givesAll
@@ -90,37 +65,16 @@ none-below s f [] h = refl
 none-below s f (m ∷ ms) h =
     rw (other-none s f m (λ e. omega arith), one-below s f m (omega arith)) (none-below s (f + 1) ms (omega arith))
 
-all-above : (s : Lent) (f : ℕ) (ms : List (List ℕ)) → nextOf (s .receiver) < f → nextOf (takeAll s f ms .receiver) ≡ nextOf (s .receiver)
-unfolding takeAll
-all-above s f [] h = refl
-all-above s f (m ∷ ms) h =
-    let e = one-above s f m h in
-    all-above (takeOne s f m) (f + 1) ms (omega arith) ∙ e
-
 none-above : (s : Lent) (f : ℕ) (ms : List (List ℕ)) → nextOf (s .receiver) < f → givesAll s f ms ≡ []
 unfolding givesAll
 none-above s f [] h = refl
 none-above s f (m ∷ ms) h =
-    let e = one-above s f m h in
+    let e = above-next s f m h in
     rw (other-none s f m (λ e. omega arith)) (none-above (takeOne s f m) (f + 1) ms (omega arith))
 
 -- the receiver moved on, with all that is lent as it was
 abbrev pub stand : Lent → ℕ → ℕ → Lent
 stand s n h = lent (early (at (s .receiver .base) n) h) (s .lengths) (s .slots)
-
-abbrev standBy : Lent → Moved → Lent
-standBy s m = stand s (m .next .0) (m .held .0)
-
--- from the expected number on down it moves alone
-take-below : (s : Lent) (f n h : ℕ) (ms : List (List ℕ)) → f ≤ n → f + length ms ≤ 18446744073709551615 → takeAll (stand s n h) f ms ≡ standBy s (moveBy (length ms) f n h)
-unfolding takeAll moveBy takeOne advance keepOne numberPast
-take-below s f n h [] g t = refl
-take-below s f n h (m ∷ ms) g t =
-    either (eqb f n) _
-    (λ q. let e : f ≡ n = eqb-true _ _ q in rw q (take-below s (f + 1) _ _ ms (omega arith) (omega arith)))
-    (λ q.
-    let z : f ≡ n → ⊥ = eqb-false _ _ q in
-    rw (q, ← keeps-below (stand s n h .receiver) f (length m) g) (take-below s (f + 1) n h ms (omega arith) (omega arith)))
 
 -- ---- a datagram
 
@@ -133,8 +87,7 @@ unfolding gives
 refused-gives s l z = rw (ne-eqb _ _ z) refl
 
 open-after : (s : Lent) (l : List ℕ) (k : DownstreamKind) → earlyRefusal s l ≡ 0 → kindOf l ≡ k → lentAfter s l ≡ takeKind (namedLent s l) k l
-unfolding lentAfter
-open-after s l k z e = rw (z, e) refl
+open-after s l k z e = after-open s l z ∙ ap (λ (x : DownstreamKind). takeKind (namedLent s l) x l) e
 
 open-gives : (s : Lent) (l : List ℕ) (k : DownstreamKind) → earlyRefusal s l ≡ 0 → kindOf l ≡ k → gives s l ≡ givesKind s k l
 unfolding gives
@@ -195,13 +148,13 @@ module _ (s : Lent) (l : List ℕ) (z : earlyRefusal s l ≡ 0) where
   below-still k h a =
       let c = data-count l (well-read (s .receiver .base) l (opens s l z .plain)) k in
       let g : numberOf l + length (messagesOf l) ≤ nextOf (s .receiver) = omega arith in
-      still data-packet k (ap (λ (x : Lent). nextOf (x .receiver)) (all-below (namedLent s l) (numberOf l) (messagesOf l) g))
+      still data-packet k (ap (λ (x : Lent). nextOf (x .receiver)) (all-old (messagesOf l) (namedLent s l) (numberOf l) g))
       (none-below s (numberOf l) (messagesOf l) g) a
 
   above-still : kindOf l ≡ data-packet → nextOf (s .receiver) < numberOf l → (tableRow (s .receiver .base) l .reply .which ≡ answer deliver → ⊥) → Step s l
   unfolding takeKind givesKind
   above-still k h a =
-      still data-packet k (all-above (namedLent s l) (numberOf l) (messagesOf l) h) (none-above s (numberOf l) (messagesOf l) h) a
+      still data-packet k (ap (λ (r : Receiver). r .next .0) (above-base (messagesOf l) (namedLent s l) (numberOf l) h)) (none-above s (numberOf l) (messagesOf l) h) a
 
   by-kind : (k : DownstreamKind) → kindOf l ≡ k → nextOf (s .receiver) < numberOf l → (tableRow (s .receiver .base) l .reply .which ≡ answer deliver → ⊥) → Step s l
   by-kind data-packet k h a = above-still k h a
@@ -249,12 +202,10 @@ step s l =
 -- where it moves to
 pub moved-to : (s : Lent) (l : List ℕ) → Moves s l
     → nextOf (lentAfter s l .receiver) ≡ moveTo (nextOf (s .receiver)) (s .receiver .held .0) (numberOf l + countOf l) .next .0
-unfolding moveTo
 moved-to s l g =
     let n = nextOf (s .receiver) in
     let h = s .receiver .held .0 in
-    let c = data-count l (g .well) (g .kind) in
     ap (λ (x : Lent). nextOf (x .receiver))
     (data-after s l (g .open-so) (g .kind)
-    ∙ take-below (namedLent s l) (numberOf l) n h (messagesOf l) (g .begins) (omega (arith, count-sound l (g .well), sound l (g .well) .numbers-fit)))
-    ∙ ap (λ (m : Moved). m .next .0) (ap (λ (k : ℕ). moveBy k (numberOf l) n h) c ∙ move-skip (countOf l) (numberOf l) n h (g .begins))
+    ∙ all-below (namedLent s l) (numberOf l) (messagesOf l) (g .begins) (omega (arith, count-sound l (g .well), sound l (g .well) .numbers-fit)))
+    ∙ ap (λ (k : ℕ). moveTo n h (numberOf l + k) .next .0) (data-count l (g .well) (g .kind))

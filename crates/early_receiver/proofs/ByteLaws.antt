@@ -1,7 +1,7 @@
 -- Which bytes of the slots a datagram changes: those of the messages that it leaves held.
 use mathlib.Core.Path.{_≡_, refl, sym, ap, subst, _∙_}
 use mathlib.Core.List.{List, [], _∷_}
-use mathlib.Core.Bool.{Bool, true, false, true≢false, _&&_}
+use mathlib.Core.Bool.{true, false, true≢false}
 use Prim.Native.Nat.{ℕ, _+_, _-_, _≤_, _<_}
 use native.Mathlib.Omega.{arith}
 use lib.ListN.{length, getD, drop, length-take, length-drop}
@@ -20,7 +20,7 @@ use Rattle.moldudp64.proofs.DownstreamLaws.{sound, count-sound}
 use Rattle.early_word.specs.Word.{bit}
 use Rattle.early_word.proofs.WordLaws.{bit-marked}
 use Rattle.early_holding.specs.Holding.{slotOf, slotAt, lengthAt, Lent, nextOf, isHeld, lengthOf, heldMessage, keeps, keep, keepOne, advance, takeOne, takeAll}
-use Rattle.early_holding.proofs.HoldingLaws.{either, Keepable, keepable}
+use Rattle.early_holding.proofs.HoldingLaws.{either, both, Keepable, keepable}
 use Rattle.early_receiver.specs.Early.{earlyRefusal, namedLent, endAt, takeKind, lentAfter}
 use Rattle.early_receiver.specs.Statements.{ByteOfHeld, OnlyHeldBytesChange}
 use Rattle.early_receiver.proofs.KeepingLaws.{one-next, one-slots, one-lengths, step-above, all-below}
@@ -42,7 +42,7 @@ module _ (l : List ℕ) (at : ℕ) (bs : List ℕ) (i : ℕ) where
 
 -- ---- the length of a number in another slot, and in its own
 
-length-other : (ls : List ℕ) (j k v : ℕ) → (slotOf j ≡ slotOf k → ⊥) → lengthOf (put ls (lengthAt j) (bytes 2 v)) k ≡ lengthOf ls k
+pub length-other : (ls : List ℕ) (j k v : ℕ) → (slotOf j ≡ slotOf k → ⊥) → lengthOf (put ls (lengthAt j) (bytes 2 v)) k ≡ lengthOf ls k
 unfolding lengthOf number
 length-other ls j k v z =
     let n = length-bytes 2 v in
@@ -52,7 +52,7 @@ length-other ls j k v z =
     let g : slotOf j < slotOf k = omega arith in
     rw (byte-behind ls (lengthAt j) (bytes 2 v) (lengthAt k + 0) (omega arith), byte-behind ls (lengthAt j) (bytes 2 v) (lengthAt k + 1) (omega arith)))
 
-length-own : (ls : List ℕ) (j v : ℕ) → length ls ≡ 128 → v ≤ 1024 → lengthOf (put ls (lengthAt j) (bytes 2 v)) j ≡ v
+pub length-own : (ls : List ℕ) (j v : ℕ) → length ls ≡ 128 → v ≤ 1024 → lengthOf (put ls (lengthAt j) (bytes 2 v)) j ≡ v
 unfolding lengthOf ReadsBack
 length-own ls j v e h = output-laws .reads-back 2 v ls (lengthAt j) (omega arith) (omega arith)
 
@@ -237,11 +237,6 @@ changed (m ∷ ms) s f i h a b z =
 
 -- ---- a datagram by its kind
 
-both-true : (a b : Bool) → (a && b) ≡ true → (a ≡ true) × (b ≡ true)
-both-true true true e = (refl, refl)
-both-true true false e = absurd (true≢false (sym e))
-both-true false b e = absurd (true≢false (sym e))
-
 data-changes : (s : Lent) (l : List ℕ) (i : ℕ) → refusalOf l ≡ 0 → length (s .slots) ≡ 65536 → length (s .lengths) ≡ 128
     → (getD (takeAll s (numberOf l) (messagesOf l) .slots) i 0 ≡ getD (s .slots) i 0 → ⊥) → ByteOfHeld s (takeAll s (numberOf l) (messagesOf l)) i
 data-changes s l i w a b z =
@@ -268,7 +263,7 @@ after-changes s l i z = zero-or-not _ (earlyRefusal s l) accepted (λ e. absurd 
   where
     accepted : earlyRefusal s l ≡ 0 → ByteOfHeld s (lentAfter s l) i
     accepted e =
-        let c = both-true _ _ (size-open s l e) in
+        let c = both _ _ (size-open s l e) in
         let o = after-open s l e in
         let y : getD (takeKind (namedLent s l) (kindOf l) l .slots) i 0 ≡ getD (s .slots) i 0 → ⊥ = λ q. z (ap (λ (x : Lent). getD (x .slots) i 0) o ∙ q) in
         subst (λ (x : Lent). ByteOfHeld s x i) (sym o)

@@ -16,6 +16,7 @@ use Rattle.moldudp64_messages.specs.Cursor.{part, located, advanced, firstOf}
 use Rattle.receiver.specs.declared.receiver.Receiver.{Receiver}
 use Rattle.receiver.specs.Table.{numbered}
 use Rattle.early_word.specs.Word.{run, past}
+use Rattle.early_word.specs.declared.Held.{Held}
 use Rattle.early_holding.specs.declared.holding.EarlyReceiver.{EarlyReceiver}
 use Rattle.early_holding.specs.declared.holding.Moved.{Moved}
 use Rattle.early_holding.specs.Holding.{Lent, lent, early, nextOf, at, numberPast, advance, keeps, keep, keepOne, takeOne, takeAll, moveBy, moveTo}
@@ -173,10 +174,11 @@ module _ (whole : Lent) (l : List ℕ) (end ka sa : ℕ) (r : EarlyReceiver) (ks
   pub keeping-slots : length ss ≡ sa
   keeping-slots = i .slots-size
 
-pub keeping-end : (whole : Lent) (l : List ℕ) (end ka sa : ℕ) (r : EarlyReceiver) (ks ss : List ℕ) (c : Cursor) (j : ℕ)
-    → Keeping whole l end ka sa r ks ss c j → end ≤ j → lent r ks ss ≡ whole
+pub keeping-end : (r : EarlyReceiver) (lt st : List ℕ) (f : ℕ) (ms : List (List ℕ)) (l : List ℕ) (end ka sa : ℕ) (h : Held) (ks ss : List ℕ) (c : Cursor) (j : ℕ)
+    → Keeping (takeAll (lent (early (r .base) (r .held .0)) lt st) f ms) l end ka sa (early (r .base) (h .0)) ks ss c j → end ≤ j
+    → lent (record { base = r .base; held = h }) ks ss ≡ takeAll (lent r lt st) f ms
 unfolding takeAll messagesFromCursor
-keeping-end whole l end ka sa r ks ss c j i h = let z : end - j ≡ 0 = omega arith in rw z at (i .same)
+keeping-end r lt st f ms l end ka sa h ks ss c j i e = let z : end - j ≡ 0 = omega arith in rw z at (i .same)
 
 -- ---- as `keep_all` has them: as many messages as can be numbered
 

@@ -87,7 +87,7 @@ wants-so : (r : EarlyReceiver) (f : ℕ) → r .base .ended ≡ false → nextOf
 unfolding wanted
 wants-so r f e h = rw (lt-ltb _ _ h, e)
 
-bit-of-none : (k : ℕ) → bit 0 k ≡ false
+pub bit-of-none : (k : ℕ) → bit 0 k ≡ false
 unfolding bit
 bit-of-none k = rw (zero-div (2 ^ k))
 
@@ -149,7 +149,7 @@ asks-exactly-when =
 
 -- ---- how far the number moves
 
-move-bound : (c f n h : ℕ) → moveBy c f n h .next .0 ≤ max n (f + c + 64)
+pub move-bound : (c f n h : ℕ) → moveBy c f n h .next .0 ≤ max n (f + c + 64)
 unfolding moveBy numberPast
 move-bound zero f n h = omega arith
 move-bound (suc c) f n h =
@@ -162,7 +162,8 @@ move-bound (suc c) f n h =
     rw q (omega (arith, move-bound c (f + 1) b (past h (run h + 1)))))
     (λ q. rw q (omega (arith, move-bound c (f + 1) n h)))
 
-fit-length : (c : ℕ) (l : List ℕ) → allFit c l ≡ true → 2 * c ≤ length l
+-- a block has two bytes or more
+pub fit-length : (c : ℕ) (l : List ℕ) → allFit c l ≡ true → 2 * c ≤ length l
 fit-length zero l e = omega arith
 fit-length (suc c) l e =
     let g : blockSize l ≤ length l = first-fits c l e in

@@ -1,5 +1,5 @@
 -- Laws of the two steps that an accepted datagram can take: messages delivered, and a datagram ahead.
-use mathlib.Core.Path.{_≡_, refl, sym, ap, _∙_}
+use mathlib.Core.Path.{_≡_, sym, ap, _∙_}
 use mathlib.Core.List.{List}
 use mathlib.Core.Bool.{false}
 use Prim.Native.Nat.{ℕ, _+_, _-_, _≤_, _<_, min}
@@ -11,7 +11,6 @@ use Rattle.wire.specs.declared.refusal.Refusal.{Refusal}
 use Rattle.wire.specs.declared.kinds.SequenceNumber.{SequenceNumber}
 use Rattle.wire.specs.declared.kinds.MessageCount.{MessageCount}
 use Rattle.wire.specs.declared.kinds.MessagePlace.{MessagePlace}
-use Rattle.wire.proofs.Cases.{below-or-not}
 use Rattle.moldudp64.specs.declared.downstream.Downstream.{Downstream}
 use Rattle.moldudp64.specs.declared.downstream.Downstream.the-variants.{Data, Heartbeat, EndOfSession, Refused}
 use Rattle.moldudp64.specs.Downstream.{downstreamWords}
@@ -21,7 +20,7 @@ use Rattle.receiver.specs.Receiver.{numberRead}
 use Rattle.early_holding.specs.declared.holding.EarlyReceiver.{EarlyReceiver}
 use Rattle.early_holding.specs.declared.holding.Moved.{Moved}
 use Rattle.early_holding.specs.Holding.{Lent, lent, early, nextOf, at, takeAll, moved, moveTo}
-use Rattle.early_holding.proofs.HoldingLaws.{move-empty, move-done}
+use Rattle.early_holding.proofs.HoldingLaws.{move-free}
 use Rattle.early_receiver.specs.declared.early.Answer.the-variants.{Deliver, Ahead}
 use Rattle.early_receiver.specs.declared.early.Request.{Request}
 use Rattle.early_receiver.specs.declared.early.Request.the-variants.{Nothing}
@@ -34,12 +33,6 @@ use Rattle.early_receiver.proofs.AnswerLaws.{wants-nothing}
 use Rattle.early_receiver.proofs.KeepingLaws.{above-base}
 
 -- ---- messages delivered
-
--- with nothing held every number is the next
-pub move-free : (n end : ℕ) → n ≤ end → Fits w64 end → moveTo n 0 end ≡ moved end 0
-move-free n end h f =
-    below-or-not _ n end (λ i. sym (move-empty n 0 (record { 0 = end }) (record { 0 = 0 }) (moveTo n 0 end) f refl i refl refl))
-    (λ i. let e : n ≡ end = omega arith in sym (move-done (record { 0 = n }) (record { 0 = 0 }) end (moveTo n 0 end) refl i) ∙ ap (λ (k : ℕ). moved k 0) e)
 
 module _ (r : EarlyReceiver) (n : SequenceNumber) (c : MessageCount) (p : MessagePlace) (e : nextOf r ≡ n .0 + c .0) (f : Fits w64 (nextOf r)) where
   free-past : r .held .0 ≡ 0 → movedPast r (n .0) (c .0) ≡ r

@@ -3,3 +3,4 @@ pub mod Early
 pub mod Read
 pub mod Statements
 pub mod Steps
+pub mod Settled

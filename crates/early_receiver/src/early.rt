@@ -28,7 +28,8 @@ ghost use Rattle.early_holding.specs.Holding.{slotCount, slotBytes, lengthBytes
 ghost use Rattle.early_receiver.specs.declared.early.Answer.the-variants.{Ahead, Ended};
 ghost use Rattle.early_receiver.specs.Answers.{requestWords};
 ghost use Rattle.early_receiver.specs.Early.{withSlots, wanted, TakesEarly};
-ghost use Rattle.early_receiver.specs.Read.{messagesRead, TakesEarlyRead, EarlyReadAsWhole};
+ghost use Rattle.early_receiver.specs.Read.{messagesRead, earlyRefusalRead, TakesEarlyRead, EarlyReadAsWhole};
+ghost use Rattle.early_receiver.specs.Settled.{dataOrBeat, isHere, unsettledOf, settledOf, Settles, RowHere, SettlesRow};
 ghost use Rattle.early_receiver.specs.Statements.{EarlyPromises};
 ghost use Rattle.early_receiver.specs.Steps.{Stays, movedPast, Delivers, TakesAhead, Accepts};
 
@@ -106,6 +107,129 @@ pub fn take_read(
         };
     }
     accept(receiver, taken, packet, lengths, slots, datagram)
+}
+
+// What a datagram comes to where that can be told without what is lent: whether it can, and then all of it. Where it
+// can't, the receiver as it was.
+pub struct Settled {
+    pub applies: bool,
+    pub taken: Taken,
+}
+
+// Takes data or a heartbeat that isn't ahead, of the receiver's name: nothing is kept then, so nothing is lent. It is the
+// short way of nearly every datagram.
+pub fn settle(receiver: EarlyReceiver, packet: Downstream, datagram: &[u8]) -> Settled
+    ensures { λ r. ⌜ Settles r receiver (now (datagram .entry)) (downstreamWords packet) ⌝ }
+{
+    let base = receiver.base;
+    if !is_here(base, packet, datagram) {
+        return unsettled(receiver);
+    }
+    settle_row(receiver, row_here(base, packet), packet, datagram)
+}
+
+// Whether it is data or a heartbeat for which the receiver is open.
+fn is_here(base: Receiver, packet: Downstream, datagram: &[u8]) -> bool
+    ensures { λ r. ⌜ r ≡ isHere base (now (datagram .entry)) (downstreamWords packet) ⌝ }
+{
+    if base.is_open_for(datagram) {
+        return is_data_or_beat(packet);
+    }
+    false
+}
+
+fn unsettled(receiver: EarlyReceiver) -> Settled
+    ensures { λ r. ⌜ r ≡ unsettledOf receiver ⌝ }
+{
+    Settled {
+        applies: false,
+        taken: Taken {
+            answer: Answer::Old,
+            request: Request::Nothing,
+            receiver,
+        },
+    }
+}
+
+fn applied(taken: Taken) -> Settled
+    ensures { λ r. ⌜ r ≡ settledOf taken ⌝ }
+{
+    Settled {
+        applies: true,
+        taken,
+    }
+}
+
+fn is_data_or_beat(packet: Downstream) -> bool
+    ensures { λ r. ⌜ r ≡ dataOrBeat (downstreamWords packet .which) ⌝ }
+{
+    match packet {
+        Downstream::Data { first: _, count: _ } => true,
+        Downstream::Heartbeat { next: _ } => true,
+        Downstream::EndOfSession { next: _ } => false,
+        Downstream::Refused(_) => false,
+    }
+}
+
+// The plain receiver's row for data or a heartbeat; for anything else, any.
+fn row_here(base: Receiver, packet: Downstream) -> plain::Taken
+    ensures { λ r. ⌜ RowHere r base (downstreamWords packet) ⌝ }
+{
+    match packet {
+        Downstream::Data { first, count } => base.take_data(first, count),
+        Downstream::Heartbeat { next } => base.take_heartbeat(next),
+        Downstream::EndOfSession { next } => base.take_heartbeat(next),
+        Downstream::Refused(_) => base.take_heartbeat(base.next),
+    }
+}
+
+// A row that delivers, or is old or quiet, with what is held; every other isn't settled.
+fn settle_row(
+    receiver: EarlyReceiver,
+    taken: plain::Taken,
+    packet: Downstream,
+    datagram: &[u8],
+) -> Settled
+    requires { ⌜ refusalRead (receiver .base) (now datagram) (downstreamWords packet) ≡ 0 ⌝ }
+    requires { ⌜ answerWords (taken .answer) ≡ rowRead (receiver .base) (downstreamWords packet) .reply ⌝ }
+    requires { ⌜ taken .receiver ≡ afterRow (namedBy (receiver .base) (now datagram))
+        (rowRead (receiver .base) (downstreamWords packet)) ⌝ }
+    ensures { λ r. ⌜ SettlesRow r receiver (now (datagram .entry)) (downstreamWords packet) ⌝ }
+{
+    let held = receiver.held;
+    let base = taken.receiver;
+    let moved = EarlyReceiver { base, held };
+    let answer = taken.answer;
+    match answer {
+        plain::Answer::Deliver {
+            first,
+            count,
+            skipped,
+        } => applied(deliver(moved, first, count, skipped)),
+        plain::Answer::Old => applied(stay(moved, Answer::Old)),
+        plain::Answer::Quiet => applied(stay(moved, Answer::Quiet)),
+        plain::Answer::Ask { from: _, count: _ } => unsettled(receiver),
+        plain::Answer::Ended => unsettled(receiver),
+        plain::Answer::Refused(_) => unsettled(receiver),
+    }
+}
+
+// The refusal of a datagram that was read, its number 0 where there is none, before anything is taken.
+pub fn refusal_read(
+    receiver: EarlyReceiver,
+    packet: Downstream,
+    lengths: &[u8],
+    slots: &[u8],
+    datagram: &[u8],
+) -> Refusal
+    ensures { λ r. ⌜ r .number ≡ earlyRefusalRead (lent receiver (now (lengths .entry)) (now (slots .entry)))
+        (now (datagram .entry)) (downstreamWords packet) ⌝ }
+{
+    let base = receiver.base;
+    with_slots(
+        is_right_size(lengths.len(), slots.len()),
+        base.refusal_for(packet, datagram),
+    )
 }
 
 // Whether slots and lengths are of their size.
@@ -387,16 +511,16 @@ fn keep_to(
         ≡ takeAll (lent receiver (now (lengths .entry)) (now (slots .entry))) (first .0)
         (messagesRead (now (datagram .entry)) (end .0 - first .0)) ⌝ }
 {
-    let mut kept = receiver;
+    let base = receiver.base;
+    let mut held = receiver.held;
     let mut number = first;
     let mut cursor = Cursor::first(first.gap(end));
     while number.is_below(end) {
         let message = cursor.message(datagram);
-        let one = kept.keep(lengths, slots, number, message);
-        kept = one;
         let after = cursor.next(datagram);
+        held = EarlyReceiver { base, held }.keep(lengths, slots, number, message);
         cursor = after;
         number = number.plus(MessageCount(1));
     }
-    kept
+    EarlyReceiver { base, held }
 }

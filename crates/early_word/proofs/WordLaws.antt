@@ -1,6 +1,6 @@
 -- Laws of the word: what its bits are after each operation, and that its counts are the machine's.
 use mathlib.Core.Path.{_≡_, refl, sym, ap, _∙_}
-use mathlib.Core.Bool.{Bool, true, false}
+use mathlib.Core.Bool.{Bool, true, false, true≢false}
 use Prim.Native.Nat.{ℕ, zero, suc, _+_, _-_, _*_, _/_, _%_, _^_, _≤_, _<_, max}
 use native.Mathlib.Omega.{arith}
 use lib.Dec.{ltb, eqb}
@@ -12,6 +12,7 @@ use lib.Pow.{shr-shr, shr-le, pow-mono, pow-lt, pow-pos}
 use lib.Bits.{bitOr, or-shr, or-step, or-lt}
 use borrow.Author.Tests.{lt-ltb, le-ltb, ltb-true, eqb-true, eqb-false}
 use Rattle.wire.specs.Choice.{if_then_else_}
+use Rattle.wire.proofs.Cases.{below-or-not}
 use Rattle.early_word.specs.Word.{bit, onesOf, zerosOf, past, marked}
 
 -- ---- one bit
@@ -122,6 +123,25 @@ pub ones-le : (k h : ℕ) → onesOf k h ≤ k
 unfolding onesOf
 ones-le zero h = omega arith
 ones-le (suc k) h = either (bit h 0) _ (λ b. rw b (omega (arith, ones-le k (h / 2)))) (λ b. rw b (omega arith))
+
+-- a word without some of its run has the rest of the run
+pub ones-past : (k h i : ℕ) → h < 2 ^ k → i ≤ onesOf k h → onesOf k (past h i) ≡ onesOf k h - i
+ones-past k h i e le =
+    below-or-not _ (onesOf k (past h i)) (onesOf k h - i)
+    (λ lt.
+    let a : bit h (i + onesOf k (past h i)) ≡ true = ones-set k h (i + onesOf k (past h i)) (omega arith) in
+    absurd (true≢false (sym a ∙ sym (bit-past h i (onesOf k (past h i))) ∙ ones-stop k (past h i) (past-lt h k i e))))
+    (λ ge.
+    below-or-not _ (onesOf k h - i) (onesOf k (past h i))
+    (λ lt.
+    let a : bit (past h i) (onesOf k h - i) ≡ true = ones-set k (past h i) (onesOf k h - i) lt in
+    let z : i + (onesOf k h - i) ≡ onesOf k h = omega arith in
+    absurd (true≢false (sym a ∙ bit-past h i (onesOf k h - i) ∙ ap (bit h) z ∙ ones-stop k h e)))
+    (λ le′. omega arith))
+
+pub past-past : (h i j : ℕ) → past (past h i) j ≡ past h (i + j)
+unfolding past
+past-past h i j = shr-shr h i j
 
 pub zeros-le : (k h : ℕ) → zerosOf k h ≤ k
 unfolding zerosOf

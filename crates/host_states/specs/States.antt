@@ -32,6 +32,12 @@ readingCode = 229
 abbrev pub transmitterCode : ℕ
 transmitterCode = 230
 
+abbrev pub earlyCode : ℕ
+earlyCode = 231
+
+abbrev pub walkCode : ℕ
+walkCode = 232
+
 -- its bytes, and those of a phase or a stage
 abbrev pub codeSize : ℕ
 codeSize = 1

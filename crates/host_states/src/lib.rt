@@ -26,6 +26,10 @@ pub const READING: u8 = 0xE5;
 
 pub const TRANSMITTER: u8 = 0xE6;
 
+pub const EARLY: u8 = 0xE7;
+
+pub const WALK: u8 = 0xE8;
+
 // Where the code stands, its bytes, and what stands there in a state that isn't open.
 pub const CODE_AT: ByteOffset = ByteOffset(0);
 
@@ -33,7 +37,7 @@ pub const CODE_SIZE: usize = 1;
 
 const NOT_OPEN: u8 = 0;
 
-// Behind it, in a receiver and in a SoupBinTCP session, the name stands, and then the number.
+// Behind it, in either receiver and in a SoupBinTCP session, the name stands, and then the number.
 pub const NAME_AT: ByteOffset = ByteOffset(CODE_SIZE);
 
 pub const NUMBER_AT: ByteOffset = ByteOffset(CODE_SIZE + SESSION_SIZE);

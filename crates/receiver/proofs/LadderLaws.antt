@@ -6,7 +6,7 @@ use Prim.Native.Nat.{ℕ}
 use native.Mathlib.Omega.{arith}
 use lib.ListN.{length, getD, take, length-take}
 use lib.Dec.{ltb}
-use borrow.Author.Tests.{ne-eqb, not-false}
+use borrow.Author.Tests.{eq-eqb, ne-eqb, not-false}
 use Rattle.wire.specs.Choice.{if_then_else_}
 use Rattle.wire.specs.Bounds.{blank}
 use Rattle.wire.specs.Bytes.{sameBytes}
@@ -21,7 +21,7 @@ use Rattle.moldudp64.specs.declared.downstream.Downstream.{Downstream}
 use Rattle.moldudp64.specs.declared.downstream.Downstream.the-variants.{Data, Heartbeat, EndOfSession, Refused}
 use Rattle.moldudp64.specs.Downstream.{kindOf, refusalOf, downstreamWords}
 use Rattle.receiver.specs.declared.receiver.Receiver.{Receiver}
-use Rattle.receiver.specs.Receiver.{receiver, nameBy, namedBy, otherSession, endBelow, ownRefusal, refusalFor, belowReadAt, belowRead, refusalRead}
+use Rattle.receiver.specs.Receiver.{receiver, nameBy, namedBy, otherSession, openFor, endBelow, ownRefusal, refusalFor, belowReadAt, belowRead, refusalRead}
 
 -- ---- the name: u is whether there is none yet, h whether the datagram has it
 
@@ -50,6 +50,21 @@ module _ (r : Receiver) (l : List ℕ) (h : Bool) (f : h ≡ sameBytes (take 10 
 
     pub other-hasnt : h ≡ false → not u ≡ otherSession r l
     other-hasnt g = rw (by-name u refl, g)
+
+-- ---- open for a datagram
+
+module _ (r : Receiver) (l : List ℕ) where
+  pub open-ended : r .ended ≡ true → false ≡ openFor r l
+  unfolding openFor
+  open-ended e = rw e refl
+
+  pub open-space : r .ended ≡ false → getD (r .session) 9 0 ≡ 32 → false ≡ openFor r l
+  unfolding openFor
+  open-space e z = rw (e, eq-eqb _ _ z) refl
+
+  pub open-same : (h : Bool) → h ≡ sameBytes (take 10 l) (r .session) → r .ended ≡ false → (getD (r .session) 9 0 ≡ 32 → ⊥) → h ≡ openFor r l
+  unfolding openFor
+  open-same h f e z = rw (e, ne-eqb _ _ z) f
 
 -- a datagram that isn't of another session begins with the name that is taken
 pub name-taken : (r : Receiver) (l name : List ℕ) → otherSession r l ≡ false → length (r .session) ≡ 10 → name ≡ firstBytes 10 l

@@ -1,5 +1,5 @@
 -- The receiver: its start, its refusals, and what it answers to a datagram.
-use Prim.Native.Nat.{ℕ}
+use Prim.Native.Nat.{ℕ, _-_}
 use mathlib.Core.List.{List}
 use mathlib.Core.Bool.{Bool, true, false, not}
 use mathlib.Core.Path.{_≡_}
@@ -9,6 +9,7 @@ use Rattle.wire.specs.Choice.{if_then_else_}
 use Rattle.wire.specs.Refusals.{badSetting, sessionDiffers, sessionEnded, endBelowExpected}
 use Rattle.wire.specs.Bounds.{leastNumber, largestNumber, leastLimit, largestLimit, sessionSize, blank}
 use Rattle.wire.specs.Words.{Words, Case, answer, refused, refuses}
+use Rattle.wire.specs.Text.{letter}
 use Rattle.wire.specs.Bytes.{sameBytes}
 use Rattle.wire.specs.Parts.{firstBytes}
 use Rattle.moldudp64.specs.Header.{numberOf, countOf}
@@ -64,6 +65,14 @@ namedBy r l = receiver (nameBy (r .session) l) (r .next .0) (r .limit .0) (r .en
 unfoldable pub otherSession : Receiver → List ℕ → Bool
 otherSession r l =
     if unnamed (r .session) then unnamed (take sessionSize l) else not (sameBytes (take sessionSize l) (r .session))
+
+-- it isn't ended and has the datagram's session for its name. One that ends in a space may be no name yet, and doesn't
+-- count here
+unfoldable pub openFor : Receiver → List ℕ → Bool
+openFor r l =
+    if r .ended then false
+    else if eqb (getD (r .session) (sessionSize - 1) 0) (letter " ") then false
+    else sameBytes (take sessionSize l) (r .session)
 
 -- the ground of 20: an end of session below the expected number
 unfoldable pub endBelow : DownstreamKind → ℕ → ℕ → Bool
@@ -164,9 +173,7 @@ Takes x r l = (answerWords (x .answer) ≡ answerOf r l) × (x .receiver ≡ rec
 abbrev pub TakesRead : Taken → Receiver → List ℕ → Words DownstreamKind → Type 0
 TakesRead x r l w = (answerWords (x .answer) ≡ answerRead r l w) × (x .receiver ≡ afterRead r l w)
 
--- ---- for private helpers alone; no public promise uses it
-
--- a row taken: x is the answer with the next receiver
+-- of a function that takes one row of the table, which returned x: the answer with the next receiver
 pub record TakesRow (x : Taken) (r : Receiver) (o : Outcome) : Type 0 where
   pub answers : answerWords (x .answer) ≡ o .reply
   pub leaves : x .receiver ≡ afterRow r o

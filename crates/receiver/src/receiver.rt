@@ -17,7 +17,7 @@ ghost use Rattle.wire.specs.Refusals.{badSetting};
 ghost use Rattle.moldudp64.specs.Header.{endCount};
 ghost use Rattle.moldudp64.specs.Downstream.{data-packet, heartbeat, end-of-session, downstreamWords};
 ghost use Rattle.receiver.specs.Table.{askOutcome, table, numbered};
-ghost use Rattle.receiver.specs.Receiver.{receiver, refusedReceiver, unnamed, namedBy, otherSession};
+ghost use Rattle.receiver.specs.Receiver.{receiver, refusedReceiver, unnamed, namedBy, otherSession, openFor};
 ghost use Rattle.receiver.specs.Receiver.{belowRead, refusalRead, rowRead};
 ghost use Rattle.receiver.specs.Receiver.{ReadAsWhole, Starts, Takes, TakesRead, TakesRow};
 ghost use Rattle.receiver.specs.Statements.{ReceiverPromises};
@@ -153,7 +153,7 @@ impl Receiver {
     }
 
     // What the reader refused, or 17, 18, 20, or 0. The session is compared once, for every kind of packet.
-    fn refusal_for(self, packet: Downstream, datagram: &[u8]) -> Refusal
+    pub fn refusal_for(self, packet: Downstream, datagram: &[u8]) -> Refusal
         ensures { λ r. ⌜ r .number ≡ refusalRead self (now (datagram .entry)) (downstreamWords packet) ⌝ }
     {
         let refused = downstream::refusal_in(packet);
@@ -198,6 +198,21 @@ impl Receiver {
         } else {
             !self.is_unnamed()
         }
+    }
+
+    // Whether it isn't ended and has the datagram's session for its name. A name that ends in a space may be no name yet,
+    // and doesn't count: a caller that wants a short way has one for nearly every name.
+    pub fn is_open_for(self, datagram: &[u8]) -> bool
+        ensures { λ r. ⌜ r ≡ openFor self (now (datagram .entry)) ⌝ }
+    {
+        let name = self.session;
+        if self.ended {
+            return false;
+        }
+        if name[LAST_OF_NAME] == b' ' {
+            return false;
+        }
+        header::has_session(datagram, name)
     }
 
     // Whether its name is still to be learned.
@@ -270,7 +285,7 @@ impl Receiver {
     }
 
     // The rows for data: as many messages of it as can be numbered.
-    fn take_data(self, first: SequenceNumber, count: MessageCount) -> Taken
+    pub fn take_data(self, first: SequenceNumber, count: MessageCount) -> Taken
         ensures { λ r. ⌜ TakesRow r self (table (self .limit .0) (self .next .0) data-packet (first .0)
             (numbered (first .0) (count .0))) ⌝ }
     {
@@ -296,7 +311,7 @@ impl Receiver {
     }
 
     // The rows for a heartbeat.
-    fn take_heartbeat(self, at: SequenceNumber) -> Taken
+    pub fn take_heartbeat(self, at: SequenceNumber) -> Taken
         ensures { λ r. ⌜ TakesRow r self (table (self .limit .0) (self .next .0) heartbeat (at .0) 0) ⌝ }
     {
         let next = self.next;

@@ -1,4 +1,4 @@
--- Each test in the definition's order.
+-- Each test of the definition, the cheapest first.
 use Rattle.early_holding.proofs.Rules.{places}
 use Rattle.early_holding.proofs.holding.EarlyReceiver.keeps.Statement.{statement}
 use Rattle.early_holding.proofs.holding.EarlyReceiver.keeps.Tie as tie
@@ -9,10 +9,11 @@ keeps-spec =
     (tie.spec
     (λ c κs. search places)  -- is-below-requires
     (λ c. search places)  -- returns
-    (λ c κs. search places)  -- gap-requires
-    (λ c κs. search places)  -- is-below-requires-2
     (λ c. search places)  -- returns-2
+    (λ c κs. search places)  -- place-of-requires
+    (λ c κs. search places)  -- before-requires
+    (λ c κs. search places)  -- is-below-requires-2
     (λ c. search places)  -- returns-3
-    (λ c κs. search places)  -- holds-requires
+    (λ c κs. search places)  -- has-requires
     (λ c. search places)  -- returns-4
     )

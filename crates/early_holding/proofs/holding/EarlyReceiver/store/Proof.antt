@@ -8,9 +8,9 @@ store-spec =
     tie.close
     (tie.spec
     (λ c κs. search stores)  -- slot-of-requires
-    (λ c. search stores)  -- mul-t12
-    (λ c κs. search stores)  -- put-bytes-requires
-    (λ c. search stores)  -- mul-t12-2
+    (λ c. search stores)  -- mul-copy
+    (λ c κs. search stores)  -- copy-requires
+    (λ c. search stores)  -- mul-t11
     (λ c. search stores)  -- cast-put16
     (λ c κs. search stores)  -- put16-requires
     (λ c κs. search stores)  -- place-of-requires

@@ -1,0 +1,4 @@
+pub mod EarlyLaws
+pub mod WalkLaws
+pub mod ReplyLaws
+pub mod Rules
