@@ -20,9 +20,10 @@ use Rattle.feed.specs.Machine.{after, delivered}
 use Rattle.early_word.specs.declared.Held.{Held}
 use Rattle.early_holding.specs.Holding.{Lent, nextOf, moveTo}
 use Rattle.early_receiver.specs.Early.{earlyRefusal, lentAfter, requestOf, answerBy, earlyAnswer}
+use Rattle.early_receiver.proofs.KeepingLaws.{move-rises}
 use Rattle.early_messages.specs.Delivery.{deliveredCount, delivery}
 use Rattle.early_messages.proofs.ReachLaws.{opens, Moves, Step, moves, stays, step, moved-to}
-use Rattle.early_messages.proofs.CountLaws.{few, move-rises, reached}
+use Rattle.early_messages.proofs.CountLaws.{few, reached}
 use Rattle.early_condition_3.specs.Condition3.{keeper}
 use Rattle.early_condition_3.proofs.PlaceLaws.{places-length}
 use Rattle.capture_records.specs.Records.{mostRecords}
