@@ -11,11 +11,15 @@ use Rattle.wire.specs.Text.{readroom}
 use Rattle.wire.specs.Bounds.{blank}
 use Rattle.wire.specs.Bytes.{number, bytes, sameBytes}
 use Rattle.moldudp64.specs.Header.{numberOf, countOf, header}
-use Rattle.moldudp64.specs.Blocks.{blockLength, fits, allFit, afterBlocks, blocksRefusal, blocksOf}
-use Rattle.moldudp64.specs.Downstream.{kindOfCount, blockCount, refusalOf}
+use Rattle.moldudp64.specs.Blocks.{blockLength, fits, allFit, afterBlocks, messages, blocksRefusal, blocksOf}
+use Rattle.moldudp64.specs.Downstream.{kindOfCount, blockCount, refusalOf, messagesOf}
 use Rattle.moldudp64.specs.Written.{encoded, encodedEnd}
 use Rattle.receiver.specs.Table.{table}
-use Rattle.receiver.specs.Receiver.{receiver, nameBy, otherSession, endBelow, ownRefusal, refusalFor, receiverStartRefusal, startReceiver, answerOf, receiverAfter}
+use Rattle.receiver.specs.Receiver.{receiver, nameBy, otherSession, endBelow, ownRefusal, refusalFor, receiverStartRefusal, startReceiver}
+use Rattle.early_word.specs.Word.{bit, onesOf, zerosOf, past, marked}
+use Rattle.early_holding.specs.Holding.{early, isHeld, numberPast, keeps}
+use Rattle.early_receiver.specs.Early.{startEarly, wantedTo, wanted, answerBy}
+use Rattle.early_receiver.proofs.AloneLaws.{keepAlone, oneAlone, allAlone, kindAlone, afterAlone, answerAlone, requestAlone}
 use Rattle.feed.specs.Session.{Datagram}
 use Rattle.decimal.specs.Decimal.{digitsUpTo, digits}
 use Rattle.capture_settings.specs.Settings.{isPrintable}
@@ -24,14 +28,13 @@ use Rattle.capture_settings.proofs.TextLaws.{settings-promises}
 use Rattle.capture_records.specs.Records.{mostRecords, isWhole, recordsOf, restOf, isCut, recordsBytes, largestLength, AllHeld}
 use Rattle.capture_records.proofs.RecordLaws.{record-promises}
 use Rattle.capture_tally.specs.declared.report.Report.{Report}
-use Rattle.capture_tally.specs.Tally.{tally, partsIn, upTo}
-use Rattle.capture_tally.specs.Report.{report, freshOf, counted, stepOf, over}
-use Rattle.capture_tally.proofs.SumLaws.{sums}
+use Rattle.capture_tally.specs.Tally.{tally, partsIn, asksOf, upTo}
+use Rattle.capture_tally.specs.Report.{report, freshOf}
 use Rattle.capture_text.specs.Text.{numberLine, sessionLine, endedLine, receiverText, tallyText, reportText}
 use Rattle.capture.specs.declared.reading.Stage.the-variants.{Done}
 use Rattle.capture.specs.Reading.{reading, textAt}
-use Rattle.capture.specs.Whole.{recordsReport, captureOf, captureText}
 use Rattle.capture.specs.Example.{exampleDatagrams, exampleCapture, printed, PrintedExample}
+use Rattle.capture.proofs.AloneLaws.{stepAlone, overAlone, recordsAlone, captureAlone, text-alone}
 
 -- ---- the settings and the records
 
@@ -82,23 +85,22 @@ rest-so =
 -- ---- the report
 
 abbrev started : Report
-started = freshOf (receiver readroom 1 100 false)
+started = freshOf (early (receiver readroom 1 100 false) 0)
 
 abbrev final : Report
-final = report (receiver readroom 6 100 true) 9 (tally 5 1 1 2 1)
+final = report (early (receiver readroom 6 100 true) 0) 9 (tally 5 2 1 2 1)
 
-reported-so : over started exampleDatagrams ≡ final
-unfolding over stepOf counted partsIn upTo answerOf receiverAfter refusalFor ownRefusal nameBy otherSession endBelow table sameBytes refusalOf blocksRefusal allFit fits afterBlocks blockLength blockCount kindOfCount numberOf countOf encoded encodedEnd header bytes blocksOf number
+reported-so : overAlone started exampleDatagrams ≡ final
+unfolding overAlone stepAlone partsIn asksOf upTo afterAlone answerAlone requestAlone kindAlone messagesOf messages allAlone oneAlone keepAlone keeps isHeld numberPast bit onesOf zerosOf past marked wanted wantedTo answerBy refusalFor ownRefusal nameBy otherSession endBelow table sameBytes refusalOf blocksRefusal allFit fits afterBlocks blockLength blockCount kindOfCount numberOf countOf encoded encodedEnd header bytes blocksOf number
 reported-so = refl
 
-start-so : startReceiver readroom 1 100 ≡ receiver readroom 1 100 false
-unfolding startReceiver receiverStartRefusal
+start-so : startEarly readroom 1 100 ≡ early (receiver readroom 1 100 false) 0
+unfolding startEarly startReceiver receiverStartRefusal
 start-so = refl
 
-report-so : recordsReport (startReceiver readroom 1 100) (recordsBytes exampleDatagrams) ≡ final
-unfolding recordsReport isCut
-report-so =
-    rw (rest-so, records-so, start-so, ← sums .whole (receiver readroom 1 100 false) exampleDatagrams few) reported-so
+report-so : recordsAlone (startEarly readroom 1 100) (recordsBytes exampleDatagrams) ≡ final
+unfolding recordsAlone isCut
+report-so = rw (rest-so, records-so, start-so) reported-so
 
 -- ---- the text
 
@@ -111,11 +113,11 @@ text-so = refl
 behind-so : drop (length (settingsText readroom 1 100)) exampleCapture ≡ recordsBytes exampleDatagrams
 behind-so = drop-append-seam (settingsText readroom 1 100) (recordsBytes exampleDatagrams)
 
-capture-so : captureOf exampleCapture ≡ reading Done final
-unfolding captureOf
+capture-so : captureAlone exampleCapture ≡ reading Done final
+unfolding captureAlone
 capture-so =
     rw (settings-promises .reads-exactly .reads readroom 1 100 (recordsBytes exampleDatagrams) good, behind-so) (ap (reading Done) report-so)
 
 pub printed-example : PrintedExample
-unfolding PrintedExample captureText textAt
-printed-example = rw capture-so text-so
+unfolding PrintedExample textAt
+printed-example = text-alone exampleCapture ∙ rw capture-so text-so

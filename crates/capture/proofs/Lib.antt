@@ -3,6 +3,8 @@ pub mod TakeLaws
 pub mod StageLaws
 pub mod TurningLaws
 pub mod PieceLaws
+pub mod NameLaws
+pub mod AloneLaws
 pub mod WholeLaws
 pub mod ExampleLaws
 pub mod Rules

@@ -8,18 +8,18 @@ use lib.ListN.{length}
 use Rattle.capture_events.specs.Events.{fold, waitsAt, readOn, readPiece, endAt, readLast}
 use Rattle.capture_events.proofs.EventLaws.{piece-used}
 use Rattle.capture_events.proofs.TurnLaws.{little-piece}
-use Rattle.capture_tally.specs.declared.report.Report.{Report}
+use Rattle.capture_tally.specs.Report.{LentReport}
 use Rattle.capture.specs.declared.reading.Stage.{Stage}
 use Rattle.capture.specs.declared.reading.Stage.the-variants.{Settings, Records, Done, Refused}
-use Rattle.capture.specs.declared.reading.Reading.{Reading}
-use Rattle.capture.specs.Reading.{reading, fed, atStage, atOf, stageOf, isOver, feedOf, finishOf}
+use Rattle.capture.specs.Reading.{LentReading, readingWith, reportIn, fedWith, atStage, atOf, stageOf, isOver, feedOf, finishOf}
 use Rattle.capture.specs.Whole.{KeepsLittle, OverStays}
 
-pub keeps-little : (s : Reading) (l : List ℕ) → KeepsLittle s l
+pub keeps-little : (s : LentReading) (l : List ℕ) → KeepsLittle s l
 unfolding feedOf
-keeps-little s l = record { used-within = piece-used (atOf s) l; little = little-piece (atOf s) l }
+keeps-little s l = record { used-within = piece-used (atOf (s .reading)) l; little = little-piece (atOf (s .reading)) l }
 
-over-at : (g : Stage) (x : Report) (l : List ℕ) → isOver g ≡ true → (feedOf (reading g x) l ≡ fed (reading g x) (length l)) × (finishOf (reading g x) l ≡ reading g x)
+over-at : (g : Stage) (x : LentReport) (l : List ℕ) → isOver g ≡ true
+    → (feedOf (readingWith g x) l ≡ fedWith (readingWith g x) (length l)) × (finishOf (readingWith g x) l ≡ readingWith g x)
 unfolding isOver feedOf finishOf atStage stageOf waitsAt readOn readPiece endAt readLast fold
 over-at Settings x l e = let z : _≡_ {A = ℕ} 0 1 = cc in absurd (omega arith)
 over-at Records x l e = let z : _≡_ {A = ℕ} 0 1 = cc in absurd (omega arith)
@@ -28,4 +28,4 @@ over-at Refused x l e = (refl, refl)
 
 pub over-stays : OverStays
 unfolding OverStays
-over-stays s l e = over-at (s .stage) (s .report) l e
+over-stays s l e = over-at (s .reading .stage) (reportIn s) l e

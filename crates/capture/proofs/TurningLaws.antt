@@ -17,8 +17,8 @@ use Rattle.capture_events.proofs.TurnLaws.{turn-last, turn-reads, little-piece}
 use Rattle.capture.specs.declared.reading.Reading.{Reading}
 use Rattle.capture.specs.declared.reading.Fed.{Fed}
 use Rattle.capture.specs.declared.turning.Turning.{Turning}
-use Rattle.capture.specs.Reading.{startReading, atOf, feedOf, finishOf}
-use Rattle.capture.specs.Turning.{turning, startTurning, turnedOf, bufferOf}
+use Rattle.capture.specs.Reading.{startReading, LentReading, lentReading, LentFed, lentFed, fedReading, atOf, feedOf, finishOf}
+use Rattle.capture.specs.Turning.{turning, startTurning, lentTurning, turningWith, turnedOf, bufferOf}
 
 pub start-turning : (s : Reading) → s ≡ startReading → turning s 0 ≡ startTurning
 unfolding startTurning
@@ -33,19 +33,21 @@ module _ (s : Turning) (m : List ℕ) (got n : ℕ) (t : n ≡ min (length m) (s
   there-so : take n m ≡ there m (s .have) got
   there-so = take-there m n (s .have + got) t
 
-  pub turn-ends : (f : Reading) → got ≡ 0 → f ≡ finishOf (s .reading) (take n m) → turning f 0 ≡ turnedOf s m got
+  pub turn-ends : (f : Reading) (ls ss ls₁ ss₁ : List ℕ) → got ≡ 0 → lentReading f ls₁ ss₁ ≡ finishOf (lentReading (s .reading) ls ss) (take n m)
+      → lentTurning (turning f 0) ls₁ ss₁ ≡ turnedOf (lentTurning s ls ss) m got
   unfolding turnedOf finishOf
-  turn-ends f e g = rw (turn-last (atOf (s .reading)) m (s .have) got e, g, there-so, e)
+  turn-ends f ls ss ls₁ ss₁ e g =
+      ap (λ (x : LentReading). turningWith x 0) g ∙ rw (turn-last (atOf (s .reading)) m (s .have) got e, there-so, e)
 
   pub turn-keeps-all : got ≡ 0 → m ≡ bufferOf s m got
   unfolding bufferOf
   turn-keeps-all e = sym (ap (λ (t : Turn). t .buffer) (turn-last (atOf (s .reading)) m (s .have) got e))
 
   -- f was fed what is there
-  module _ (f : Fed) (g : f ≡ feedOf (s .reading) (take n m)) where
+  module _ (f : Fed) (ls ss ls₁ ss₁ : List ℕ) (g : lentFed f ls₁ ss₁ ≡ feedOf (lentReading (s .reading) ls ss) (take n m)) where
     used-so : f .used ≡ readPiece (atOf (s .reading)) (there m (s .have) got) .used
     unfolding feedOf
-    used-so = rw (g, there-so)
+    used-so = ap (λ (x : LentFed). x .fed .used) g ∙ rw there-so
 
     within : f .used ≤ n
     within =
@@ -66,9 +68,12 @@ module _ (s : Turning) (m : List ℕ) (got n : ℕ) (t : n ≡ min (length m) (s
         let a = ap length there-so in
         omega (arith, used-so, length-take n m, length-drop (readPiece (atOf (s .reading)) (there m (s .have) got) .used) (there m (s .have) got))
 
-    pub turn-goes : (k : ℕ) → (got ≡ 0 → ⊥) → k ≡ keptSize (length m) (f .used) n → turning (f .reading) k ≡ turnedOf s m got
+    pub turn-goes : (k : ℕ) → (got ≡ 0 → ⊥) → k ≡ keptSize (length m) (f .used) n
+        → lentTurning (turning (f .reading) k) ls₁ ss₁ ≡ turnedOf (lentTurning s ls ss) m got
     unfolding turnedOf feedOf
-    turn-goes k z h = rw (turn-reads (atOf (s .reading)) m (s .have) got z, h ∙ size-so) (rw (g, there-so))
+    turn-goes k z h =
+        rw (turn-reads (atOf (s .reading)) m (s .have) got z, h ∙ size-so)
+        (ap (λ (x : LentFed). turningWith (fedReading x) (length (left (atOf (s .reading)) (there m (s .have) got)))) g ∙ rw there-so)
 
     pub turn-keeps : (b : List ℕ) → (got ≡ 0 → ⊥) → b ≡ keptOf m (f .used) n → b ≡ bufferOf s m got
     unfolding bufferOf keptOf

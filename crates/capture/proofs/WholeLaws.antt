@@ -18,12 +18,10 @@ use Rattle.wire.specs.declared.output.Written.the-variants as written
 use Rattle.wire.proofs.Words.{which-of}
 use Rattle.wire.proofs.Outputs.{no-write-refusal, wrote-so, wrote-front}
 use Rattle.wire.proofs.Cases.{below-or-not, zero-or-not}
-use Rattle.receiver.specs.declared.receiver.Receiver.{Receiver}
-use Rattle.receiver.specs.Receiver.{receiverStartRefusal, startReceiver, receiverAfter, refusedReceiver}
+use Rattle.receiver.specs.Receiver.{receiverStartRefusal, startReceiver, refusedReceiver}
 use Rattle.feed.specs.Session.{Datagram}
-use Rattle.feed.specs.Machine.{after}
-use Rattle.receiver.specs.Condition3.{plain}
-use Rattle.receiver.proofs.Promises.{after-ten}
+use Rattle.early_holding.specs.Holding.{slotBytes, lengthBytes, Lent, lent, early}
+use Rattle.early_receiver.specs.Early.{startEarly}
 use Rattle.capture_settings.specs.Settings.{settingsOf}
 use Rattle.capture_settings.specs.Statements.{Good}
 use Rattle.capture_settings.proofs.TextLaws.{settings-promises}
@@ -34,7 +32,7 @@ use Rattle.capture_events.specs.Turns as Events
 use Rattle.capture_events.proofs.EventLaws.{fold-joins, recordsEnd, allRecords, behind, last-settings, last-bad}
 use Rattle.capture_events.proofs.TurnLaws.{turn-promises}
 use Rattle.capture_tally.specs.declared.report.Report.{Report}
-use Rattle.capture_tally.specs.Report.{freshOf, cutOf, over}
+use Rattle.capture_tally.specs.Report.{freshOf, LentReport, lentReport, freshLent, cutLent, over}
 use Rattle.capture_tally.specs.Sums.{summed, summedCut}
 use Rattle.capture_tally.proofs.SumLaws.{sums}
 use Rattle.capture_text.specs.Text.{room}
@@ -42,17 +40,19 @@ use Rattle.capture_text.proofs.TextLaws.{report-fits, refused-fits}
 use Rattle.capture.specs.declared.reading.Stage.{Stage}
 use Rattle.capture.specs.declared.reading.Stage.the-variants.{Settings, Records, Done, Refused}
 use Rattle.capture.specs.declared.reading.Reading.{Reading}
-use Rattle.capture.specs.Reading.{reading, startReading, startedOf, reported, atStage, atOf, stageOf, endedBy, finishOf, textAt, textOf, Prints}
-use Rattle.capture.specs.Turning.{turning, startTurning, turnAt, turnedOf}
-use Rattle.capture.specs.Whole.{recordsReport, captureOf, captureText, AnyCutting, AnyTurns, EndIsOver, StartTakesSettings, CapturePromises}
+use Rattle.capture.specs.Reading.{reading, startReading, LentReading, lentReading, readingWith, reportIn, startedOf, reported, atStage, atOf, stageOf, endedBy, finishOf, textAt, textOf, Prints}
+use Rattle.capture.specs.Turning.{turning, startTurning, lentTurning, turnAt, turnedOf}
+use Rattle.capture.specs.Whole.{recordsReport, captureOf, captureText, AnyCutting, AnyTurns, AnySlots, EndIsOver, StartTakesSettings, CapturePromises}
 use Rattle.capture.proofs.FoldLaws.{over-stage, fold-datagrams, pieces-fold, turns-fold}
 use Rattle.capture.proofs.PieceLaws.{keeps-little, over-stays}
+use Rattle.capture.proofs.NameLaws.{ten-after}
+use Rattle.capture.proofs.AloneLaws.{any-slots}
 
 -- ---- the sums
 
 -- the report at the end of the records in l
-abbrev endReport : Receiver → List ℕ → Report
-endReport r l = endedBy (freshOf r) (allRecords mostRecords l) .report
+abbrev endReport : Lent → List ℕ → LentReport
+endReport s l = reportIn (endedBy (freshLent s) (allRecords mostRecords l))
 
 -- k more records may be read, and rest is what the records before it left
 rest-none : (k : ℕ) (rest : List ℕ) → length rest ≡ 0 → recordsEnd k rest .events ≡ []
@@ -80,71 +80,78 @@ above zero z = absurd (z refl)
 above (suc n) z = omega arith
 
 -- a fold over datagrams, and then over the events of the end
-folded : (x : Report) (ds : List Datagram) (es : List Event) → fold reported x (datagrams ds ++ es) ≡ fold reported (over x ds) es
-folded x ds es = fold-joins reported x (datagrams ds) es ∙ ap (λ (y : Report). fold reported y es) (fold-datagrams x ds)
+folded : (x : LentReport) (ds : List Datagram) (es : List Event) → fold reported x (datagrams ds ++ es) ≡ fold reported (over x ds) es
+folded x ds es = fold-joins reported x (datagrams ds) es ∙ ap (λ (y : LentReport). fold reported y es) (fold-datagrams x ds)
 
-fold-none : (x : Report) → fold reported x [] ≡ x
+fold-none : (x : LentReport) → fold reported x [] ≡ x
 unfolding fold
 fold-none x = refl
 
-fold-cut : (x : Report) → fold reported x (cut-short ∷ []) ≡ cutOf x
+fold-cut : (x : LentReport) → fold reported x (cut-short ∷ []) ≡ cutLent x
 unfolding fold reported
 fold-cut x = refl
 
-module _ (r : Receiver) (l : List ℕ) where
+module _ (s : Lent) (l : List ℕ) where
   -- by the events of the end
-  ended-by : (es : List Event) → recordsEnd (mostRecords - length (recordsOf l)) (restOf mostRecords l) .events ≡ es → endReport r l ≡ fold reported (over (freshOf r) (recordsOf l)) es
-  ended-by es e = folded (freshOf r) (recordsOf l) (recordsEnd (mostRecords - length (recordsOf l)) (restOf mostRecords l) .events) ∙ ap (fold reported (over (freshOf r) (recordsOf l))) e
+  ended-by : (es : List Event) → recordsEnd (mostRecords - length (recordsOf l)) (restOf mostRecords l) .events ≡ es → endReport s l ≡ fold reported (over (freshLent s) (recordsOf l)) es
+  ended-by es e = folded (freshLent s) (recordsOf l) (recordsEnd (mostRecords - length (recordsOf l)) (restOf mostRecords l) .events) ∙ ap (fold reported (over (freshLent s) (recordsOf l))) e
 
-  ended-whole : recordsEnd (mostRecords - length (recordsOf l)) (restOf mostRecords l) .events ≡ [] → endReport r l ≡ summed r (recordsOf l)
-  ended-whole e = ended-by [] e ∙ fold-none (over (freshOf r) (recordsOf l)) ∙ sums .whole r (recordsOf l) (few mostRecords l)
+  ended-whole : recordsEnd (mostRecords - length (recordsOf l)) (restOf mostRecords l) .events ≡ [] → endReport s l ≡ summed s (recordsOf l)
+  ended-whole e = ended-by [] e ∙ fold-none (over (freshLent s) (recordsOf l)) ∙ sums .whole s (recordsOf l) (few mostRecords l)
 
-  ended-none : length (restOf mostRecords l) ≡ 0 → endReport r l ≡ recordsReport r l
+  ended-none : length (restOf mostRecords l) ≡ 0 → endReport s l ≡ recordsReport s l
   unfolding recordsReport isCut
   ended-none e =
       let h : length (restOf mostRecords l) ≤ 0 = omega arith in
       rw (le-ltb _ _ h) (ended-whole (rest-none (mostRecords - length (recordsOf l)) (restOf mostRecords l) e))
 
-  ended-most : (length (restOf mostRecords l) ≡ 0 → ⊥) → mostRecords ≤ length (recordsOf l) → endReport r l ≡ recordsReport r l
+  ended-most : (length (restOf mostRecords l) ≡ 0 → ⊥) → mostRecords ≤ length (recordsOf l) → endReport s l ≡ recordsReport s l
   unfolding recordsReport isCut
   ended-most z m =
       let h : 0 < length (restOf mostRecords l) = above (length (restOf mostRecords l)) z in
       rw (lt-ltb _ _ h, le-ltb _ _ m) (ended-whole (rest-most (mostRecords - length (recordsOf l)) (restOf mostRecords l) (omega arith)))
 
-  ended-cut : (length (restOf mostRecords l) ≡ 0 → ⊥) → length (recordsOf l) < mostRecords → endReport r l ≡ recordsReport r l
+  ended-cut : (length (restOf mostRecords l) ≡ 0 → ⊥) → length (recordsOf l) < mostRecords → endReport s l ≡ recordsReport s l
   unfolding recordsReport isCut
   ended-cut z m =
       let h : 0 < length (restOf mostRecords l) = above (length (restOf mostRecords l)) z in
       let e = rest-cut (mostRecords - length (recordsOf l)) (restOf mostRecords l) z (omega arith) in
       rw (lt-ltb _ _ h, lt-ltb _ _ m)
-      (ended-by (cut-short ∷ []) e ∙ fold-cut (over (freshOf r) (recordsOf l)) ∙ sums .with-cut r (recordsOf l) (omega arith))
+      (ended-by (cut-short ∷ []) e ∙ fold-cut (over (freshLent s) (recordsOf l)) ∙ sums .with-cut s (recordsOf l) (omega arith))
 
-  ended-so : endReport r l ≡ recordsReport r l
+  ended-so : endReport s l ≡ recordsReport s l
   ended-so =
       zero-or-not _ (length (restOf mostRecords l)) ended-none
       (λ z. below-or-not _ (length (recordsOf l)) mostRecords (ended-cut z) (ended-most z))
 
-good : (l : List ℕ) → settingsOf l .refusal .number ≡ 0 → finishOf (reading Settings (freshOf refusedReceiver)) l ≡ captureOf l
-unfolding captureOf finishOf atStage stageOf fold reported
-good l z =
-    rw (eq-eqb _ _ z, last-settings l z, rest-done (mostRecords - length (recordsOf (behind l))) (restOf mostRecords (behind l)))
-    (ap (reading Done) (ended-so (startedOf (settingsOf l .settings)) (behind l)))
+-- the report of a fresh reading
+abbrev first : List ℕ → List ℕ → LentReport
+first lengths slots = lentReport (freshOf (early refusedReceiver 0)) lengths slots
 
-bad : (l : List ℕ) → (settingsOf l .refusal .number ≡ 0 → ⊥) → finishOf (reading Settings (freshOf refusedReceiver)) l ≡ captureOf l
-unfolding captureOf finishOf atStage stageOf fold reported
-bad l z = rw (ne-eqb _ _ z, last-bad l z)
+module _ (lengths slots l : List ℕ) where
+  good : settingsOf l .refusal .number ≡ 0 → finishOf (readingWith Settings (first lengths slots)) l ≡ captureOf lengths slots l
+  unfolding captureOf finishOf atStage stageOf fold reported
+  good z =
+      rw (eq-eqb _ _ z, last-settings l z, rest-done (mostRecords - length (recordsOf (behind l))) (restOf mostRecords (behind l)))
+      (ap (readingWith Done) (ended-so (lent (startedOf (settingsOf l .settings)) lengths slots) (behind l)))
 
--- finishing with all bytes is the whole capture
-pub finish-whole : (l : List ℕ) → finishOf startReading l ≡ captureOf l
-unfolding startReading
-finish-whole l = zero-or-not _ (settingsOf l .refusal .number) (good l) (bad l)
+  bad : (settingsOf l .refusal .number ≡ 0 → ⊥) → finishOf (readingWith Settings (first lengths slots)) l ≡ captureOf lengths slots l
+  unfolding captureOf finishOf atStage stageOf fold reported
+  bad z = rw (ne-eqb _ _ z, last-bad l z)
 
--- ---- as the code of `report` has it
+  -- finishing with all bytes is the whole capture
+  pub finish-whole : finishOf (lentReading startReading lengths slots) l ≡ captureOf lengths slots l
+  unfolding startReading
+  finish-whole = zero-or-not _ (settingsOf l .refusal .number) good bad
 
-pub whole-report : (l a b : List ℕ) (w : Written) (s t : Reading) → s ≡ startReading → t ≡ finishOf s l → Writes w a b 0 0 (textOf t)
-    → Writes w a b 0 0 (captureText l)
-unfolding captureText
-whole-report l a b w s t e f h = rw (f ∙ ap (λ (x : Reading). finishOf x l) e ∙ finish-whole l) at h
+-- ---- as the code of `report` has it: it lends lengths and slots of their size
+
+pub whole-report : (l a b ls ss ls₁ ss₁ : List ℕ) (w : Written) (s t : Reading) → s ≡ startReading → lentReading t ls₁ ss₁ ≡ finishOf (lentReading s ls ss) l
+    → length ls ≡ lengthBytes → length ss ≡ slotBytes → Writes w a b 0 0 (textOf t) → Writes w a b 0 0 (captureText l)
+unfolding AnySlots
+whole-report l a b ls ss ls₁ ss₁ w s t e f n k h =
+    let g = f ∙ ap (λ (x : Reading). finishOf (lentReading x ls ss) l) e ∙ finish-whole ls ss l in
+    rw (ap (λ (x : LentReading). textOf (x .reading)) g ∙ any-slots ls ss l n k) at h
 
 -- ---- the promises
 
@@ -153,9 +160,10 @@ start-at : atOf startReading ≡ settings
 unfolding startReading atStage
 start-at = refl
 
-finish-start : (l : List ℕ) → endedBy (startReading .report) (readLast settings l) ≡ finishOf startReading l
+finish-start : (lengths slots l : List ℕ)
+    → endedBy (lentReport (startReading .report) lengths slots) (readLast settings l) ≡ finishOf (lentReading startReading lengths slots) l
 unfolding finishOf
-finish-start l = rw start-at
+finish-start lengths slots l = rw start-at
 
 cutting : (ps : List (List ℕ)) → Events.byPieces settings [] ps ≡ readLast settings (joined ps)
 unfolding Events.AnyCutting
@@ -167,17 +175,20 @@ turns = turn-promises .any-turns
 
 any-cutting : AnyCutting
 unfolding AnyCutting
-any-cutting ps =
-    pieces-fold startReading [] ps ∙ rw (start-at, cutting ps) (finish-start (joined ps) ∙ finish-whole (joined ps))
+any-cutting lengths slots ps =
+    pieces-fold (lentReading startReading lengths slots) [] ps
+    ∙ rw (start-at, cutting ps) (finish-start lengths slots (joined ps) ∙ finish-whole lengths slots (joined ps))
 
 any-turns : AnyTurns
 unfolding AnyTurns startTurning
-any-turns m ps f =
-    turns-fold (turning startReading 0) m ps ∙ rw (start-at, turns m ps f) (finish-start (joined ps) ∙ finish-whole (joined ps))
+any-turns lengths slots m ps f =
+    turns-fold (lentTurning (turning startReading 0) lengths slots) m ps
+    ∙ rw (start-at, turns m ps f) (finish-start lengths slots (joined ps) ∙ finish-whole lengths slots (joined ps))
 
 end-is-over : EndIsOver
 unfolding EndIsOver turnedOf Events.EndIsOver
-end-is-over s m = over-stage (turnAt s m 0 .at) ∙ turn-promises .end-is-over (atOf (s .reading)) m (s .have)
+end-is-over s m =
+    over-stage (turnAt (s .turning) m 0 .at) ∙ turn-promises .end-is-over (atOf (s .turning .reading)) m (s .turning .have)
 
 good-read : (l : List ℕ) → settingsOf l .refusal .number ≡ 0 → Good (settingsOf l .settings .session) (settingsOf l .settings .next .0) (settingsOf l .settings .limit .0)
 good-read l z = settings-promises .reads-exactly .only l z .good
@@ -190,43 +201,39 @@ start-takes-settings : StartTakesSettings
 unfolding StartTakesSettings
 start-takes-settings l z = good-start _ _ _ (good-read l z)
 
--- the receiver's name stays one of ten bytes
-ten-after : (r : Receiver) (ds : List Datagram) → length (r .session) ≡ 10 → length (after plain r ds .session) ≡ 10
-unfolding after
-ten-after r [] e = e
-ten-after r (d ∷ ds) e = ten-after (receiverAfter r d) ds (after-ten r d e)
-
-report-ten : (r : Receiver) (l : List ℕ) → length (r .session) ≡ 10 → length (recordsReport r l .receiver .session) ≡ 10
+-- a name of ten bytes stays one
+report-ten : (s : Lent) (l : List ℕ) → length (s .receiver .base .session) ≡ 10 → length (recordsReport s l .report .receiver .base .session) ≡ 10
 unfolding recordsReport
-report-ten r l e = go (isCut l)
+report-ten s l e = go (isCut l)
   where
-    go : (b : Bool) → length ((if b then summedCut r (recordsOf l) else summed r (recordsOf l)) .receiver .session) ≡ 10
-    go true = ten-after r (recordsOf l) e
-    go false = ten-after r (recordsOf l) e
+    go : (b : Bool) → length ((if b then summedCut s (recordsOf l) else summed s (recordsOf l)) .report .receiver .base .session) ≡ 10
+    go true = ten-after s (recordsOf l) e
+    go false = ten-after s (recordsOf l) e
 
-started-session : (name : List ℕ) (n limit : ℕ) → Good name n limit → startReceiver name n limit .session ≡ name
-unfolding startReceiver
+started-session : (name : List ℕ) (n limit : ℕ) → Good name n limit → startEarly name n limit .base .session ≡ name
+unfolding startEarly startReceiver
 started-session name n limit g = rw (good-start name n limit g)
 
-reading-fits : (g : Stage) (x : Report) → length (x .receiver .session) ≡ 10 → length (textAt g x) ≤ room
+reading-fits : (g : Stage) (x : Report) → length (x .receiver .base .session) ≡ 10 → length (textAt g x) ≤ room
 unfolding textAt
 reading-fits Settings x e = omega (arith, refused-fits)
 reading-fits Records x e = omega (arith, report-fits x e)
 reading-fits Done x e = omega (arith, report-fits x e)
 reading-fits Refused x e = omega (arith, refused-fits)
 
-capture-fits : (l : List ℕ) → length (captureText l) ≤ room
-unfolding captureText captureOf textAt
-capture-fits l = zero-or-not _ (settingsOf l .refusal .number) fit not-read
+capture-fits : (lengths slots l : List ℕ) → length (textOf (captureOf lengths slots l .reading)) ≤ room
+unfolding captureOf textAt
+capture-fits lengths slots l = zero-or-not _ (settingsOf l .refusal .number) fit not-read
   where
-    fit : settingsOf l .refusal .number ≡ 0 → length (textOf (captureOf l)) ≤ room
+    fit : settingsOf l .refusal .number ≡ 0 → length (textOf (captureOf lengths slots l .reading)) ≤ room
     fit z =
         let g = good-read l z in
-        let ten = report-ten (startedOf (settingsOf l .settings)) (drop (settingsOf l .size) l) (ap length (started-session _ _ _ g) ∙ g .ten-bytes) in
-        let n = report-fits (recordsReport (startedOf (settingsOf l .settings)) (drop (settingsOf l .size) l)) ten in
+        let s = lent (startedOf (settingsOf l .settings)) lengths slots in
+        let ten = report-ten s (drop (settingsOf l .size) l) (ap length (started-session _ _ _ g) ∙ g .ten-bytes) in
+        let n = report-fits (recordsReport s (drop (settingsOf l .size) l) .report) ten in
         rw (eq-eqb _ _ z) (omega arith)
 
-    not-read : (settingsOf l .refusal .number ≡ 0 → ⊥) → length (textOf (captureOf l)) ≤ room
+    not-read : (settingsOf l .refusal .number ≡ 0 → ⊥) → length (textOf (captureOf lengths slots l .reading)) ≤ room
     not-read z = rw (ne-eqb _ _ z) (omega (arith, refused-fits))
 
 pub capture-promises : CapturePromises
@@ -234,6 +241,7 @@ capture-promises =
     record {
       any-cutting = any-cutting;
       any-turns = any-turns;
+      any-slots = any-slots;
       end-is-over = end-is-over;
       start-takes-settings = start-takes-settings;
       keeps-little = keeps-little;
@@ -258,7 +266,7 @@ module _ (s : Reading) (w : Written) (l m : List ℕ) (h : Writes w l m 0 0 (tex
         within = omega (arith, o .room, o .size);
       }
 
-  pub printed-not : (r : Refusal) → w ≡ written.Refused r → length l ≡ room → length (s .report .receiver .session) ≡ sessionSize
+  pub printed-not : (r : Refusal) → w ≡ written.Refused r → length l ≡ room → length (s .report .receiver .base .session) ≡ sessionSize
       → Prints (record { text = m; size = 0 }) (textOf s)
   unfolding writtenWords
   printed-not r e n ten =

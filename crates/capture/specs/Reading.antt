@@ -6,14 +6,16 @@ use mathlib.Core.Path.{_≡_}
 use lib.ListN.{take}
 use lib.Dec.{eqb}
 use Rattle.wire.specs.Choice.{if_then_else_}
-use Rattle.receiver.specs.declared.receiver.Receiver.{Receiver}
-use Rattle.receiver.specs.Receiver.{startReceiver, refusedReceiver}
+use Rattle.receiver.specs.Receiver.{refusedReceiver}
+use Rattle.early_holding.specs.declared.holding.EarlyReceiver.{EarlyReceiver}
+use Rattle.early_holding.specs.Holding.{early}
+use Rattle.early_receiver.specs.Early.{startEarly}
 use Rattle.capture_settings.specs.declared.settings.Settings as declared
 use Rattle.capture_records.specs.Records.{mostRecords}
 use Rattle.capture_events.specs.Events.{Event, opened, bad-settings, datagram, cut-short, fold}
 use Rattle.capture_events.specs.Events.{At, settings, records, done, refused, Read, readPiece, End, readLast}
 use Rattle.capture_tally.specs.declared.report.Report.{Report}
-use Rattle.capture_tally.specs.Report.{freshOf, stepOf, cutOf}
+use Rattle.capture_tally.specs.Report.{freshOf, cutOf, LentReport, lentReport, stepOf, cutLent}
 use Rattle.capture_text.specs.Text.{reportText, refusedText, room}
 use Rattle.capture.specs.declared.reading.Stage.{Stage}
 use Rattle.capture.specs.declared.reading.Stage.the-variants.{Settings, Records, Done, Refused}
@@ -27,22 +29,55 @@ reading s x = record { stage = s; report = x }
 abbrev pub fed : Reading → ℕ → Fed
 fed s used = record { reading = s; used = used }
 
--- nothing read yet
+-- nothing read yet: the receiver is a refused one
 unfoldable pub startReading : Reading
-startReading = reading Settings (freshOf refusedReceiver)
+startReading = reading Settings (freshOf (early refusedReceiver 0))
+
+-- ---- with the lengths and the slots that are lent to the receiver
+
+pub record LentReading : Type 0 where
+  pub reading : Reading
+  pub lengths : List ℕ
+  pub slots : List ℕ
+
+abbrev pub lentReading : Reading → List ℕ → List ℕ → LentReading
+lentReading s lengths slots = record { reading = s; lengths = lengths; slots = slots }
+
+-- a reading of this report, and the report of a reading
+abbrev pub readingWith : Stage → LentReport → LentReading
+readingWith s x = lentReading (reading s (x .report)) (x .lengths) (x .slots)
+
+abbrev pub reportIn : LentReading → LentReport
+reportIn s = lentReport (s .reading .report) (s .lengths) (s .slots)
+
+-- a reading after some bytes, and how many of them were used
+pub record LentFed : Type 0 where
+  pub fed : Fed
+  pub lengths : List ℕ
+  pub slots : List ℕ
+
+abbrev pub lentFed : Fed → List ℕ → List ℕ → LentFed
+lentFed f lengths slots = record { fed = f; lengths = lengths; slots = slots }
+
+abbrev pub fedWith : LentReading → ℕ → LentFed
+fedWith s used = lentFed (fed (s .reading) used) (s .lengths) (s .slots)
+
+abbrev pub fedReading : LentFed → LentReading
+fedReading f = lentReading (f .fed .reading) (f .lengths) (f .slots)
 
 -- ---- what an event makes of a report
 
 -- the receiver that settings start
-abbrev pub startedOf : declared.Settings → Receiver
-startedOf s = startReceiver (s .session) (s .next .0) (s .limit .0)
+abbrev pub startedOf : declared.Settings → EarlyReceiver
+startedOf s = startEarly (s .session) (s .next .0) (s .limit .0)
 
--- settings start a fresh one, and bad ones leave it; a datagram is one record more, and so is one that is cut short
-unfoldable pub reported : Report → Event → Report
-reported x (opened s) = freshOf (startedOf s)
+-- settings start a fresh one, and bad ones leave it; a datagram is one record more, and so is one that is cut short.
+-- Only a datagram changes what is lent
+unfoldable pub reported : LentReport → Event → LentReport
+reported x (opened s) = lentReport (freshOf (startedOf s)) (x .lengths) (x .slots)
 reported x bad-settings = x
 reported x (datagram d) = stepOf x d
-reported x cut-short = cutOf x
+reported x cut-short = cutLent x
 
 -- ---- what comes next of a reading
 
@@ -76,24 +111,24 @@ isOver Refused = true
 -- ---- a reading
 
 -- the reading of a report after some events, and what comes next then
-abbrev pub readingAfter : Report → At → List Event → Reading
-readingAfter x a es = reading (stageOf a) (fold reported x es)
+abbrev pub readingAfter : LentReport → At → List Event → LentReading
+readingAfter x a es = readingWith (stageOf a) (fold reported x es)
 
 -- what some bytes that were read make of a report
-abbrev pub fedBy : Report → Read → Fed
-fedBy x r = fed (readingAfter x (r .at) (r .events)) (r .used)
+abbrev pub fedBy : LentReport → Read → LentFed
+fedBy x r = fedWith (readingAfter x (r .at) (r .events)) (r .used)
 
 -- some bytes, after which more may come
-unfoldable pub feedOf : Reading → List ℕ → Fed
-feedOf s l = fedBy (s .report) (readPiece (atOf s) l)
+unfoldable pub feedOf : LentReading → List ℕ → LentFed
+feedOf s l = fedBy (reportIn s) (readPiece (atOf (s .reading)) l)
 
 -- the end of the input
-abbrev pub endedBy : Report → End → Reading
+abbrev pub endedBy : LentReport → End → LentReading
 endedBy x e = readingAfter x (e .at) (e .events)
 
 -- the last bytes
-unfoldable pub finishOf : Reading → List ℕ → Reading
-finishOf s l = endedBy (s .report) (readLast (atOf s) l)
+unfoldable pub finishOf : LentReading → List ℕ → LentReading
+finishOf s l = endedBy (reportIn s) (readLast (atOf (s .reading)) l)
 
 -- what it prints: while no settings were read, that they are refused
 unfoldable pub textAt : Stage → Report → List ℕ

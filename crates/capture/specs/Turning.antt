@@ -7,7 +7,7 @@ use Rattle.wire.specs.Output.{put}
 use Rattle.capture_events.specs.Turns.{Turn, turnOf}
 use Rattle.capture.specs.declared.reading.Reading.{Reading}
 use Rattle.capture.specs.declared.turning.Turning.{Turning}
-use Rattle.capture.specs.Reading.{startReading, atOf, readingAfter, isOver}
+use Rattle.capture.specs.Reading.{startReading, atOf, LentReading, lentReading, reportIn, readingAfter, isOver}
 
 abbrev pub turning : Reading → ℕ → Turning
 turning s have = record { reading = s; have = have }
@@ -16,15 +16,33 @@ turning s have = record { reading = s; have = have }
 unfoldable pub startTurning : Turning
 startTurning = turning startReading 0
 
+-- with the lengths and the slots that are lent to the receiver
+pub record LentTurning : Type 0 where
+  pub turning : Turning
+  pub lengths : List ℕ
+  pub slots : List ℕ
+
+abbrev pub lentTurning : Turning → List ℕ → List ℕ → LentTurning
+lentTurning s lengths slots = record { turning = s; lengths = lengths; slots = slots }
+
+-- a turning of this reading, and the reading of a turning
+abbrev pub turningWith : LentReading → ℕ → LentTurning
+turningWith s have = lentTurning (turning (s .reading) have) (s .lengths) (s .slots)
+
+abbrev pub turnedReading : LentTurning → LentReading
+turnedReading s = lentReading (s .turning .reading) (s .lengths) (s .slots)
+
 -- ---- one turn over the buffer m, behind whose kept bytes so many came
 
 abbrev pub turnAt : Turning → List ℕ → ℕ → Turn
 turnAt s m got = turnOf (atOf (s .reading)) m (s .have) got
 
 -- what it comes to: the report is a fold over the turn's events
-unfoldable pub turnedOf : Turning → List ℕ → ℕ → Turning
+unfoldable pub turnedOf : LentTurning → List ℕ → ℕ → LentTurning
 turnedOf s m got =
-    turning (readingAfter (s .reading .report) (turnAt s m got .at) (turnAt s m got .events)) (turnAt s m got .have)
+    turningWith
+    (readingAfter (reportIn (turnedReading s)) (turnAt (s .turning) m got .at) (turnAt (s .turning) m got .events))
+    (turnAt (s .turning) m got .have)
 
 -- what is kept moves to the front
 unfoldable pub bufferOf : Turning → List ℕ → ℕ → List ℕ
@@ -33,12 +51,12 @@ bufferOf s m got = turnAt s m got .buffer
 -- ---- all turns
 
 -- a piece is read behind what was kept, and a turn made of it
-abbrev pub turnedBy : Turning → List ℕ → List ℕ → Turning
-turnedBy s m p = turnedOf s (put m (s .have) p) (length p)
+abbrev pub turnedBy : LentTurning → List ℕ → List ℕ → LentTurning
+turnedBy s m p = turnedOf s (put m (s .turning .have) p) (length p)
 
 -- a program: it turns while something may follow, and once more, with no bytes, at the end of the input
-unfoldable pub byTurns : Turning → List ℕ → List (List ℕ) → Reading
-byTurns s m [] = turnedOf s m 0 .reading
+unfoldable pub byTurns : LentTurning → List ℕ → List (List ℕ) → LentReading
+byTurns s m [] = turnedReading (turnedOf s m 0)
 byTurns s m (p ∷ ps) =
-    if isOver (turnedBy s m p .reading .stage) then turnedBy s m p .reading
-    else byTurns (turnedBy s m p) (bufferOf s (put m (s .have) p) (length p)) ps
+    if isOver (turnedBy s m p .turning .reading .stage) then turnedReading (turnedBy s m p)
+    else byTurns (turnedBy s m p) (bufferOf (s .turning) (put m (s .turning .have) p) (length p)) ps

@@ -1,5 +1,5 @@
 // A capture that comes in pieces. What is there is fed; the bytes that were not used are kept, and fed again in front
-// of the next piece.
+// of the next piece. The receiver's lengths and slots are lent to every call, as the one before left them.
 use capture_records::records;
 use capture_records::records::Front;
 use capture_settings::settings;
@@ -7,7 +7,7 @@ use capture_settings::settings::Settings;
 use capture_tally::report::Report;
 use capture_text::report_text;
 use capture_text::report_text::ROOM;
-use receiver::receiver::Receiver;
+use early_condition_3;
 use wire::kinds;
 use wire::kinds::LENGTH_SIZE;
 use wire::kinds::MessageCount;
@@ -17,9 +17,9 @@ ghost use mathlib.Core.Path.{_≡_};
 ghost use lib.ListN.{length};
 ghost use Rattle.wire.specs.Output.{Writes};
 ghost use Rattle.capture_events.specs.Events.{readRecords, readSettings, readOn, waitsAt};
-ghost use Rattle.capture_tally.specs.Report.{freshOf};
-ghost use Rattle.capture.specs.Reading.{fed, startReading, startedOf, roomOf, atOf, isOver, fedBy};
-ghost use Rattle.capture.specs.Reading.{endOf, feedOf, finishOf, textOf, Prints};
+ghost use Rattle.capture_tally.specs.Report.{freshOf, lentReport};
+ghost use Rattle.capture.specs.Reading.{fed, startReading, lentReading, lentFed, startedOf, roomOf, atOf, isOver};
+ghost use Rattle.capture.specs.Reading.{fedBy, endOf, feedOf, finishOf, textOf, Prints};
 ghost use Rattle.capture.specs.Whole.{CapturePromises};
 
 // What comes next of a capture: its settings, or records; or nothing, at its end or where its settings are refused.
@@ -50,8 +50,10 @@ pub struct Fed {
 
 // The report after every whole record in front of some bytes, at most as many as are read, and how many bytes those
 // take. Once no more may be read, whatever follows is passed over.
-fn take_records(start: Report, bytes: &[u8]) -> Fed
-    ensures { λ r. ⌜ r ≡ fedBy start (readRecords (roomOf start) (now (bytes .entry))) ⌝ }
+fn take_records(start: Report, lengths: &mut [u8], slots: &mut [u8], bytes: &[u8]) -> Fed
+    ensures { λ r. ⌜ lentFed r (now (lengths .exit)) (now (slots .exit))
+        ≡ fedBy (lentReport start (now (lengths .entry)) (now (slots .entry)))
+        (readRecords (roomOf start) (now (bytes .entry))) ⌝ }
 {
     let mut report = start;
     let mut rest = bytes;
@@ -68,7 +70,8 @@ fn take_records(start: Report, bytes: &[u8]) -> Fed
                 };
             }
             Front::Whole { size } => {
-                report = report.step(&rest[LENGTH_SIZE..size]);
+                let next = report.step(lengths, slots, &rest[LENGTH_SIZE..size]);
+                report = next;
                 rest = &rest[size..];
                 left -= 1;
             }
@@ -90,13 +93,14 @@ fn fresh(settings: Settings) -> Report
     let session = settings.session;
     let next = settings.next;
     let limit = settings.limit;
-    let receiver = Receiver::new(session, next, limit).receiver;
+    let receiver = early_condition_3::start(session, next, limit).receiver;
     Report::new(receiver)
 }
 
 // The settings in front, and the records after them. A report that had none stays, where the settings are bad.
-fn open(report: Report, bytes: &[u8]) -> Fed
-    ensures { λ r. ⌜ r ≡ fedBy report (readSettings (now (bytes .entry))) ⌝ }
+fn open(report: Report, lengths: &mut [u8], slots: &mut [u8], bytes: &[u8]) -> Fed
+    ensures { λ r. ⌜ lentFed r (now (lengths .exit)) (now (slots .exit))
+        ≡ fedBy (lentReport report (now (lengths .entry)) (now (slots .entry))) (readSettings (now (bytes .entry))) ⌝ }
 {
     let opened = settings::read(bytes);
     if opened.refusal.number != 0 {
@@ -110,7 +114,7 @@ fn open(report: Report, bytes: &[u8]) -> Fed
     }
     let settings = opened.settings;
     let size = opened.size;
-    let fed = take_records(fresh(settings), &bytes[size..]);
+    let fed = take_records(fresh(settings), lengths, slots, &bytes[size..]);
     let reading = fed.reading;
     Fed {
         reading,
@@ -133,7 +137,11 @@ impl Reading {
     pub fn new() -> Reading
         ensures { λ r. ⌜ r ≡ startReading ⌝ }
     {
-        let refused = Receiver::new(kinds::BLANK, SequenceNumber(0), MessageCount(0)).receiver;
+        let refused = early_condition_3::start(
+            kinds::BLANK,
+            SequenceNumber(0),
+            MessageCount(0),
+        ).receiver;
         Reading {
             stage: Stage::Settings,
             report: Report::new(refused),
@@ -141,14 +149,16 @@ impl Reading {
     }
 
     // What the bytes make of a reading, taken as enough to tell the settings.
-    fn advance(self, bytes: &[u8]) -> Fed
-        ensures { λ r. ⌜ r ≡ fedBy (self .report) (readOn (atOf self) (now (bytes .entry))) ⌝ }
+    fn advance(self, lengths: &mut [u8], slots: &mut [u8], bytes: &[u8]) -> Fed
+        ensures { λ r. ⌜ lentFed r (now (lengths .exit)) (now (slots .exit))
+            ≡ fedBy (lentReport (self .report) (now (lengths .entry)) (now (slots .entry)))
+            (readOn (atOf self) (now (bytes .entry))) ⌝ }
     {
         let stage = self.stage;
         let report = self.report;
         match stage {
-            Stage::Settings => open(report, bytes),
-            Stage::Records => take_records(report, bytes),
+            Stage::Settings => open(report, lengths, slots, bytes),
+            Stage::Records => take_records(report, lengths, slots, bytes),
             Stage::Done => self.pass(bytes),
             Stage::Refused => self.pass(bytes),
         }
@@ -191,8 +201,9 @@ impl Reading {
     }
 
     // Feeds some bytes, after which more may come.
-    pub fn feed(self, bytes: &[u8]) -> Fed
-        ensures { λ r. ⌜ r ≡ feedOf self (now (bytes .entry)) ⌝ }
+    pub fn feed(self, lengths: &mut [u8], slots: &mut [u8], bytes: &[u8]) -> Fed
+        ensures { λ r. ⌜ lentFed r (now (lengths .exit)) (now (slots .exit))
+            ≡ feedOf (lentReading self (now (lengths .entry)) (now (slots .entry))) (now (bytes .entry)) ⌝ }
         ensures promises { λ _. ⌜ CapturePromises ⌝ }
     {
         if self.waits(bytes.len()) {
@@ -201,14 +212,15 @@ impl Reading {
                 used: 0,
             };
         }
-        self.advance(bytes)
+        self.advance(lengths, slots, bytes)
     }
 
     // Feeds the last bytes: what is left of them is a record that is cut short, and counts as one refusal.
-    pub fn finish(self, bytes: &[u8]) -> Reading
-        ensures { λ r. ⌜ r ≡ finishOf self (now (bytes .entry)) ⌝ }
+    pub fn finish(self, lengths: &mut [u8], slots: &mut [u8], bytes: &[u8]) -> Reading
+        ensures { λ r. ⌜ lentReading r (now (lengths .exit)) (now (slots .exit))
+            ≡ finishOf (lentReading self (now (lengths .entry)) (now (slots .entry))) (now (bytes .entry)) ⌝ }
     {
-        let fed = self.advance(bytes);
+        let fed = self.advance(lengths, slots, bytes);
         let reading = fed.reading;
         let stage = reading.stage;
         let report = reading.report;

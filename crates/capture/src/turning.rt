@@ -1,5 +1,6 @@
 // A program that reads a capture over one lent buffer: each turn takes what came behind the bytes that were kept, and
-// keeps what it did not use. The program only reads, turns, and stops where a turn says so.
+// keeps what it did not use. The receiver's lengths and slots are lent beside it. The program only reads, turns, and
+// stops where a turn says so.
 use crate::reading::Reading;
 use capture_events::there;
 use capture_records::buffer;
@@ -8,7 +9,7 @@ ghost use mathlib.Core.Path.{_≡_};
 ghost use Prim.Native.Nat.{_≤_};
 ghost use Rattle.capture_events.specs.Turns.{mostKept};
 ghost use Rattle.capture.specs.Reading.{isOver};
-ghost use Rattle.capture.specs.Turning.{startTurning, turnedOf, bufferOf};
+ghost use Rattle.capture.specs.Turning.{startTurning, lentTurning, turnedOf, bufferOf};
 ghost use Rattle.capture.specs.Whole.{CapturePromises};
 
 // How far a capture was read, and how many bytes are kept at the buffer's front.
@@ -38,8 +39,9 @@ impl Turning {
 
     // One turn, so many bytes having come behind those that were kept; none mean the end of the input, after which it
     // is over. Less than the longest record is kept, so that a buffer of that size always has room behind it.
-    pub fn turn(self, buf: &mut [u8], got: usize) -> Turning
-        ensures { λ r. ⌜ r ≡ turnedOf self (now (buf .entry)) got ⌝ }
+    pub fn turn(self, lengths: &mut [u8], slots: &mut [u8], buf: &mut [u8], got: usize) -> Turning
+        ensures { λ r. ⌜ lentTurning r (now (lengths .exit)) (now (slots .exit))
+            ≡ turnedOf (lentTurning self (now (lengths .entry)) (now (slots .entry))) (now (buf .entry)) got ⌝ }
         ensures keeps { λ _. ⌜ now (buf .exit) ≡ bufferOf self (now (buf .entry)) got ⌝ }
         ensures little { λ r. ⌜ r .have ≤ mostKept ⌝ }
         ensures promises { λ _. ⌜ CapturePromises ⌝ }
@@ -47,13 +49,13 @@ impl Turning {
         let reading = self.reading;
         let end = there(buf.len(), self.have, got);
         if got == 0 {
-            let finished = reading.finish(&buf[..end]);
+            let finished = reading.finish(lengths, slots, &buf[..end]);
             return Turning {
                 reading: finished,
                 have: 0,
             };
         }
-        let fed = reading.feed(&buf[..end]);
+        let fed = reading.feed(lengths, slots, &buf[..end]);
         let next = fed.reading;
         let kept = buffer::keep(buf, ByteOffset(fed.used), ByteOffset(end));
         Turning {

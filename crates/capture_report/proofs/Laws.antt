@@ -11,7 +11,7 @@ use Rattle.capture_events.specs.Turns.{mostKept}
 use Rattle.capture_text.specs.Text.{room}
 use Rattle.capture.specs.declared.turning.Turning.{Turning}
 use Rattle.capture.specs.Reading.{isOver}
-use Rattle.capture.specs.Turning.{startTurning, turnedOf}
+use Rattle.capture.specs.Turning.{startTurning, LentTurning, lentTurning, turnedOf}
 use Rattle.capture.specs.Whole.{EndIsOver}
 use Rattle.capture.proofs.WholeLaws.{capture-promises}
 
@@ -23,9 +23,10 @@ fresh-kept s e = rw e (omega arith)
 pub over-told : (s : Turning) (b : Bool) → b ≡ isOver (s .reading .stage) → b ≡ true → isOver (s .reading .stage) ≡ true
 over-told s b e h = sym e ∙ h
 
-pub last-over : (s t : Turning) (m : List ℕ) → t ≡ turnedOf s m 0 → isOver (t .reading .stage) ≡ true
+pub last-over : (s t : Turning) (ls ss ls₁ ss₁ m : List ℕ) → lentTurning t ls₁ ss₁ ≡ turnedOf (lentTurning s ls ss) m 0 → isOver (t .reading .stage) ≡ true
 unfolding EndIsOver
-last-over s t m e = ap (λ (x : Turning). isOver (x .reading .stage)) e ∙ capture-promises .end-is-over s m
+last-over s t ls ss ls₁ ss₁ m e =
+    ap (λ (x : LentTurning). isOver (x .turning .reading .stage)) e ∙ capture-promises .end-is-over (lentTurning s ls ss) m
 
 -- what is printed stands in the text
 pub part-length : (k : ℕ) (l : List ℕ) → length l ≡ room → k ≤ room → k ≡ length (take k l)

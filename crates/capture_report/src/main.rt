@@ -3,6 +3,8 @@
 use capture::reading::Reading;
 use capture::turning::Turning;
 use capture_text::report_text::ROOM;
+use early_holding::holding::LENGTH_BYTES;
+use early_holding::holding::SLOT_BYTES;
 use libc::STDIN_FILENO;
 use libc::STDOUT_FILENO;
 ghost use mathlib.Core.Path.{_≡_};
@@ -24,7 +26,7 @@ fn fill(buf: &mut [u8], have: usize) -> usize
 
 // Turns until it is over, in a buffer that has room behind whatever is kept. A proved loop has to end, and nothing says
 // that the input does: the turns are counted down from a number that no run uses up.
-fn read_all(buf: &mut [u8]) -> Reading
+fn read_all(lengths: &mut [u8], slots: &mut [u8], buf: &mut [u8]) -> Reading
     requires { ⌜ mostKept < length (now buf) ⌝ }
     ensures { λ r. ⌜ isOver (r .stage) ≡ true ⌝ }
 {
@@ -32,14 +34,14 @@ fn read_all(buf: &mut [u8]) -> Reading
     let mut turns: u64 = u64::MAX;
     while 0 < turns {
         let got = fill(buf, state.have);
-        let next = state.turn(buf, got);
+        let next = state.turn(lengths, slots, buf, got);
         state = next;
         if state.is_over() {
             return state.reading;
         }
         turns -= 1;
     }
-    state.turn(buf, 0).reading
+    state.turn(lengths, slots, buf, 0).reading
 }
 
 // Prints the first bytes of a text.
@@ -56,13 +58,16 @@ fn print(reading: Reading) {
     print_front(text, printed.size);
 }
 
-fn run(buf: &mut [u8])
+// Reads and prints, in the memory that is lent: the receiver's lengths and slots, and the buffer.
+fn run(lengths: &mut [u8], slots: &mut [u8], buf: &mut [u8])
     requires { ⌜ mostKept < length (now buf) ⌝ }
 {
-    print(read_all(buf));
+    print(read_all(lengths, slots, buf));
 }
 
 fn main() {
+    let mut lengths = [0u8; LENGTH_BYTES];
+    let mut slots = [0u8; SLOT_BYTES];
     let mut space = [0u8; 262144];
-    run(&mut space);
+    run(&mut lengths, &mut slots, &mut space);
 }

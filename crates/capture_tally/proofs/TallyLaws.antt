@@ -1,5 +1,6 @@
--- The parts of an answer, and two tallies together, as the code has them.
+-- The parts of an answer and of the request beside it, and two tallies together, as the code has them.
 use mathlib.Core.Path.{_≡_, _∙_}
+use mathlib.Core.List.{List}
 use Prim.Native.Nat.{ℕ, _+_, _-_, _≤_, _<_}
 use native.Mathlib.Omega.{arith}
 use borrow.Author.Tests.{lt-ltb, le-ltb}
@@ -10,11 +11,13 @@ use Rattle.wire.specs.declared.kinds.SequenceNumber.{SequenceNumber}
 use Rattle.wire.specs.declared.kinds.MessageCount.{MessageCount}
 use Rattle.wire.specs.declared.kinds.MessagePlace.{MessagePlace}
 use Rattle.wire.specs.declared.refusal.Refusal.{Refusal}
-use Rattle.receiver.specs.declared.receiver.Answer.{Answer}
-use Rattle.receiver.specs.declared.receiver.Answer.the-variants.{Deliver, Old, Quiet, Ask, Ended, Refused}
-use Rattle.receiver.specs.Table.{answerWords}
+use Rattle.early_receiver.specs.declared.early.Answer.{Answer}
+use Rattle.early_receiver.specs.declared.early.Answer.the-variants.{Deliver, Old, Quiet, Ahead, Ended, Refused}
+use Rattle.early_receiver.specs.declared.early.Request.{Request}
+use Rattle.early_receiver.specs.declared.early.Request.the-variants.{Nothing, Ask}
+use Rattle.early_receiver.specs.Answers.{earlyWords, requestWords}
 use Rattle.capture_tally.specs.declared.tally.Tally.{Tally}
-use Rattle.capture_tally.specs.Tally.{tally, partsIn, partsOf, upTo, plusOf}
+use Rattle.capture_tally.specs.Tally.{tally, partsIn, asksOf, partsOf, upTo, plusOf}
 
 pub sum-most : (a b : ℕ) → largestNumber - a < b → largestNumber ≡ upTo a b
 unfolding upTo
@@ -24,31 +27,39 @@ pub sum-fits : (a b : ℕ) → Fits w64 a → b ≤ largestNumber - a → a + b 
 unfolding upTo
 sum-fits a b f h = let g : a + b ≤ largestNumber = omega arith in simp (le-ltb _ _ g)
 
--- one law for each answer
-module _ (a : Answer) (r : Tally) where
-  pub parts-deliver : (f : SequenceNumber) (c : MessageCount) (s : MessagePlace) → a ≡ Deliver f c s → r ≡ tally (c .0) 0 0 0 0 → r ≡ partsOf (answerWords a)
-  unfolding answerWords partsIn
-  parts-deliver f c s e g = rw e g
+pub asks-nothing : (q : Request) → q ≡ Nothing → 0 ≡ asksOf (requestWords q)
+unfolding requestWords asksOf
+asks-nothing q e = rw e
 
-  pub parts-old : a ≡ Old → r ≡ tally 0 1 0 0 0 → r ≡ partsOf (answerWords a)
-  unfolding answerWords partsIn
-  parts-old e g = rw e g
+pub asks-once : (q : Request) (f : SequenceNumber) (c : MessageCount) → q ≡ Ask f c → 1 ≡ asksOf (requestWords q)
+unfolding requestWords asksOf
+asks-once q f c e = rw e
 
-  pub parts-quiet : a ≡ Quiet → r ≡ tally 0 0 1 0 0 → r ≡ partsOf (answerWords a)
-  unfolding answerWords partsIn
-  parts-quiet e g = rw e g
+-- one law for each answer; the words q of the request count as k
+module _ (a : Answer) (r : Tally) (q : List ℕ) (k : ℕ) where
+  pub parts-deliver : (f : SequenceNumber) (c : MessageCount) (s : MessagePlace) → a ≡ Deliver f c s → k ≡ asksOf q → r ≡ tally (c .0) 0 0 k 0 → r ≡ partsOf (earlyWords a) q
+  unfolding earlyWords partsIn
+  parts-deliver f c s e h g = rw (e, ← h) g
 
-  pub parts-ask : (f : SequenceNumber) (c : MessageCount) → a ≡ Ask f c → r ≡ tally 0 0 0 1 0 → r ≡ partsOf (answerWords a)
-  unfolding answerWords partsIn
-  parts-ask f c e g = rw e g
+  pub parts-old : a ≡ Old → k ≡ asksOf q → r ≡ tally 0 1 0 k 0 → r ≡ partsOf (earlyWords a) q
+  unfolding earlyWords partsIn
+  parts-old e h g = rw (e, ← h) g
 
-  pub parts-ended : a ≡ Ended → r ≡ tally 0 0 0 0 0 → r ≡ partsOf (answerWords a)
-  unfolding answerWords partsIn
-  parts-ended e g = rw e g
+  pub parts-quiet : a ≡ Quiet → k ≡ asksOf q → r ≡ tally 0 0 1 k 0 → r ≡ partsOf (earlyWords a) q
+  unfolding earlyWords partsIn
+  parts-quiet e h g = rw (e, ← h) g
 
-  pub parts-refused : (n : Refusal) → a ≡ Refused n → r ≡ tally 0 0 0 0 1 → r ≡ partsOf (answerWords a)
-  unfolding answerWords partsIn
-  parts-refused n e g = rw e g
+  pub parts-ahead : a ≡ Ahead → k ≡ asksOf q → r ≡ tally 0 0 0 k 0 → r ≡ partsOf (earlyWords a) q
+  unfolding earlyWords partsIn
+  parts-ahead e h g = rw (e, ← h) g
+
+  pub parts-ended : a ≡ Ended → k ≡ asksOf q → r ≡ tally 0 0 0 k 0 → r ≡ partsOf (earlyWords a) q
+  unfolding earlyWords partsIn
+  parts-ended e h g = rw (e, ← h) g
+
+  pub parts-refused : (n : Refusal) → a ≡ Refused n → k ≡ asksOf q → r ≡ tally 0 0 0 k 1 → r ≡ partsOf (earlyWords a) q
+  unfolding earlyWords partsIn
+  parts-refused n e h g = rw (e, ← h) g
 
 pub plus-all : (x y r : Tally) (d o q a f : ℕ) → d ≡ upTo (x .delivered) (y .delivered) → o ≡ upTo (x .old) (y .old)
     → q ≡ upTo (x .quiet) (y .quiet) → a ≡ upTo (x .asked) (y .asked) → f ≡ upTo (x .refused) (y .refused)

@@ -1,13 +1,14 @@
 // The report, from record to record.
 use crate::tally::Tally;
 use capture_records::records;
-use receiver::receiver::Receiver;
+use early_holding::holding::EarlyReceiver;
+use early_receiver::early;
 ghost use mathlib.Core.Path.{_≡_};
-ghost use Rattle.capture_tally.specs.Report.{freshOf, stepOf, cutOf};
+ghost use Rattle.capture_tally.specs.Report.{freshOf, lentReport, stepOf, cutOf};
 ghost use Rattle.capture_tally.specs.Sums.{Sums};
 
 pub struct Report {
-    pub receiver: Receiver,
+    pub receiver: EarlyReceiver,
     // Records read, the refused among them.
     pub records: u32,
     pub tally: Tally,
@@ -18,7 +19,7 @@ impl Report {
     pub const MOST_RECORDS: u32 = records::MOST_RECORDS;
 
     // A report of no records.
-    pub fn new(receiver: Receiver) -> Report
+    pub fn new(receiver: EarlyReceiver) -> Report
         ensures { λ r. ⌜ r ≡ freshOf receiver ⌝ }
     {
         Report {
@@ -34,9 +35,11 @@ impl Report {
         }
     }
 
-    // The report after one more record; as it was, where it has the most already.
-    pub fn step(self, datagram: &[u8]) -> Report
-        ensures { λ r. ⌜ r ≡ stepOf self (now (datagram .entry)) ⌝ }
+    // The report after one more record, and what is then held in the lengths and slots that are lent; all as it was,
+    // where it has the most records already.
+    pub fn step(self, lengths: &mut [u8], slots: &mut [u8], datagram: &[u8]) -> Report
+        ensures { λ r. ⌜ lentReport r (now (lengths .exit)) (now (slots .exit))
+            ≡ stepOf (lentReport self (now (lengths .entry)) (now (slots .entry))) (now (datagram .entry)) ⌝ }
         ensures sums { λ _. ⌜ Sums ⌝ }
     {
         let records = self.records;
@@ -45,13 +48,14 @@ impl Report {
         }
         let receiver = self.receiver;
         let tally = self.tally;
-        let taken = receiver.take(datagram);
+        let taken = early::take(receiver, lengths, slots, datagram);
         let answer = taken.answer;
+        let request = taken.request;
         let next = taken.receiver;
         Report {
             receiver: next,
             records: records + 1,
-            tally: tally.plus(Tally::of(answer)),
+            tally: tally.plus(Tally::of(answer, request)),
         }
     }
 

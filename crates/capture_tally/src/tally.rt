@@ -1,13 +1,14 @@
-// The five counts of a report, and the parts that one answer adds to them.
-use receiver::receiver::Answer;
+// The five counts of a report, and the parts that one answer, and the request beside it, add to them.
+use early_receiver::early::Answer;
+use early_receiver::early::Request;
 ghost use mathlib.Core.Path.{_≡_};
-ghost use Rattle.receiver.specs.Table.{answerWords};
-ghost use Rattle.capture_tally.specs.Tally.{tally, partsOf, plusOf, upTo};
+ghost use Rattle.early_receiver.specs.Answers.{earlyWords, requestWords};
+ghost use Rattle.capture_tally.specs.Tally.{tally, asksOf, partsOf, plusOf, upTo};
 
 // The largest count.
 const LARGEST: u64 = u64::MAX;
 
-// Messages delivered, and answers of the other kinds.
+// Messages delivered, and datagrams that are old, quiet, draw a request, or are refused.
 pub struct Tally {
     pub delivered: u64,
     pub old: u64,
@@ -38,22 +39,33 @@ fn counts(delivered: u64, old: u64, quiet: u64, asked: u64, refused: u64) -> Tal
     }
 }
 
+// A request is one, whatever answer it stands beside.
+fn asks(request: Request) -> u64
+    ensures { λ r. ⌜ r ≡ asksOf (requestWords request) ⌝ }
+{
+    match request {
+        Request::Nothing => 0,
+        Request::Ask { from: _, count: _ } => 1,
+    }
+}
+
 impl Tally {
-    // What an answer adds to each count.
-    pub fn of(answer: Answer) -> Tally
-        ensures { λ r. ⌜ r ≡ partsOf (answerWords answer) ⌝ }
+    // What an answer and the request beside it add to each count.
+    pub fn of(answer: Answer, request: Request) -> Tally
+        ensures { λ r. ⌜ r ≡ partsOf (earlyWords answer) (requestWords request) ⌝ }
     {
+        let asked = asks(request);
         match answer {
             Answer::Deliver {
                 first: _,
                 count,
                 skipped: _,
-            } => counts(count.0 as u64, 0, 0, 0, 0),
-            Answer::Old => counts(0, 1, 0, 0, 0),
-            Answer::Quiet => counts(0, 0, 1, 0, 0),
-            Answer::Ask { from: _, count: _ } => counts(0, 0, 0, 1, 0),
-            Answer::Ended => counts(0, 0, 0, 0, 0),
-            Answer::Refused(_) => counts(0, 0, 0, 0, 1),
+            } => counts(count.0 as u64, 0, 0, asked, 0),
+            Answer::Old => counts(0, 1, 0, asked, 0),
+            Answer::Quiet => counts(0, 0, 1, asked, 0),
+            Answer::Ahead => counts(0, 0, 0, asked, 0),
+            Answer::Ended => counts(0, 0, 0, asked, 0),
+            Answer::Refused(_) => counts(0, 0, 0, asked, 1),
         }
     }
 

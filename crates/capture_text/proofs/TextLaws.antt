@@ -37,7 +37,7 @@ tally-laid t l m o p q r at a b c d e x₁ x₂ x₃ x₄ x₅ h =
     let s₄ = then-laid s₃ x₄ (omega arith) in
     laid-within 140 (then-laid s₄ x₅ (omega arith)) (omega arith)
 
-pub report-laid : (x : Report) (l m o : List ℕ) (a b : ℕ) → LaysLine a l m 0 (receiverText (x .receiver)) 60
+pub report-laid : (x : Report) (l m o : List ℕ) (a b : ℕ) → LaysLine a l m 0 (receiverText (x .receiver .base)) 60
     → LaysLine b m o a (tallyText (x .tally)) 140 → room ≤ length l → LaysLine b l o 0 (reportText x) 200
 unfolding reportText
 report-laid x l m o a b u v h = then-laid u v (omega arith)
@@ -83,13 +83,13 @@ tally-length t =
       number-length refusedKey (t .refused),
     ))
 
-pub report-fits : (x : Report) → length (x .receiver .session) ≡ 10 → length (reportText x) ≤ 200
+pub report-fits : (x : Report) → length (x .receiver .base .session) ≡ 10 → length (reportText x) ≤ 200
 unfolding reportText
 report-fits x h =
     omega (
       arith,
-      length-append (receiverText (x .receiver)) (tallyText (x .tally)),
-      receiver-length (x .receiver) h,
+      length-append (receiverText (x .receiver .base)) (tallyText (x .tally)),
+      receiver-length (x .receiver .base) h,
       tally-length (x .tally),
     )
 

@@ -67,7 +67,7 @@ tallyText t =
     ++ numberLine refusedKey (t .refused)
 
 unfoldable pub reportText : Report → List ℕ
-reportText x = receiverText (x .receiver) ++ tallyText (x .tally)
+reportText x = receiverText (x .receiver .base) ++ tallyText (x .tally)
 
 -- `settings=refused`
 abbrev pub settingsKey : List ℕ

@@ -2,6 +2,7 @@
 use crate::lines;
 use capture_tally::report::Report;
 use capture_tally::tally::Tally;
+use early_holding::holding::EarlyReceiver;
 use receiver::receiver::Receiver;
 use wire::kinds::ByteOffset;
 use wire::output;
@@ -42,9 +43,10 @@ fn put_report(out: &mut [u8], report: Report) -> ByteOffset
     requires { ⌜ room ≤ length (now out) ⌝ }
     ensures { λ r. ⌜ LaysLine (r .0) (now (out .entry)) (now (out .exit)) 0 (reportText report) 200 ⌝ }
 {
-    let receiver = report.receiver;
+    let receiver: EarlyReceiver = report.receiver;
+    let base = receiver.base;
     let tally = report.tally;
-    let a = put_receiver(out, receiver);
+    let a = put_receiver(out, base);
     put_tally(out, a, tally)
 }
 

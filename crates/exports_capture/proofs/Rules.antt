@@ -1,11 +1,15 @@
 -- The laws that the functions' proofs need, for `search`: one set for each task.
 use borrow.Author.Needs.{needs}
 use Rattle.host_answers.proofs.WritingLaws.{lent-within, writing-plain}
-use Rattle.exports_capture.proofs.CaptureLaws.{short-only, sets-only, feed-only, more-only, text-only, sets-reading, sets-finished, text-short, text-reported}
-use Rattle.exports_capture.proofs.FeedLaws.{finish-short, feeds-short, feeds-laid, feeds-more, reading-hands-on}
+use Rattle.exports_capture.proofs.CaptureLaws.{short-only, starts-only, text-only, state-only, slots-only, none-only, starts-reading, text-short, text-reported}
+use Rattle.exports_capture.proofs.FeedLaws.{feeds-short, feeds-slots, feeds-words, finishes-short, finishes-slots, part-sized, part-long, feed-none, feeds-laid, feeds-more, finishes-so, reading-hands-on}
 
-pub ruleset readings = (short-only, sets-only, sets-reading, sets-finished, finish-short, needs)
+pub ruleset starts = (starts-only, starts-reading, needs)
 
-pub ruleset feeds = (reading-hands-on, short-only, feed-only, more-only, feeds-short, feeds-laid, feeds-more, needs)
+pub ruleset refusals = (state-only, slots-only, none-only, feeds-short, feeds-slots, feeds-words, reading-hands-on, needs)
+
+pub ruleset feeds = (part-sized, feed-none, feeds-laid, feeds-more, needs)
+
+pub ruleset finishes = (state-only, slots-only, none-only, finishes-short, finishes-slots, part-long, finishes-so, needs)
 
 pub ruleset texts = (lent-within, writing-plain, short-only, text-only, text-short, text-reported, needs)

@@ -1,12 +1,15 @@
--- A reading of a capture as bytes: its code while it isn't over, its stage, its receiver, how many records were read,
--- and its five counts.
-use Prim.Native.Nat.{ℕ, _+_, min}
+-- A reading of a capture as bytes: its code while it isn't over, its stage, its receiver with the lengths of the
+-- messages in its slots, how many records were read, and its five counts.
+use Prim.Native.Nat.{ℕ, _+_, _≤_, min}
 use mathlib.Core.List.{List, _∷_, _++_}
 use mathlib.Core.Bool.{Bool, not}
+use mathlib.Core.Path.{_≡_}
 use lib.ListN.{length, getD, drop}
 use lib.Dec.{ltb, eqb}
 use Rattle.wire.specs.Choice.{if_then_else_}
+use Rattle.wire.specs.Output.{put}
 use Rattle.receiver.specs.Receiver.{refusedReceiver}
+use Rattle.early_holding.specs.Holding.{early}
 use Rattle.capture_records.specs.Records.{mostRecords}
 use Rattle.capture_tally.specs.declared.tally.Tally.{Tally}
 use Rattle.capture_tally.specs.Tally.{tally}
@@ -14,10 +17,10 @@ use Rattle.capture_tally.specs.Report.{report, freshOf}
 use Rattle.capture.specs.declared.reading.Stage.{Stage}
 use Rattle.capture.specs.declared.reading.Stage.the-variants.{Settings, Records, Done, Refused}
 use Rattle.capture.specs.declared.reading.Reading as declared
-use Rattle.capture.specs.Reading.{reading, isOver}
+use Rattle.capture.specs.Reading.{reading, LentReading, lentReading, isOver}
 use Rattle.host_states.specs.Little.{little, littleBytes}
 use Rattle.host_states.specs.States.{readingCode, codeSize, phaseSize, isOpen, openByte, Keeps}
-use Rattle.host_receiver.specs.Receiver.{receiverSize, receiverBytes, receiverIn}
+use Rattle.host_early.specs.Early.{lengthsAt, earlySize, headBytes, earlyIn, lengthsIn}
 
 -- the bytes of a count
 abbrev pub tallySize : ℕ
@@ -30,8 +33,11 @@ stageAt = codeSize
 abbrev pub receiverAt : ℕ
 receiverAt = stageAt + phaseSize
 
+abbrev pub readingLengthsAt : ℕ
+readingLengthsAt = receiverAt + lengthsAt
+
 abbrev pub recordsAt : ℕ
-recordsAt = receiverAt + receiverSize
+recordsAt = receiverAt + earlySize
 
 abbrev pub deliveredAt : ℕ
 deliveredAt = recordsAt + tallySize
@@ -73,10 +79,25 @@ countBytes n t =
     ++ littleBytes tallySize (t .asked)
     ++ littleBytes tallySize (t .refused)
 
-unfoldable pub readingBytes : declared.Reading → List ℕ
-readingBytes x =
-    openByte readingCode (not (isOver (x .stage))) ∷ stageByte (x .stage) ∷ receiverBytes (x .report .receiver)
-    ++ countBytes (x .report .records) (x .report .tally)
+-- what stands before the lengths
+unfoldable pub beforeBytes : declared.Reading → List ℕ
+beforeBytes x =
+    openByte readingCode (not (isOver (x .stage))) ∷ stageByte (x .stage) ∷ headBytes (x .report .receiver)
+
+-- and behind them
+abbrev pub behindBytes : declared.Reading → List ℕ
+behindBytes x = countBytes (x .report .records) (x .report .tally)
+
+-- a reading with its lengths
+pub record KeptReading : Type 0 where
+  pub reading : declared.Reading
+  pub lengths : List ℕ
+
+abbrev pub keptReading : declared.Reading → List ℕ → KeptReading
+keptReading x lengths = record { reading = x; lengths = lengths }
+
+unfoldable pub readingBytes : KeptReading → List ℕ
+readingBytes x = beforeBytes (x .reading) ++ x .lengths ++ behindBytes (x .reading)
 
 unfoldable pub tallyIn : List ℕ → Tally
 tallyIn l =
@@ -86,14 +107,31 @@ tallyIn l =
 
 -- too few bytes: settings refused, and nothing read
 abbrev pub refusedReading : declared.Reading
-refusedReading = reading Refused (freshOf refusedReceiver)
+refusedReading = reading Refused (freshOf (early refusedReceiver 0))
 
 -- any bytes are one; more records than are read count as the most
 unfoldable pub readingIn : List ℕ → declared.Reading
 readingIn l =
     if ltb (length l) readingSize then refusedReading
     else reading (stageOf (isOpen readingCode l) (getD l stageAt 0))
-    (report (receiverIn (drop receiverAt l)) (min (little l recordsAt tallySize) mostRecords) (tallyIn l))
+    (report (earlyIn (drop receiverAt l)) (min (little l recordsAt tallySize) mostRecords) (tallyIn l))
 
-abbrev pub KeepsReading : Bool → List ℕ → List ℕ → declared.Reading → Type 0
-KeepsReading lays l m x = Keeps lays l m readingSize readingIn (readingBytes x) x
+-- the receiver's lengths in them
+abbrev pub readingLengths : List ℕ → List ℕ
+readingLengths l = lengthsIn (drop receiverAt l)
+
+abbrev pub keptReadingIn : List ℕ → KeptReading
+keptReadingIn l = keptReading (readingIn l) (readingLengths l)
+
+-- the reading in the bytes, with the slots ss lent beside them
+abbrev pub lentReadingIn : List ℕ → List ℕ → LentReading
+lentReadingIn l ss = lentReading (readingIn l) (readingLengths l) ss
+
+abbrev pub KeepsReading : Bool → List ℕ → List ℕ → KeptReading → Type 0
+KeepsReading lays l m x = Keeps lays l m readingSize keptReadingIn (readingBytes x) x
+
+-- ---- what `write` promises: all but the lengths is laid where there is room for all, and read back
+
+pub record LaysReading (l m : List ℕ) (x : declared.Reading) : Type 0 where
+  pub laid : m ≡ if ltb (length l) readingSize then l else put (put l 0 (beforeBytes x)) recordsAt (behindBytes x)
+  pub back : readingSize ≤ length l → readingIn m ≡ x

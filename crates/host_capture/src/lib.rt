@@ -1,9 +1,13 @@
-// A reading of a capture, as a host keeps it. The bytes of its receiver stand in it, and are a receiver's.
+// A reading of a capture, as a host keeps it. The bytes of its receiver stand in it, and are those of a receiver that
+// keeps early messages: its lengths are lent from there.
 use capture::reading::Reading;
 use capture::reading::Stage;
 use capture_records::records::MOST_RECORDS;
 use capture_tally::report::Report;
 use capture_tally::tally::Tally;
+use early_holding::holding::EarlyReceiver;
+use early_holding::holding::LENGTH_BYTES;
+use early_word::Held;
 use host_states::CODE_AT;
 use host_states::CODE_SIZE;
 use host_states::PHASE_SIZE;
@@ -20,28 +24,35 @@ ghost use mathlib.Core.Bool.{not};
 ghost use lib.ListN.{length};
 ghost use lib.Dec.{ltb};
 ghost use Rattle.wire.specs.Output.{put};
+ghost use Rattle.early_holding.specs.Holding.{early};
 ghost use Rattle.capture_records.specs.Records.{mostRecords};
 ghost use Rattle.capture_tally.specs.Tally.{tally};
 ghost use Rattle.capture_tally.specs.Report.{report};
 ghost use Rattle.capture.specs.Reading.{reading, isOver};
 ghost use Rattle.host_answers.specs.Answers.{orElse, short};
 ghost use Rattle.host_states.specs.Little.{littleBytes};
-ghost use Rattle.host_states.specs.States.{Lays, StatePromises, onCode};
-ghost use Rattle.host_receiver.specs.Receiver.{receiverBytes};
-ghost use Rattle.host_capture.specs.Reading.{tallySize, receiverAt, readingSize, recordsAt, stageOf, stageByte, countBytes};
-ghost use Rattle.host_capture.specs.Reading.{tallyIn, refusedReading, readingBytes, readingIn, KeepsReading};
+ghost use Rattle.host_states.specs.States.{StatePromises, onCode};
+ghost use Rattle.host_early.specs.Early.{headBytes, noLengths};
+ghost use Rattle.host_capture.specs.Reading.{tallySize, receiverAt, readingLengthsAt, readingSize, recordsAt};
+ghost use Rattle.host_capture.specs.Reading.{stageOf, stageByte, countBytes, tallyIn, refusedReading};
+ghost use Rattle.host_capture.specs.Reading.{keptReading, readingBytes, readingIn, KeepsReading, LaysReading};
 
 // Bytes of a count, and of all that stands before the counts.
 const TALLY_SIZE: usize = 8;
 
-const BEFORE: usize = CODE_SIZE + PHASE_SIZE + host_receiver::SIZE + TALLY_SIZE;
+const BEFORE: usize = CODE_SIZE + PHASE_SIZE + host_early::SIZE + TALLY_SIZE;
 
 // Its stage stands behind its code, then its receiver, how many records were read, and its five counts.
 const STAGE_AT: ByteOffset = ByteOffset(CODE_SIZE);
 
 const RECEIVER_AT: ByteOffset = ByteOffset(CODE_SIZE + PHASE_SIZE);
 
-const RECORDS_AT: ByteOffset = ByteOffset(CODE_SIZE + PHASE_SIZE + host_receiver::SIZE);
+// The lengths that are lent, from one place to another.
+pub const LENGTHS_AT: ByteOffset = ByteOffset(CODE_SIZE + PHASE_SIZE + host_early::LENGTHS_AT.0);
+
+pub const LENGTHS_TO: usize = CODE_SIZE + PHASE_SIZE + host_early::SIZE;
+
+const RECORDS_AT: ByteOffset = ByteOffset(CODE_SIZE + PHASE_SIZE + host_early::SIZE);
 
 const DELIVERED_AT: ByteOffset = ByteOffset(BEFORE);
 
@@ -153,7 +164,7 @@ pub fn read(state: &[u8]) -> Reading
             parts::byte(state, STAGE_AT),
         ),
         report: Report {
-            receiver: host_receiver::read(&state[receiver_at..]),
+            receiver: host_early::read(&state[receiver_at..]),
             records: records_of(little::get64(state, RECORDS_AT)),
             tally: read_tally(state),
         },
@@ -197,20 +208,21 @@ fn put_head(state: &mut [u8], first: u8, stage: u8)
     output::put_bytes(state, CODE_AT, &[first, stage]);
 }
 
-// Lays the receiver, where there is room for a reading.
-fn put_receiver(state: &mut [u8], receiver: Receiver)
+// Lays the receiver but for its lengths, where there is room for a reading.
+fn put_receiver(state: &mut [u8], receiver: EarlyReceiver)
     requires { ⌜ readingSize ≤ length (now state) ⌝ }
-    ensures { λ _. ⌜ now (state .exit) ≡ put (now (state .entry)) receiverAt (receiverBytes receiver) ⌝ }
+    ensures { λ _. ⌜ now (state .exit) ≡ put (now (state .entry)) receiverAt (headBytes receiver) ⌝ }
 {
     let at = RECEIVER_AT.0;
-    host_receiver::write(&mut state[at..], 0, receiver);
+    host_early::write(&mut state[at..], receiver);
 }
 
-// Lays all fields of a reading where there is room for them.
+// Lays all fields of a reading but the lengths, where there is room for all.
 fn put_fields(
     state: &mut [u8],
     stage: Stage,
-    receiver: Receiver,
+    base: Receiver,
+    held: u64,
     records: u32,
     delivered: u64,
     old: u64,
@@ -219,34 +231,39 @@ fn put_fields(
     refused: u64,
 )
     requires { ⌜ readingSize ≤ length (now state) ⌝ }
-    ensures { λ _. ⌜ Lays (now (state .entry)) (now (state .exit)) readingIn
-        (readingBytes (reading stage (report receiver records (tally delivered old quiet asked refused))))
-        (reading stage (report receiver records (tally delivered old quiet asked refused))) ⌝ }
+    ensures { λ _. ⌜ LaysReading (now (state .entry)) (now (state .exit))
+        (reading stage (report (early base held) records (tally delivered old quiet asked refused))) ⌝ }
 {
     let first = host_states::open_byte(READING, is_open(stage));
     put_head(state, first, stage_byte(stage));
-    put_receiver(state, receiver);
+    put_receiver(
+        state,
+        EarlyReceiver {
+            base,
+            held: Held(held),
+        },
+    );
     put_counts(state, records as u64, delivered, old, quiet, asked, refused);
 }
 
-// Lays a reading, where the code is 0 and there is room: else the code, or 41.
-pub fn write(state: &mut [u8], code: u32, reading: Reading) -> u32
-    ensures { λ r. ⌜ r ≡ orElse code (short (ltb (length (now (state .entry))) readingSize)) ⌝ }
-    ensures keeps { λ r. ⌜ KeepsReading (onCode r) (now (state .entry)) (now (state .exit)) reading ⌝ }
-    ensures promises { λ _. ⌜ StatePromises KeepsReading readingSize readingBytes ⌝ }
+// Lays a reading whose lengths stand there already.
+pub fn write(state: &mut [u8], reading: Reading)
+    ensures { λ _. ⌜ LaysReading (now (state .entry)) (now (state .exit)) reading ⌝ }
 {
-    let kept = host_states::with_room(code, state.len(), SIZE);
-    if kept != 0 {
-        return kept;
+    if state.len() < SIZE {
+        return;
     }
     let stage = reading.stage;
     let report = reading.report;
     let receiver = report.receiver;
+    let base = receiver.base;
+    let held = receiver.held;
     let tally = report.tally;
     put_fields(
         state,
         stage,
-        receiver,
+        base,
+        held.0,
         report.records,
         tally.delivered,
         tally.old,
@@ -254,5 +271,29 @@ pub fn write(state: &mut [u8], code: u32, reading: Reading) -> u32
         tally.asked,
         tally.refused,
     );
+}
+
+// Lays lengths of zero, where there is room for a reading.
+fn clear_lengths(state: &mut [u8])
+    requires { ⌜ readingSize ≤ length (now state) ⌝ }
+    ensures { λ _. ⌜ now (state .exit) ≡ put (now (state .entry)) readingLengthsAt noLengths ⌝ }
+{
+    let none = [0u8; LENGTH_BYTES];
+    output::put_bytes(state, LENGTHS_AT, &none);
+}
+
+// Lays a reading with no lengths, where the code is 0 and there is room: else the code, or 41.
+pub fn write_fresh(state: &mut [u8], code: u32, reading: Reading) -> u32
+    ensures { λ r. ⌜ r ≡ orElse code (short (ltb (length (now (state .entry))) readingSize)) ⌝ }
+    ensures keeps { λ r. ⌜ KeepsReading (onCode r) (now (state .entry)) (now (state .exit))
+        (keptReading reading noLengths) ⌝ }
+    ensures promises { λ _. ⌜ StatePromises KeepsReading readingSize readingBytes ⌝ }
+{
+    let kept = host_states::with_room(code, state.len(), SIZE);
+    if kept != 0 {
+        return kept;
+    }
+    clear_lengths(state);
+    write(state, reading);
     kept
 }

@@ -1,4 +1,4 @@
--- It ends where a turn says so. What is kept leaves room in the buffer, whose length never changes.
+-- It ends where a turn says so. What is kept leaves room in the buffer; no length of what is lent ever changes.
 use mathlib.Core.Path.{_≡_}
 use Prim.Native.Nat.{_≤_}
 use lib.ListN.{length}
@@ -8,10 +8,11 @@ use Rattle.capture_report.proofs.read_all.Statement.{statement}
 use Rattle.capture_report.proofs.read_all.Tie as tie
 
 abbrev Inv-loop : tie.InvT-loop
-Inv-loop buf₀ state₀ turns₀ buf state turns = (state .have ≤ mostKept) × (length buf ≡ length buf₀)
+Inv-loop lengths₀ slots₀ buf₀ state₀ turns₀ lengths slots buf state turns =
+    (state .have ≤ mostKept) × (length buf ≡ length buf₀) × (length lengths ≡ length lengths₀) × (length slots ≡ length slots₀)
 
 abbrev μ-loop : tie.MeasureT-loop
-μ-loop buf₀ state₀ turns₀ buf state turns = turns
+μ-loop lengths₀ slots₀ buf₀ state₀ turns₀ lengths slots buf state turns = turns
 
 pub read-all-spec : {M : Type 1} → statement M
 read-all-spec =
@@ -25,11 +26,15 @@ read-all-spec =
     (λ c κs. search laws)  -- turn-requires
     (λ c κs. search laws)  -- is-over-requires
     (λ c. search laws)  -- same-length
+    (λ c. search laws)  -- same-length-2
+    (λ c. search laws)  -- same-length-3
     (λ c. search laws)  -- returns
     (λ c. search laws)  -- sub-turns
     (λ c. search laws)  -- loop-less
     (λ c. search laws)  -- loop-again
     (λ c κs. search laws)  -- turn-requires-2
-    (λ c. search laws)  -- same-length-2
+    (λ c. search laws)  -- same-length-4
+    (λ c. search laws)  -- same-length-5
+    (λ c. search laws)  -- same-length-6
     (λ c. search laws)  -- returns-2
     )

@@ -1,5 +1,5 @@
--- The finished reading is kept.
-use Rattle.exports_capture.proofs.Rules.{readings}
+-- Refused before anything changes, or finished, and the reading kept around its lengths.
+use Rattle.exports_capture.proofs.Rules.{finishes}
 use Rattle.exports_capture.proofs.eiderwagon_capture_finish.Statement.{statement}
 use Rattle.exports_capture.proofs.eiderwagon_capture_finish.Tie as tie
 
@@ -7,10 +7,15 @@ pub eiderwagon-capture-finish-spec : {M : Type 1} → statement M
 eiderwagon-capture-finish-spec =
     tie.close
     (tie.spec
-    (λ c. search readings)  -- returns
-    (λ c. search readings)  -- read-requires
-    (λ c. search readings)  -- finish-requires
-    (λ c. search readings)  -- write-requires
-    (λ c. search readings)  -- same-length
-    (λ c. search readings)  -- returns-2
+    (λ c. search finishes)  -- returns
+    (λ c. search finishes)  -- returns-2
+    (λ c κs. search finishes)  -- read-requires
+    (λ c. search finishes)  -- sub-finish
+    (λ c. search finishes)  -- part-finish-start
+    (λ c. search finishes)  -- part-finish-end
+    (λ c κs. search finishes)  -- finish-requires
+    (λ c κs. search finishes)  -- write-requires
+    (λ c. search finishes)  -- same-length
+    (λ c. search finishes)  -- same-length-2
+    (λ c. search finishes)  -- returns-3
     )

@@ -1,5 +1,5 @@
 -- A fresh reading is kept.
-use Rattle.exports_capture.proofs.Rules.{readings}
+use Rattle.exports_capture.proofs.Rules.{starts}
 use Rattle.exports_capture.proofs.eiderwagon_capture_start.Statement.{statement}
 use Rattle.exports_capture.proofs.eiderwagon_capture_start.Tie as tie
 
@@ -7,8 +7,8 @@ pub eiderwagon-capture-start-spec : {M : Type 1} → statement M
 eiderwagon-capture-start-spec =
     tie.close
     (tie.spec
-    (λ c. search readings)  -- new-requires
-    (λ c. search readings)  -- write-requires
-    (λ c. search readings)  -- same-length
-    (λ c. search readings)  -- returns
+    (λ c. search starts)  -- new-requires
+    (λ c. search starts)  -- write-requires
+    (λ c. search starts)  -- same-length
+    (λ c. search starts)  -- returns
     )

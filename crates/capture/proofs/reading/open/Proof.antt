@@ -15,6 +15,8 @@ open-spec =
     (λ c. search opening)  -- part-take-records-start
     (λ c. search opening)  -- part-take-records-end
     (λ c κs. search opening)  -- take-records-requires
-    (λ c. open-fits _ _ _ _ (c .before .before .before .before .before .before .before .before .read .ensures .0) (c .before .before .take-records .ensures) (c .before .before .before .before .before .before .before .before .before .before .good .1 .0 .1))  -- add-t14
+    (λ c. open-fits _ _ _ _ _ _ _ _ (c .before .before .before .before .before .before .before .before .before .before .before .before .before .before .read .ensures .0) (c .before .before .before .before .before .before .take-records .ensures) (c .before .before .before .before .before .before .before .before .before .before .before .before .before .before .before .before .before .before .good .1 .1 .1 .0 .1))  -- add-t20
+    (λ c. search opening)  -- same-length
+    (λ c. search opening)  -- same-length-2
     (λ c. search opening)  -- returns-2
     )

@@ -15,7 +15,11 @@ advance-spec =
     (λ c κs. search advancing)  -- pass-requires
     (λ c. search advancing)  -- enum-told-4
     (λ c κs. search advancing)  -- pass-requires-2
+    (λ c. search advancing)  -- same-length
+    (λ c. search advancing)  -- same-length-2
     (λ c. search advancing)  -- returns
+    (λ c. search advancing)  -- same-length-3
+    (λ c. search advancing)  -- same-length-4
     (λ c. search advancing)  -- returns-2
     (λ c. search advancing)  -- returns-3
     (λ c. search advancing)  -- returns-4

@@ -10,5 +10,7 @@ feed-spec =
     (λ c κs. search feeding)  -- waits-requires
     (λ c. search feeding)  -- returns
     (λ c κs. search feeding)  -- advance-requires
+    (λ c. search feeding)  -- same-length
+    (λ c. search feeding)  -- same-length-2
     (λ c. search feeding)  -- returns-2
     )

@@ -14,8 +14,16 @@ finish-spec =
     (λ c κs. search finishing)  -- end-requires
     (λ c. search finishing)  -- enum-told-3
     (λ c. search finishing)  -- enum-told-4
+    (λ c. search finishing)  -- same-length
+    (λ c. search finishing)  -- same-length-2
     (λ c. search finishing)  -- returns
+    (λ c. search finishing)  -- same-length-3
+    (λ c. search finishing)  -- same-length-4
     (λ c. search finishing)  -- returns-2
+    (λ c. search finishing)  -- same-length-5
+    (λ c. search finishing)  -- same-length-6
     (λ c. search finishing)  -- returns-3
+    (λ c. search finishing)  -- same-length-7
+    (λ c. search finishing)  -- same-length-8
     (λ c. search finishing)  -- returns-4
     )

@@ -8,7 +8,7 @@ use Rattle.capture.proofs.turning.Turning.turn.Tie as tie
 
 returns-2 : tie.Need-returns-2
 returns-2 c =
-    let small : AreBytes (c .before .before .before .before .before .before .before .before .before .before .before .args .buf .now) = λ i. omega (arith, c .before .before .before .before .before .before .before .before .before .before .slice-known .given i) in
+    let small : AreBytes (c .before .before .before .before .before .before .before .before .before .before .before .before .before .before .before .before .before .before .before .args .buf .now) = λ i. omega (arith, c .before .before .before .before .before .before .before .before .before .before .before .before .before .before .before .before .slice-known3 .given i) in
     (search turning, (search turning, (search turning, capture-promises)))
 
 pub turn-spec : {M : Type 1} → statement M
@@ -20,11 +20,15 @@ turn-spec =
     (λ c. search turning)  -- slice-aggregate-finish
     (λ c κs. search turning)  -- finish-requires
     (λ c. search turning)  -- same-length
+    (λ c. search turning)  -- same-length-2
+    (λ c. search turning)  -- same-length-3
     (λ c. (search turning, (search turning, (omega arith, capture-promises))))  -- returns
     (λ c. search turning)  -- slice-reshare-prefix-feed
     (λ c. search turning)  -- slice-aggregate-feed
     (λ c κs. search turning)  -- feed-requires
     (λ c κs. search turning)  -- keep-requires
-    (λ c. search turning)  -- same-length-2
+    (λ c. search turning)  -- same-length-4
+    (λ c. search turning)  -- same-length-5
+    (λ c. search turning)  -- same-length-6
     returns-2
     )

@@ -1,4 +1,4 @@
--- One law for each answer.
+-- One law for each answer; the request counts beside any of them.
 use Rattle.capture_tally.proofs.Rules.{tallies}
 use Rattle.capture_tally.proofs.tally.Tally.of.Statement.{statement}
 use Rattle.capture_tally.proofs.tally.Tally.of.Tie as tie
@@ -7,6 +7,7 @@ pub of-spec : {M : Type 1} → statement M
 of-spec =
     tie.close
     (tie.spec
+    (λ c κs. search tallies)  -- asks-requires
     (λ c. search tallies)  -- enum-known-answer
     (λ c. search tallies)  -- cast-counts
     (λ c κs. search tallies)  -- counts-requires
