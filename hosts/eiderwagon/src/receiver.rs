@@ -60,7 +60,8 @@
 //!
 //! # Requests are paced by the host
 //!
-//! A datagram ahead isn't kept, and the receiver keeps no time: so by its table each datagram ahead
+//! This receiver keeps no datagram that is ahead ([`early`](crate::early) has one that does), and no
+//! time: so by its table each datagram ahead
 //! asks anew, for the same messages, until they have come. A host that sends every request that is
 //! answered sends one for almost each datagram that comes while an answer is on its way, and each is
 //! answered with the same messages once more, on a line that is losing some already. [`Requests`]
@@ -83,7 +84,7 @@ use crate::{raw, Refusal, Session};
 use std::fmt;
 
 /// What stands for a session's name while there is none.
-const NO_NAME: &Session = &[b' '; raw::SESSION_SIZE];
+pub(crate) const NO_NAME: &Session = &[b' '; raw::SESSION_SIZE];
 
 /// A receiver of one session.
 #[derive(PartialEq, Eq)]
