@@ -107,6 +107,7 @@ places: as many as are laid | one word less | none for no message | of the most 
 early_window: n + 1 | n + 64 | n + 65
 early_length: 1,024 | 1,025
 early_places: as many as are laid | one word less | of the most messages
+early_swapped: delivered | nothing delivered
 packet_size: 21 | 22 | 65,507 | 65,508
 store_first: 0 | 1 | the last number is 2^64 - 2 | the last number is 2^64 - 1
 store_data: one byte short | as the lengths say | one byte more

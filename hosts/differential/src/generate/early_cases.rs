@@ -2,32 +2,34 @@
 //! by hand; and what is said of a datagram before it is taken.
 
 use super::feed::Feed;
-use super::{bytes, lend, mold};
+use super::{bytes, early_bounds, early_lists, lend, mold};
 use crate::call::Call;
 use crate::layout::{self, Cursor, Walk, EARLY, HELD, LENGTHS, SLOTS, WALK};
 use crate::random::Random;
 use crate::reference::early::{Early, SLOT};
-use crate::reference::mold::{END, HEADER, LARGEST};
+use crate::reference::mold::END;
 use crate::reference::{Name, BLANK};
 use crate::run::Run;
 
 pub fn case(run: &mut Run, random: &mut Random) {
-    match random.below(8) {
+    match random.below(9) {
         0..2 => swapped(run, random),
         2 => starts(run, random),
-        3 => bounds(run, random),
+        3 => early_bounds::case(run, random),
+        4 => early_lists::case(run, random),
         _ => by_hand_case(run, random),
     }
 }
 
 /// A receiver and its slots, as a host keeps them.
-struct Kept {
-    state: Vec<u8>,
-    slots: Vec<u8>,
+#[derive(Clone)]
+pub struct Kept {
+    pub state: Vec<u8>,
+    pub slots: Vec<u8>,
 }
 
 impl Kept {
-    fn receiver(&self) -> Early {
+    pub fn receiver(&self) -> Early {
         layout::early(&self.state, &self.slots)
     }
 }
@@ -45,7 +47,7 @@ fn starts(run: &mut Run, random: &mut Random) {
 }
 
 /// A feed with messages around the longest that a slot holds, and more of them than there are slots.
-fn feed(random: &mut Random) -> Feed {
+pub fn feed(random: &mut Random) -> Feed {
     let mut feed = Feed::new(random);
     let behind = feed.behind();
     let more = random.pick(&[0, 0, 30, 100]).min(u64::MAX - behind);
@@ -92,7 +94,7 @@ fn swapped(run: &mut Run, random: &mut Random) {
 }
 
 /// What the line brings: often something that is ahead, as far as the window reaches and a little further.
-fn near(random: &mut Random, feed: &Feed, next: u64) -> Vec<u8> {
+pub fn near(random: &mut Random, feed: &Feed, next: u64) -> Vec<u8> {
     let ahead = random.pick(&[1, 1, 2, 3, 5, 60, 63, 64, 65]);
     match random.below(4) {
         0..2 => feed.datagram(random, next),
@@ -102,7 +104,7 @@ fn near(random: &mut Random, feed: &Feed, next: u64) -> Vec<u8> {
 }
 
 /// Takes a datagram, and hands back the messages that it delivers.
-fn take(run: &mut Run, random: &mut Random, kept: &mut Kept, datagram: &[u8]) -> Vec<Vec<u8>> {
+pub fn take(run: &mut Run, random: &mut Random, kept: &mut Kept, datagram: &[u8]) -> Vec<Vec<u8>> {
     let before = kept.slots.clone();
     let at_once = random.one_in(2);
     let call = match at_once {
@@ -258,89 +260,6 @@ fn by_hand_case(run: &mut Run, random: &mut Random) {
         lend::single_with(run, random, &Call::EarlyTake { datagram }, state, slots);
         lend::single_with(run, random, &Call::EarlyDeliver { datagram }, state, slots);
         look(run, random, &kept, datagram);
-    }
-}
-
-/// Both sides of the window, of a slot's size and of the places.
-fn bounds(run: &mut Run, random: &mut Random) {
-    let next = bytes::number(random).clamp(1, u64::MAX - 67);
-    let kept = fresh(next);
-    let (state, slots) = (kept.state.as_slice(), &kept.slots);
-    let take = |run: &mut Run, random: &mut Random, datagram: &[u8]| {
-        let (mut state, mut slots) = (state.to_vec(), slots.clone());
-        let call = Call::EarlyTake { datagram };
-        lend::chained_with(run, random, &call, &mut state, &mut slots);
-        layout::early(&state, &slots).held.len()
-    };
-    let window = [
-        (1, true, "n + 1"),
-        (64, true, "n + 64"),
-        (65, false, "n + 65"),
-    ];
-    for (ahead, holds, name) in window {
-        let datagram = mold::raw(NAME, next + ahead, 1, &[vec![1]]);
-        if (take(run, random, &datagram) == 1) != holds {
-            run.fail("the window is another one");
-        }
-        run.note("early_window", name);
-    }
-    for (size, holds, name) in [(SLOT, true, "1,024"), (SLOT + 1, false, "1,025")] {
-        let datagram = mold::raw(NAME, next + 1, 1, &[vec![1; size]]);
-        if (take(run, random, &datagram) == 1) != holds {
-            run.fail("a slot has another size");
-        }
-        run.note("early_length", name);
-    }
-    places(run, random, &kept, next);
-}
-
-const NAME: &Name = b"READROOM01";
-
-/// A receiver that was just started.
-fn fresh(next: u64) -> Kept {
-    let early = Early::start(*NAME, next, 100).expect("a start");
-    Kept {
-        state: layout::early_bytes(&early, &[0; EARLY], &vec![]),
-        slots: vec![7; SLOTS],
-    }
-}
-
-/// As many places as the messages of a datagram and a held one behind them need, and a word less.
-fn places(run: &mut Run, random: &mut Random, kept: &Kept, next: u64) {
-    let many = match random.below(8) {
-        0 => (LARGEST - HEADER) / 2,
-        _ => random.between(1, 6),
-    };
-    let (mut state, mut slots) = (kept.state.clone(), kept.slots.clone());
-    let mut held = 0;
-    if many < 64 {
-        let datagram = mold::raw(NAME, next + many as u64, 1, &[vec![1, 2]]);
-        let ahead = Call::EarlyTake {
-            datagram: &datagram,
-        };
-        lend::chained_with(run, random, &ahead, &mut state, &mut slots);
-        held = 1;
-    }
-    let next = next.min(u64::MAX - many as u64);
-    state[11..19].copy_from_slice(&next.to_le_bytes());
-    let datagram = mold::raw(NAME, next, many as u16, &vec![vec![]; many]);
-    let call = Call::EarlyDeliver {
-        datagram: &datagram,
-    };
-    let mut lent = lend::with_slots(random, &call, &state, &slots);
-    let needed = 3 * (many + held);
-    lent.places.resize(needed - 1, 7);
-    if run.check(&call, &mut lent) != 41 {
-        run.fail("a word less than the places need is enough");
-    }
-    run.note("early_places", "one word less");
-    lent.places.resize(needed, 7);
-    if run.check(&call, &mut lent) != 0 {
-        run.fail("as many words as the places need aren't enough");
-    }
-    run.note("early_places", "as many as are laid");
-    if many > 6 {
-        run.note("early_places", "of the most messages");
     }
 }
 
