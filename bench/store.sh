@@ -8,4 +8,4 @@ cd "$(dirname "$0")/.."
 
 build_library
 cd hosts
-cargo run --quiet --release --offline -p bench_orders -- "$@"
+cargo run --quiet --release --offline -p bench_orders --bin bench_orders -- "$@"

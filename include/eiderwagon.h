@@ -2,7 +2,7 @@
  *
  * Link with libeiderwagon.a, which `tools/host_library.sh` builds for x86-64 Linux. Nothing here allocates, blocks,
  * reads a clock, touches a socket or keeps anything between two calls: a state is bytes that you keep, and lend to each
- * call. hosts/c has three examples, feed.c, login.c and branch.c.
+ * call. hosts/c has four examples, feed.c, early.c, login.c and branch.c.
  *
  * What is lent
  *   A buffer is a pointer and, behind it, how many elements it has. With no elements it may be any pointer, NULL too.
@@ -14,27 +14,29 @@
  *   EIDERWAGON_REFUSED_...: the number is in the low 8 bits, and a later library may put a place above them. On 0, the
  *   answer stands in `words`, at the positions that the function's enum names. Each of its words is set, those that an
  *   answer has no value for to 0, and no further one is touched. Lend as many as its _WORDS says: a later library may
- *   have more. A refusal changes no word, and no byte of a lent output, a state or a cursor.
+ *   have more. A refusal changes no word, and no byte of a lent output, a state, a cursor or slots.
  *
  * Refusals have an order
  *   Where several grounds apply, the first in the function's list is given. First come those that need no state; then
  *   41 for a state or a cursor with fewer bytes than its size; then the state's own; and last 41 for too few words or
  *   an output that is too short. So 41 stands in a list once, or twice: before the state's own grounds, and at the end.
  *   An input of a fixed size (a session, a username, a password) that is shorter or longer is refused, and never cut:
- *   with 19 at a start, with 46 at a SoupBinTCP writer, and with 41, behind its other grounds, at a MoldUDP64 writer
- *   and at the transmitter; at the store with 41 in the place of 53. Of a state, a cursor or `words` with more elements
- *   than are needed only the first are used.
+ *   with 19 at a start, and where it is slots, with 46 at a SoupBinTCP writer, and with 41, behind its other grounds,
+ *   at a MoldUDP64 writer and at the transmitter; at the store with 41 in the place of 53. Of a state, a cursor or
+ *   `words` with more elements than are needed only the first are used.
  *
  * States and cursors
  *   Their layout is given below (_AT and _SIZE), and any bytes are one: a state can be stored, copied, compared and
  *   made by hand. Numbers are little-endian. A state is open exactly when its first byte is its kind's code (_OPEN). No
  *   two kinds have the same code, and none is 0: a state that is lent to a function of another kind isn't open there.
  *   (It may be laid over, though: a start, a walk, eiderwagon_server_set_last and a capture's feed lay their own.)
- *   With every other first byte, 0 too, a receiver is ended, a session is closed or ended, a reading is done or its
- *   settings are refused, a cursor has no messages left and a transmitter no packet. So bytes of zero are never open.
+ *   With every other first byte, 0 too, a receiver of either kind is ended, a session is closed or ended, a reading is
+ *   done or its settings are refused, a cursor and a walk have no messages left and a transmitter no packet. So bytes
+ *   of zero are never open.
  *   Where more is needed no byte of a state changes, none by a feed that uses no byte and isn't over, and none of a
- *   cursor where no message is there. Every other success lays the state in one form, its first byte 0 if it isn't
- *   open, also where its meaning doesn't change; a cursor and a transmitter are always laid with their code.
+ *   cursor or a walk where no message is there. Every other success lays the state in one form, its first byte 0 if it
+ *   isn't open, also where its meaning doesn't change; a cursor, a walk and a transmitter are always laid with their
+ *   code. The lengths of held messages are no part of that form: a step changes those of the messages that it holds.
  *   Start every state before its first use. A refused start changes no byte: so clear a state, all bytes 0, before you
  *   start it anew. Otherwise the old one is still there, and perhaps open, where the start is refused.
  */
@@ -69,8 +71,9 @@ enum {
     EIDERWAGON_REFUSED_BYTES_AFTER_BLOCKS = 16, /* bytes stand after the last block */
     EIDERWAGON_REFUSED_SESSION_DIFFERS = 17,    /* the session differs */
     EIDERWAGON_REFUSED_SESSION_ENDED = 18,      /* the session has already ended */
-    EIDERWAGON_REFUSED_BAD_SETTING = 19,        /* a bad starting setting, an account table over 1,024 records, or a
-                                                   packet's size or a store's numbers out of bounds */
+    EIDERWAGON_REFUSED_BAD_SETTING = 19,        /* a bad starting setting, an account table over 1,024 records, a
+                                                   packet's size or a store's numbers out of bounds, or slots of
+                                                   another size */
     EIDERWAGON_REFUSED_END_BELOW_EXPECTED = 20, /* an end of session below the expected number */
     EIDERWAGON_REFUSED_LENGTH_ZERO = 21,        /* a packet's length is 0 */
     EIDERWAGON_REFUSED_PAYLOAD_LONG = 22,       /* a payload above 4,096 bytes */
@@ -119,7 +122,7 @@ static inline const char *eiderwagon_ground(uint32_t code) {
     case EIDERWAGON_REFUSED_SESSION_ENDED:
         return "the session has already ended";
     case EIDERWAGON_REFUSED_BAD_SETTING:
-        return "a bad starting setting, an account table over 1,024 records, or a packet's size or a store's numbers out of bounds";
+        return "a bad starting setting, an account table over 1,024 records, a packet's size or a store's numbers out of bounds, or slots of another size";
     case EIDERWAGON_REFUSED_END_BELOW_EXPECTED:
         return "an end of session below the expected number";
     case EIDERWAGON_REFUSED_LENGTH_ZERO:
@@ -176,7 +179,9 @@ enum {
     EIDERWAGON_LARGEST_DATAGRAM = 65507, /* the largest datagram */
     EIDERWAGON_LARGEST_PACKET = 4099,    /* the largest packet: 2 bytes of length, a letter, 4,096 of payload */
     EIDERWAGON_LARGEST_REPLY = 33,       /* the largest reply to a login, 'A'; 'J' has 4 bytes */
-    EIDERWAGON_LARGEST_REPORT = 256      /* a buffer that every capture's report fits */
+    EIDERWAGON_LARGEST_REPORT = 256,     /* a buffer that every capture's report fits */
+    EIDERWAGON_SLOT_SIZE = 1024,         /* a slot, and the longest message that is held in one */
+    EIDERWAGON_SLOTS_SIZE = 65536        /* the 64 slots of a receiver that keeps early messages */
 };
 
 /* ---- States and cursors: where each part stands, and how many bytes it has --------------------------------------- */
@@ -198,6 +203,30 @@ enum {
     EIDERWAGON_RECEIVER_LIMIT_AT = 19,  /* asking limit (2) */
     EIDERWAGON_RECEIVER_SIZE = 21,      /* a receiver */
     EIDERWAGON_RECEIVER_OPEN = 0xE2     /* the code of a receiver that isn't ended */
+};
+
+/* A receiver that keeps early messages. The messages themselves are in its slots, one with number k from the first byte
+ * of slot k modulo 64 on. */
+enum {
+    EIDERWAGON_EARLY_CODE_AT = 0,     /* its code, or it is ended (1) */
+    EIDERWAGON_EARLY_SESSION_AT = 1,  /* session, ten spaces while it isn't known (10) */
+    EIDERWAGON_EARLY_NEXT_AT = 11,    /* number of the next message (8) */
+    EIDERWAGON_EARLY_LIMIT_AT = 19,   /* asking limit (2) */
+    EIDERWAGON_EARLY_HELD_AT = 21,    /* the held numbers, a bit each: the lowest stands for the next number + 1 (8) */
+    EIDERWAGON_EARLY_LENGTHS_AT = 29, /* length of the message in each slot, its most significant byte first (64 x 2) */
+    EIDERWAGON_EARLY_SIZE = 157,      /* a receiver that keeps early messages */
+    EIDERWAGON_EARLY_OPEN = 0xE7      /* the code of one that isn't ended */
+};
+
+/* A walk over the messages that a datagram will deliver to a receiver that keeps early ones. */
+enum {
+    EIDERWAGON_WALK_CODE_AT = 0,    /* its code, or no messages are left (1) */
+    EIDERWAGON_WALK_NUMBER_AT = 1,  /* number of the message to come (8) */
+    EIDERWAGON_WALK_LEFT_AT = 9,    /* messages left (2) */
+    EIDERWAGON_WALK_PLACE_AT = 11,  /* place in the datagram (8) */
+    EIDERWAGON_WALK_BLOCKS_AT = 19, /* the datagram's own messages that are left from there on (2) */
+    EIDERWAGON_WALK_SIZE = 21,      /* a walk */
+    EIDERWAGON_WALK_OPEN = 0xE8     /* the code of a walk */
 };
 
 /* A transmitter: how far its packets have come. The run itself isn't in it. */
@@ -237,24 +266,25 @@ enum {
     EIDERWAGON_CLIENT_ENDED = 3       /* the server has ended the session */
 };
 
-/* The reading of a capture. A count stops at 2^64 - 1. Its receiver can be lent to the receiver's functions. */
+/* The reading of a capture. A count stops at 2^64 - 1. Its receiver can be lent, with its slots, to the functions of
+ * the receiver that keeps early messages. */
 enum {
-    EIDERWAGON_CAPTURE_CODE_AT = 0,       /* its code, or it is over (1) */
-    EIDERWAGON_CAPTURE_STAGE_AT = 1,      /* its stage (1); with the code only 2 is records and every other byte
-                                             settings, without it only 3 is done and every other settings refused */
-    EIDERWAGON_CAPTURE_RECEIVER_AT = 2,   /* a receiver (EIDERWAGON_RECEIVER_SIZE) */
-    EIDERWAGON_CAPTURE_RECORDS_AT = 23,   /* records read (8; above 2^32 - 1 counts as that) */
-    EIDERWAGON_CAPTURE_DELIVERED_AT = 31, /* messages delivered (8) */
-    EIDERWAGON_CAPTURE_OLD_AT = 39,       /* answers old (8) */
-    EIDERWAGON_CAPTURE_QUIET_AT = 47,     /* answers quiet (8) */
-    EIDERWAGON_CAPTURE_ASKED_AT = 55,     /* answers asked (8) */
-    EIDERWAGON_CAPTURE_REFUSED_AT = 63,   /* refusals (8) */
-    EIDERWAGON_CAPTURE_SIZE = 71,         /* a reading */
-    EIDERWAGON_CAPTURE_OPEN = 0xE5,       /* the code of a reading that isn't over */
-    EIDERWAGON_CAPTURE_BAD = 0,           /* settings refused */
-    EIDERWAGON_CAPTURE_SETTINGS = 1,      /* settings come next */
-    EIDERWAGON_CAPTURE_RECORDS = 2,       /* records come next */
-    EIDERWAGON_CAPTURE_DONE = 3           /* done */
+    EIDERWAGON_CAPTURE_CODE_AT = 0,        /* its code, or it is over (1) */
+    EIDERWAGON_CAPTURE_STAGE_AT = 1,       /* its stage (1); with the code only 2 is records and every other byte
+                                              settings, without it only 3 is done and every other settings refused */
+    EIDERWAGON_CAPTURE_RECEIVER_AT = 2,    /* a receiver that keeps early messages (EIDERWAGON_EARLY_SIZE) */
+    EIDERWAGON_CAPTURE_RECORDS_AT = 159,   /* records read (8; above 2^32 - 1 counts as that) */
+    EIDERWAGON_CAPTURE_DELIVERED_AT = 167, /* messages delivered (8) */
+    EIDERWAGON_CAPTURE_OLD_AT = 175,       /* answers old (8) */
+    EIDERWAGON_CAPTURE_QUIET_AT = 183,     /* answers quiet (8) */
+    EIDERWAGON_CAPTURE_ASKED_AT = 191,     /* requests drawn, beside whatever answer (8) */
+    EIDERWAGON_CAPTURE_REFUSED_AT = 199,   /* refusals (8) */
+    EIDERWAGON_CAPTURE_SIZE = 207,         /* a reading */
+    EIDERWAGON_CAPTURE_OPEN = 0xE5,        /* the code of a reading that isn't over */
+    EIDERWAGON_CAPTURE_BAD = 0,            /* settings refused */
+    EIDERWAGON_CAPTURE_SETTINGS = 1,       /* settings come next */
+    EIDERWAGON_CAPTURE_RECORDS = 2,        /* records come next */
+    EIDERWAGON_CAPTURE_DONE = 3            /* done */
 };
 
 /* ---- Writers ----------------------------------------------------------------------------------------------------- */
@@ -402,8 +432,9 @@ enum {
 };
 
 /* Takes one datagram as it came; eiderwagon_receiver_walk finds the messages that it delivers. Requests are paced by
- * the host: a datagram ahead isn't kept, and each one asks again, so that one loss is answered by many
- * EIDERWAGON_RECEIVER_ASK. Send the first, and another only where its first number differs or a while has passed.
+ * the host: this receiver keeps no datagram that is ahead, and each one asks again, so that one loss is answered by
+ * many EIDERWAGON_RECEIVER_ASK. Send the first, and another only where its first number differs or a while has passed.
+ * Where packets swap places, eiderwagon_early_take keeps what is ahead and asks for less.
  *   state:     EIDERWAGON_RECEIVER_SIZE bytes, read and written
  *   words:     EIDERWAGON_TAKE_WORDS
  *   refusals:  11, 12, 13, 14, 15, 16, 41, 17, 18, 20, 41. 17 for another session than the receiver's, and, while that
@@ -441,6 +472,144 @@ uint32_t eiderwagon_receiver_deliver(uint8_t *state, size_t state_size, const ui
  *   refusals:  41 */
 uint32_t eiderwagon_receiver_walk(const uint8_t *datagram, size_t datagram_size, uint16_t count, uint16_t skipped,
                                   uint8_t *cursor, size_t cursor_size);
+
+/* ---- The receiver that keeps early messages ---------------------------------------------------------------------- */
+
+/* It is the receiver above with 64 slots of 1,024 bytes, in which it holds messages that come before their turn: those
+ * of the next 64 numbers behind the one that it expects, of at most 1,024 bytes. A datagram's messages are taken one at
+ * a time: the expected one is delivered, of any length, and then every held one that follows without a gap. So what a
+ * datagram delivers may lie partly in the datagram and partly in the slots.
+ *
+ * The slots are EIDERWAGON_SLOTS_SIZE bytes that you keep beside the state, of any bytes at first. Lend them to each
+ * call as the one before left them, and let nothing else write there; those of another size are refused with 19.
+ *
+ * Find the messages of a datagram before you take it: eiderwagon_early_walk and eiderwagon_early_next, or
+ * eiderwagon_early_locate by place, say where each one lies that it will deliver. eiderwagon_early_deliver does it all
+ * in one call. A step that delivers changes no slot, so its messages lie there after it too, until the next one. */
+
+/* Starts a receiver as eiderwagon_receiver_start does, with nothing held. No slots are needed yet.
+ *   session:   EIDERWAGON_SESSION_SIZE bytes, ten spaces where it isn't known yet
+ *   state:     EIDERWAGON_EARLY_SIZE bytes, written; the word of held numbers and all lengths are 0
+ *   refusals:  19, 41. 19 also for a session that isn't ten bytes */
+uint32_t eiderwagon_early_start(const uint8_t *session, size_t session_size, uint64_t next, uint16_t limit,
+                                uint8_t *state, size_t state_size);
+
+/* What a receiver that keeps early messages answers, by the number that it expects before the step. Each but ended may
+ * draw a request too. */
+enum {
+    EIDERWAGON_EARLY_DELIVER = 1, /* deliver messages, of this datagram and of the slots */
+    EIDERWAGON_EARLY_OLD = 2,     /* nothing new */
+    EIDERWAGON_EARLY_QUIET = 3,   /* a heartbeat at the expected number */
+    EIDERWAGON_EARLY_AHEAD = 4,   /* messages are missing before this datagram; what fits the slots is held */
+    EIDERWAGON_EARLY_ENDED = 5    /* the session is over, and nothing is missing */
+};
+
+/* The words of eiderwagon_early_take and of eiderwagon_early_deliver. */
+enum {
+    EIDERWAGON_EARLY_TAKE_ANSWER = 0,  /* what to do */
+    EIDERWAGON_EARLY_TAKE_FIRST = 1,   /* of deliver: the number of the first message delivered */
+    EIDERWAGON_EARLY_TAKE_COUNT = 2,   /* of deliver: how many are delivered, those of the slots too */
+    EIDERWAGON_EARLY_TAKE_SKIPPED = 3, /* of deliver: how many of the datagram's messages are skipped before those */
+    EIDERWAGON_EARLY_TAKE_ASKS = 4,    /* 1 if messages are missing: send a request, if none is under way; else 0 */
+    EIDERWAGON_EARLY_TAKE_FROM = 5,    /* where it asks: the first number wanted */
+    EIDERWAGON_EARLY_TAKE_WANTED = 6,  /* where it asks: how many */
+    EIDERWAGON_EARLY_TAKE_WORDS = 7    /* how many words */
+};
+
+/* Takes one datagram as it came. After the step it asks exactly where something is held or the datagram's number is
+ * above the expected one: from the expected number to just below the lowest held one, or, where nothing is held, the
+ * datagram's, within the limit. Requests are paced by the host, as those of eiderwagon_receiver_take: while a message
+ * is missing, each datagram asks for it again.
+ *   state:     EIDERWAGON_EARLY_SIZE bytes, read and written
+ *   slots:     EIDERWAGON_SLOTS_SIZE bytes, read, and written where a message is held: from the first byte of its slot
+ *              on as many as it has, and no other
+ *   words:     EIDERWAGON_EARLY_TAKE_WORDS
+ *   refusals:  11, 12, 13, 14, 15, 16, 41, 17, 18, 19, 20, 41. 17 as at eiderwagon_receiver_take; 19 for slots of
+ *              another size */
+uint32_t eiderwagon_early_take(uint8_t *state, size_t state_size, uint8_t *slots, size_t slots_size,
+                               const uint8_t *datagram, size_t datagram_size, uint64_t *words, size_t words_size);
+
+/* The words of eiderwagon_early_count. */
+enum {
+    EIDERWAGON_EARLY_COUNT_COUNT = 0, /* how many messages the datagram will deliver */
+    EIDERWAGON_EARLY_COUNT_WORDS = 1  /* how many words */
+};
+
+/* Says how many messages a datagram will deliver: 0 where it would be refused.
+ *   state:     EIDERWAGON_EARLY_SIZE bytes, read
+ *   slots:     EIDERWAGON_SLOTS_SIZE bytes, read
+ *   words:     EIDERWAGON_EARLY_COUNT_WORDS
+ *   refusals:  41, 19, 41 */
+uint32_t eiderwagon_early_count(const uint8_t *state, size_t state_size, const uint8_t *slots, size_t slots_size,
+                                const uint8_t *datagram, size_t datagram_size, uint64_t *words, size_t words_size);
+
+/* The words of eiderwagon_early_locate and of eiderwagon_early_next. */
+enum {
+    EIDERWAGON_PART_FOUND = 0,  /* 1 if a message is there, else 0 */
+    EIDERWAGON_PART_HELD = 1,   /* 1 if it lies in the slots, 0 if in the datagram */
+    EIDERWAGON_PART_OFFSET = 2, /* the offset of its first byte there */
+    EIDERWAGON_PART_LENGTH = 3, /* its length, perhaps 0 */
+    EIDERWAGON_PART_WORDS = 4   /* how many words */
+};
+
+/* Finds one of the messages that a datagram will deliver by its place, from 0. It lies in the slots if it is held
+ * there, though the datagram has it too. To visit several, walk.
+ *   state:     EIDERWAGON_EARLY_SIZE bytes, read
+ *   slots:     EIDERWAGON_SLOTS_SIZE bytes, read
+ *   words:     EIDERWAGON_PART_WORDS
+ *   refusals:  41, 19, 41 */
+uint32_t eiderwagon_early_locate(const uint8_t *state, size_t state_size, const uint8_t *slots, size_t slots_size,
+                                 const uint8_t *datagram, size_t datagram_size, uint16_t place,
+                                 uint64_t *words, size_t words_size);
+
+/* Sets a walk to the first message that a datagram will deliver: the number is the expected one, and the place stands
+ * behind those of the datagram's messages that have lower numbers. Where it will deliver none, none are left; in a
+ * datagram that eiderwagon_mold_read refuses the place is 20, with no messages there.
+ *   state:     EIDERWAGON_EARLY_SIZE bytes, read
+ *   slots:     EIDERWAGON_SLOTS_SIZE bytes, read
+ *   cursor:    EIDERWAGON_WALK_SIZE bytes, written
+ *   refusals:  41, 19, 41. First 41 for the state, last for the cursor */
+uint32_t eiderwagon_early_walk(const uint8_t *state, size_t state_size, const uint8_t *slots, size_t slots_size,
+                               const uint8_t *datagram, size_t datagram_size, uint8_t *cursor, size_t cursor_size);
+
+/* Answers the message at a walk, and moves the walk to the next one. Lend the state, the slots and the datagram that
+ * the walk was set for, before the datagram is taken; any others are safe too, and then the answer is about theirs.
+ * Where none is left, or the message to come is neither held nor at the walk's place, no message is there and no byte
+ * of the walk changes.
+ *   cursor:    EIDERWAGON_WALK_SIZE bytes, read, and written where a message is there
+ *   state:     EIDERWAGON_EARLY_SIZE bytes, read
+ *   slots:     EIDERWAGON_SLOTS_SIZE bytes, read
+ *   words:     EIDERWAGON_PART_WORDS
+ *   refusals:  41, 19, 41. First 41 for the cursor and for the state */
+uint32_t eiderwagon_early_next(uint8_t *cursor, size_t cursor_size, const uint8_t *state, size_t state_size,
+                               const uint8_t *slots, size_t slots_size, const uint8_t *datagram, size_t datagram_size,
+                               uint64_t *words, size_t words_size);
+
+/* The words of a place, where eiderwagon_early_deliver lays one for each delivered message. */
+enum {
+    EIDERWAGON_EARLY_PLACE_HELD = 0,     /* 1 if the message lies in the slots, 0 if in the datagram */
+    EIDERWAGON_EARLY_PLACE_OFFSET = 1,   /* the offset of its first byte there */
+    EIDERWAGON_EARLY_PLACE_LENGTH = 2,   /* its length, perhaps 0 */
+    EIDERWAGON_EARLY_PLACE_WORDS = 3,    /* how many words a place has */
+    EIDERWAGON_EARLY_MOST_PLACES = 98421 /* how many words are enough for the places of every datagram: three for each
+                                            of the 32,743 messages that it may have, and of the 64 that are held */
+};
+
+/* Takes one datagram as eiderwagon_early_take does, with the same words and the same answers, and lays a place for each
+ * message that an EIDERWAGON_EARLY_DELIVER answer delivers, in order. It is the fastest way to all messages of a
+ * datagram: one call, and no walk before it. Words behind the last place aren't touched. Any other answer needs no
+ * place and lays none.
+ *   state:     EIDERWAGON_EARLY_SIZE bytes, read and written
+ *   slots:     EIDERWAGON_SLOTS_SIZE bytes, read and written as by eiderwagon_early_take; the delivered messages lie
+ *              there as before
+ *   words:     EIDERWAGON_EARLY_TAKE_WORDS
+ *   places:    EIDERWAGON_EARLY_PLACE_WORDS for each delivered message, written; EIDERWAGON_EARLY_MOST_PLACES are
+ *              always enough
+ *   refusals:  11, 12, 13, 14, 15, 16, 41, 17, 18, 19, 20, 41. The last 41 for too few words, and for too few places
+ *              for what is delivered: nothing has changed, so lend more and call again */
+uint32_t eiderwagon_early_deliver(uint8_t *state, size_t state_size, uint8_t *slots, size_t slots_size,
+                                  const uint8_t *datagram, size_t datagram_size, uint64_t *words, size_t words_size,
+                                  uint64_t *places, size_t places_size);
 
 /* ---- A branch store ---------------------------------------------------------------------------------------------- */
 
@@ -716,12 +885,13 @@ uint32_t eiderwagon_client_step(uint8_t *state, size_t state_size, const uint8_t
 
 /* A capture is three lines, `session=` with ten bytes from 0x20 to 0x7E that aren't all spaces, `next=` with 1 to
  * 2^64 - 1 and `limit=` with 1 to 65534, each ended by one line feed, numbers without leading zeros; and then records,
- * each a length of 2 bytes, big-endian, and so many bytes: one datagram as it came. Its report is eight lines:
- * `session=`, `next=`, `ended=` (yes or no), `delivered=` (messages), `old=`, `quiet=`, `asked=`, `refused=` (answers);
- * or the one line `settings=refused`, which is no refusal of these functions. */
+ * each a length of 2 bytes, big-endian, and so many bytes: one datagram as it came. A receiver that keeps early
+ * messages takes them. Its report is eight lines: `session=`, `next=`, `ended=` (yes or no), `delivered=` (messages),
+ * `old=`, `quiet=` (answers), `asked=` (requests drawn, those beside another answer too) and `refused=`; or the one
+ * line `settings=refused`, which is no refusal of these functions. */
 
 /* Starts the reading of a capture in pieces. Until settings are read its receiver is an ended one, its name ten spaces,
- * its next number and its limit 1; bad settings leave it as it is.
+ * its next number and its limit 1, with nothing held; bad settings leave it as it is. No slots are needed yet.
  *   state:     EIDERWAGON_CAPTURE_SIZE bytes, written
  *   refusals:  41 */
 uint32_t eiderwagon_capture_start(uint8_t *state, size_t state_size);
@@ -738,16 +908,20 @@ enum {
  * bytes are too few to tell: none are used then. Once the reading is over, by bad settings, by 2^32 - 1 records or by
  * eiderwagon_capture_finish, a feed uses all of its bytes, and so does the one that ends it.
  *   state:     EIDERWAGON_CAPTURE_SIZE bytes, read and written
+ *   slots:     EIDERWAGON_SLOTS_SIZE bytes, as eiderwagon_early_take has them: of any bytes at first, and lent to each
+ *              call as the one before left them
  *   words:     EIDERWAGON_FEED_WORDS
- *   refusals:  41 */
-uint32_t eiderwagon_capture_feed(uint8_t *state, size_t state_size, const uint8_t *bytes, size_t bytes_size,
-                                 uint64_t *words, size_t words_size);
+ *   refusals:  41, 19, 41. 19 for slots of another size */
+uint32_t eiderwagon_capture_feed(uint8_t *state, size_t state_size, uint8_t *slots, size_t slots_size,
+                                 const uint8_t *bytes, size_t bytes_size, uint64_t *words, size_t words_size);
 
 /* Feeds the last bytes: those that were kept, with what came behind them. A record that is cut short counts as one
  * refusal.
  *   state:     EIDERWAGON_CAPTURE_SIZE bytes, read and written
- *   refusals:  41 */
-uint32_t eiderwagon_capture_finish(uint8_t *state, size_t state_size, const uint8_t *bytes, size_t bytes_size);
+ *   slots:     EIDERWAGON_SLOTS_SIZE bytes, as at eiderwagon_capture_feed
+ *   refusals:  41, 19. 19 for slots of another size */
+uint32_t eiderwagon_capture_finish(uint8_t *state, size_t state_size, uint8_t *slots, size_t slots_size,
+                                   const uint8_t *bytes, size_t bytes_size);
 
 /* Writes what was read so far as a report, or `settings=refused` while no settings were read.
  *   state:     EIDERWAGON_CAPTURE_SIZE bytes, read
@@ -757,7 +931,8 @@ uint32_t eiderwagon_capture_finish(uint8_t *state, size_t state_size, const uint
 uint32_t eiderwagon_capture_write(const uint8_t *state, size_t state_size,
                                   uint8_t *out, size_t out_size, uint64_t *words, size_t words_size);
 
-/* Writes the report of a whole capture.
+/* Writes the report of a whole capture. The call keeps the slots and lengths of its receiver on the stack, 65,664
+ * bytes: run it where the stack has room for them.
  *   out:       EIDERWAGON_LARGEST_REPORT bytes are enough
  *   words:     EIDERWAGON_WRITE_WORDS
  *   refusals:  41 */

@@ -1,7 +1,7 @@
 /* A test that each exported function does what eiderwagon.h says, and that the header itself holds.
  *
- * ../test.sh builds and runs it. feed.c, login.c and branch.c, beside it, are the examples. The parts, in order:
- *   1. a MoldUDP64 receiver, with a gap,     5. what is done, and that it changes no more than it says
+ * ../test.sh builds and runs it. feed.c, early.c, login.c and branch.c, beside it, are the examples. The parts:
+ *   1. both MoldUDP64 receivers, with gaps,  5. what is done, and that it changes no more than it says
  *      a store and a transmitter             6. states: open by their own code alone, and made by hand
  *   2. a SoupBinTCP login and session        7. buffers with no elements, at NULL
  *   3. a capture, whole and in pieces        8. the version, codes, and grounds in words
@@ -196,6 +196,89 @@ static void follow_a_feed(void) {
     }
     CHECK(take(receiver, &end, &request) == EIDERWAGON_RECEIVER_ENDED);
     CHECK(receiver[EIDERWAGON_RECEIVER_CODE_AT] == 0);
+}
+
+/* Shows the messages that a datagram will deliver to a receiver that keeps early ones, as a walk finds them; each is
+ * also had by its place. */
+static void show_early(const uint8_t *receiver, const uint8_t *slots, const Bytes *datagram, const uint64_t *places) {
+    uint8_t walk[EIDERWAGON_WALK_SIZE];
+    uint64_t words[EIDERWAGON_PART_WORDS];
+    uint64_t located[EIDERWAGON_PART_WORDS];
+    uint64_t count[EIDERWAGON_EARLY_COUNT_WORDS];
+    uint64_t number = number_in(receiver, EIDERWAGON_EARLY_NEXT_AT, 8);
+    DONE(eiderwagon_early_count(receiver, EIDERWAGON_EARLY_SIZE, slots, EIDERWAGON_SLOTS_SIZE, datagram->bytes,
+                                datagram->size, LEND(count)));
+    DONE(eiderwagon_early_walk(receiver, EIDERWAGON_EARLY_SIZE, slots, EIDERWAGON_SLOTS_SIZE, datagram->bytes,
+                               datagram->size, LEND(walk)));
+    CHECK(number_in(walk, EIDERWAGON_WALK_NUMBER_AT, 8) == number);
+    for (uint16_t place = 0; place <= count[EIDERWAGON_EARLY_COUNT_COUNT]; place++) {
+        CHECK(number_in(walk, EIDERWAGON_WALK_LEFT_AT, 2) == count[EIDERWAGON_EARLY_COUNT_COUNT] - place);
+        DONE(eiderwagon_early_locate(receiver, EIDERWAGON_EARLY_SIZE, slots, EIDERWAGON_SLOTS_SIZE, datagram->bytes,
+                                     datagram->size, place, LEND(located)));
+        DONE(eiderwagon_early_next(LEND(walk), receiver, EIDERWAGON_EARLY_SIZE, slots, EIDERWAGON_SLOTS_SIZE,
+                                   datagram->bytes, datagram->size, LEND(words)));
+        CHECK(memcmp(words, located, sizeof words) == 0);
+        CHECK(WORD(PART_FOUND) == (place < count[EIDERWAGON_EARLY_COUNT_COUNT]));
+        if (WORD(PART_FOUND) == 0) {
+            break;
+        }
+        CHECK(places[EIDERWAGON_EARLY_PLACE_HELD] == WORD(PART_HELD));
+        CHECK(places[EIDERWAGON_EARLY_PLACE_OFFSET] == WORD(PART_OFFSET));
+        CHECK(places[EIDERWAGON_EARLY_PLACE_LENGTH] == WORD(PART_LENGTH));
+        places += EIDERWAGON_EARLY_PLACE_WORDS;
+        size_t used = strlen(screen);
+        const uint8_t *message = (WORD(PART_HELD) == 1 ? slots : datagram->bytes) + WORD(PART_OFFSET);
+        snprintf(screen + used, sizeof screen - used, "%" PRIu64 " %.*s\n", number, (int)WORD(PART_LENGTH),
+                 (const char *)message);
+        number += 1;
+    }
+}
+
+/* Gives it one datagram, which answers `wanted`: the step with places, on a copy, and the one without do the same. */
+static void take_early(uint8_t *receiver, uint8_t *slots, Bytes datagram, const uint64_t *wanted) {
+    static uint8_t copy[EIDERWAGON_SLOTS_SIZE];
+    uint8_t other[EIDERWAGON_EARLY_SIZE];
+    uint64_t words[EIDERWAGON_EARLY_TAKE_WORDS];
+    uint64_t places[8 * EIDERWAGON_EARLY_PLACE_WORDS];
+    memcpy(other, receiver, sizeof other);
+    memcpy(copy, slots, sizeof copy);
+    DONE(eiderwagon_early_deliver(LEND(other), LEND(copy), datagram.bytes, datagram.size, LEND(words), LEND(places)));
+    CHECK(memcmp(words, wanted, sizeof words) == 0);
+    show_early(receiver, slots, &datagram, places);
+    DONE(eiderwagon_early_take(receiver, EIDERWAGON_EARLY_SIZE, slots, EIDERWAGON_SLOTS_SIZE, datagram.bytes,
+                               datagram.size, LEND(words)));
+    CHECK(memcmp(words, wanted, sizeof words) == 0);
+    CHECK(memcmp(other, receiver, sizeof other) == 0 && memcmp(copy, slots, sizeof copy) == 0);
+}
+
+/* The words of an answer with its request. */
+#define ANSWERS(...) ((const uint64_t[EIDERWAGON_EARLY_TAKE_WORDS]){__VA_ARGS__})
+
+static void keep_early_messages(void) {
+    static uint8_t slots[EIDERWAGON_SLOTS_SIZE];
+    uint8_t receiver[EIDERWAGON_EARLY_SIZE] = {0};
+    screen[0] = '\0';
+    memset(slots, 0xA5, sizeof slots);
+    DONE(eiderwagon_early_start(LEND(name), 1, 100, LEND(receiver)));
+    take_early(receiver, slots, data(3, 2, (const uint16_t[]){5, 0}, "three"),
+               ANSWERS(EIDERWAGON_EARLY_AHEAD, 0, 0, 0, 1, 1, 2));
+    CHECK(number_in(receiver, EIDERWAGON_EARLY_HELD_AT, 8) == 6);
+    CHECK(same(slots + 3 * EIDERWAGON_SLOT_SIZE, 5, "three") && slots[3 * EIDERWAGON_SLOT_SIZE + 5] == 0xA5);
+    CHECK(receiver[EIDERWAGON_EARLY_LENGTHS_AT + 6] == 0 && receiver[EIDERWAGON_EARLY_LENGTHS_AT + 7] == 5);
+    take_early(receiver, slots, data(6, 1, (const uint16_t[]){3}, "six"),
+               ANSWERS(EIDERWAGON_EARLY_AHEAD, 0, 0, 0, 1, 1, 2));
+    take_early(receiver, slots, heartbeat(1), ANSWERS(EIDERWAGON_EARLY_QUIET, 0, 0, 0, 1, 1, 2));
+    take_early(receiver, slots, data(1, 2, (const uint16_t[]){3, 3}, "onetwo"),
+               ANSWERS(EIDERWAGON_EARLY_DELIVER, 1, 4, 0, 1, 5, 1));
+    take_early(receiver, slots, heartbeat(2), ANSWERS(EIDERWAGON_EARLY_OLD, 0, 0, 0, 1, 5, 1));
+    take_early(receiver, slots, data(4, 2, (const uint16_t[]){0, 4}, "five"),
+               ANSWERS(EIDERWAGON_EARLY_DELIVER, 5, 2, 1, 0, 0, 0));
+    take_early(receiver, slots, data(9, 1, (const uint16_t[]){4}, "nine"),
+               ANSWERS(EIDERWAGON_EARLY_AHEAD, 0, 0, 0, 1, 7, 2));
+    take_early(receiver, slots, end_of_session(7), ANSWERS(EIDERWAGON_EARLY_ENDED, 0, 0, 0, 0, 0, 0));
+    CHECK(number_in(receiver, EIDERWAGON_EARLY_HELD_AT, 8) == 0);
+    CHECK(receiver[EIDERWAGON_EARLY_CODE_AT] != EIDERWAGON_EARLY_OPEN);
+    CHECK(strcmp(screen, "1 one\n2 two\n3 three\n4 \n5 five\n6 six\n") == 0);
 }
 
 /* The messages of a store and of a run: "one", "", "three" and "four", from number 6 on. */
@@ -446,7 +529,7 @@ static const char report[] = "session=READROOM01\n"
                              "next=6\n"
                              "ended=yes\n"
                              "delivered=5\n"
-                             "old=1\n"
+                             "old=2\n"
                              "quiet=1\n"
                              "asked=2\n"
                              "refused=1\n";
@@ -483,17 +566,18 @@ static void report_in_pieces(const Bytes *capture, size_t piece) {
     uint8_t out[EIDERWAGON_LARGEST_REPORT];
     Bytes kept = {{0}, 0};
     uint64_t words[EIDERWAGON_FEED_WORDS];
+    static uint8_t slots[EIDERWAGON_SLOTS_SIZE];
     DONE(eiderwagon_capture_start(LEND(reading)));
     for (size_t at = 0; at < capture->size; at += piece) {
         size_t left = capture->size - at;
         size_t came = left < piece ? left : piece;
         memcpy(kept.bytes + kept.size, capture->bytes + at, came);
         kept.size += came;
-        DONE(eiderwagon_capture_feed(LEND(reading), kept.bytes, kept.size, LEND(words)));
+        DONE(eiderwagon_capture_feed(LEND(reading), LEND(slots), kept.bytes, kept.size, LEND(words)));
         CHECK(WORD(FEED_USED) <= kept.size && WORD(FEED_OVER) == 0);
         pass(&kept, WORD(FEED_USED));
     }
-    DONE(eiderwagon_capture_finish(LEND(reading), kept.bytes, kept.size));
+    DONE(eiderwagon_capture_finish(LEND(reading), LEND(slots), kept.bytes, kept.size));
     DONE(eiderwagon_capture_write(LEND(reading), LEND(out), LEND(words)));
     CHECK(same(out, WORD(WRITE_SIZE), report));
 }
@@ -510,7 +594,7 @@ static void report_captures(void) {
     /* A last record that is cut short counts as one refusal: here the end of session, which then isn't seen. */
     DONE(eiderwagon_capture_report(capture.bytes, capture.size - 1, LEND(out), LEND(words)));
     CHECK(same(out, WORD(WRITE_SIZE),
-               "session=READROOM01\nnext=6\nended=no\ndelivered=5\nold=1\nquiet=1\nasked=2\nrefused=2\n"));
+               "session=READROOM01\nnext=6\nended=no\ndelivered=5\nold=2\nquiet=1\nasked=2\nrefused=2\n"));
     /* Bad settings are a report too, and no refusal. */
     DONE(eiderwagon_capture_report(TEXT("session=short\n"), LEND(out), LEND(words)));
     CHECK(same(out, WORD(WRITE_SIZE), "settings=refused\n"));
@@ -523,9 +607,13 @@ static struct {
     uint8_t state[EIDERWAGON_CAPTURE_SIZE];
     uint8_t cursor[EIDERWAGON_CURSOR_SIZE];
     uint8_t out[EIDERWAGON_LARGEST_PACKET];
-    uint64_t words[EIDERWAGON_SERVER_REPLY_WORDS]; /* no function has more */
-    uint64_t places[4 * EIDERWAGON_PLACE_WORDS];
+    uint64_t words[EIDERWAGON_EARLY_TAKE_WORDS]; /* no function has more */
+    uint64_t places[4 * EIDERWAGON_EARLY_PLACE_WORDS];
+    uint8_t walk[EIDERWAGON_WALK_SIZE];
+    uint8_t slots[EIDERWAGON_SLOTS_SIZE];
 } lent, before;
+
+#define SLOTS LEND(lent.slots)
 
 #define LENT(name) lent.words[EIDERWAGON_##name]
 
@@ -542,6 +630,8 @@ static const uint16_t too_many_lengths[65535];
 
 /* The first elements of a buffer: fewer than the call needs, or just as many. */
 #define STATE(size) lent.state, (size_t)(size)
+#define WALK(size) lent.walk, (size_t)(size)
+#define SLOTS_OF(size) lent.slots, (size_t)(size)
 #define OUT(size) lent.out, (size_t)(size)
 #define PLACES(size) lent.places, (size_t)(size)
 #define PART(array, size) (array), (size_t)(size)
@@ -704,6 +794,74 @@ static void refuse_to_deliver(void) {
     DONE(eiderwagon_receiver_deliver(LEND(lent.state), end_at_five.bytes, end_at_five.size, WORDS(TAKE), PLACES(0)));
     REFUSED(SESSION_ENDED, eiderwagon_receiver_deliver(LEND(lent.state), end_at_five.bytes, end_at_five.size,
                                                        FEWER(TAKE), PLACES(0)));
+}
+
+/* The receiver that keeps early messages: 19, for slots of another size, stands between 18 and 20. */
+static void refuse_at_an_early_receiver(void) {
+    const Bytes five = data(5, 2, (const uint16_t[]){4, 3}, "fivesix");
+    const Bytes end_at_four = end_of_session(4);
+    const Bytes end_at_five = end_of_session(5);
+    const size_t slots = EIDERWAGON_SLOTS_SIZE;
+    const size_t size = EIDERWAGON_EARLY_SIZE;
+    Bytes other = five;
+    other.bytes[9] = '2';
+
+    REFUSED(BAD_SETTING, eiderwagon_early_start(name, 9, 5, 100, STATE(size - 1)));
+    REFUSED(BAD_SETTING, eiderwagon_early_start(LEND(name), 0, 100, STATE(size - 1)));
+    REFUSED(BAD_SETTING, eiderwagon_early_start(LEND(name), 5, 0, LEND(lent.state)));
+    REFUSED(BAD_SETTING, eiderwagon_early_start(LEND(name), 5, 65535, LEND(lent.state)));
+    REFUSED(OUTPUT_SHORT, eiderwagon_early_start(LEND(name), 5, 100, STATE(size - 1)));
+
+    DONE(eiderwagon_early_start(LEND(name), 5, 100, LEND(lent.state)));
+    for (int at_once = 0; at_once <= 1; at_once++) {
+#define EARLY(state, slots, datagram, datagram_size, words, places)                                \
+    (at_once ? eiderwagon_early_deliver(state, slots, (datagram).bytes, datagram_size, words, places) \
+             : eiderwagon_early_take(state, slots, (datagram).bytes, datagram_size, words))
+        REFUSED(DATAGRAM_SHORT, EARLY(STATE(size - 1), SLOTS_OF(0), five, 19, FEWER(EARLY_TAKE), PLACES(0)));
+        REFUSED(OUTPUT_SHORT,
+                EARLY(STATE(size - 1), SLOTS_OF(0), other, other.size, FEWER(EARLY_TAKE), PLACES(0)));
+        REFUSED(SESSION_DIFFERS,
+                EARLY(LEND(lent.state), SLOTS_OF(0), other, other.size, FEWER(EARLY_TAKE), PLACES(0)));
+        REFUSED(BAD_SETTING,
+                EARLY(LEND(lent.state), SLOTS_OF(slots - 1), end_at_four, end_at_four.size, FEWER(EARLY_TAKE),
+                      PLACES(0)));
+        REFUSED(END_BELOW_EXPECTED,
+                EARLY(LEND(lent.state), SLOTS, end_at_four, end_at_four.size, FEWER(EARLY_TAKE), PLACES(0)));
+        REFUSED(OUTPUT_SHORT, EARLY(LEND(lent.state), SLOTS, five, five.size, FEWER(EARLY_TAKE), PLACES(6)));
+    }
+    REFUSED(OUTPUT_SHORT, eiderwagon_early_deliver(LEND(lent.state), SLOTS, five.bytes, five.size, WORDS(EARLY_TAKE),
+                                                   PLACES(5)));
+
+    /* What only reads: first too short a state, then the slots, then what it would write. */
+    REFUSED(OUTPUT_SHORT,
+            eiderwagon_early_count(STATE(size - 1), SLOTS_OF(0), five.bytes, five.size, FEWER(EARLY_COUNT)));
+    REFUSED(BAD_SETTING,
+            eiderwagon_early_count(LEND(lent.state), SLOTS_OF(slots - 1), five.bytes, five.size, FEWER(EARLY_COUNT)));
+    REFUSED(OUTPUT_SHORT, eiderwagon_early_count(LEND(lent.state), SLOTS, five.bytes, five.size, FEWER(EARLY_COUNT)));
+    REFUSED(OUTPUT_SHORT,
+            eiderwagon_early_locate(STATE(size - 1), SLOTS_OF(0), five.bytes, five.size, 0, FEWER(PART)));
+    REFUSED(BAD_SETTING,
+            eiderwagon_early_locate(LEND(lent.state), SLOTS_OF(0), five.bytes, five.size, 0, FEWER(PART)));
+    REFUSED(OUTPUT_SHORT, eiderwagon_early_locate(LEND(lent.state), SLOTS, five.bytes, five.size, 0, FEWER(PART)));
+    REFUSED(OUTPUT_SHORT,
+            eiderwagon_early_walk(STATE(size - 1), SLOTS_OF(0), five.bytes, five.size, WALK(0)));
+    REFUSED(BAD_SETTING, eiderwagon_early_walk(LEND(lent.state), SLOTS_OF(0), five.bytes, five.size, WALK(0)));
+    REFUSED(OUTPUT_SHORT, eiderwagon_early_walk(LEND(lent.state), SLOTS, five.bytes, five.size,
+                                                WALK(EIDERWAGON_WALK_SIZE - 1)));
+    DONE(eiderwagon_early_walk(LEND(lent.state), SLOTS, five.bytes, five.size, LEND(lent.walk)));
+    REFUSED(OUTPUT_SHORT, eiderwagon_early_next(WALK(EIDERWAGON_WALK_SIZE - 1), LEND(lent.state), SLOTS_OF(0),
+                                                five.bytes, five.size, FEWER(PART)));
+    REFUSED(OUTPUT_SHORT, eiderwagon_early_next(LEND(lent.walk), STATE(size - 1), SLOTS_OF(0), five.bytes, five.size,
+                                                FEWER(PART)));
+    REFUSED(BAD_SETTING, eiderwagon_early_next(LEND(lent.walk), LEND(lent.state), SLOTS_OF(0), five.bytes, five.size,
+                                               FEWER(PART)));
+    REFUSED(OUTPUT_SHORT, eiderwagon_early_next(LEND(lent.walk), LEND(lent.state), SLOTS, five.bytes, five.size,
+                                                FEWER(PART)));
+
+    DONE(eiderwagon_early_take(LEND(lent.state), SLOTS, end_at_five.bytes, end_at_five.size, WORDS(EARLY_TAKE)));
+    CHECK(LENT(EARLY_TAKE_ANSWER) == EIDERWAGON_EARLY_ENDED);
+    REFUSED(SESSION_ENDED, eiderwagon_early_take(LEND(lent.state), SLOTS_OF(0), five.bytes, five.size,
+                                                 FEWER(EARLY_TAKE)));
 }
 
 /* A receiver of a session that isn't known is named by any answer, and by no refusal: until then 17 is ten spaces, and
@@ -1041,9 +1199,16 @@ static void refuse_at_a_client(void) {
 static void refuse_captures(void) {
     REFUSED(OUTPUT_SHORT, eiderwagon_capture_start(STATE(EIDERWAGON_CAPTURE_SIZE - 1)));
     DONE(eiderwagon_capture_start(LEND(lent.state)));
-    REFUSED(OUTPUT_SHORT, eiderwagon_capture_feed(STATE(EIDERWAGON_CAPTURE_SIZE - 1), TEXT("bad"), WORDS(FEED)));
-    REFUSED(OUTPUT_SHORT, eiderwagon_capture_feed(LEND(lent.state), TEXT("bad"), FEWER(FEED)));
-    REFUSED(OUTPUT_SHORT, eiderwagon_capture_finish(STATE(EIDERWAGON_CAPTURE_SIZE - 1), TEXT("bad")));
+    REFUSED(OUTPUT_SHORT, eiderwagon_capture_feed(STATE(EIDERWAGON_CAPTURE_SIZE - 1), SLOTS, TEXT("bad"), WORDS(FEED)));
+    REFUSED(OUTPUT_SHORT, eiderwagon_capture_feed(LEND(lent.state), SLOTS, TEXT("bad"), FEWER(FEED)));
+    REFUSED(OUTPUT_SHORT, eiderwagon_capture_finish(STATE(EIDERWAGON_CAPTURE_SIZE - 1), SLOTS, TEXT("bad")));
+    /* slots of another size, behind a short state and before too few words */
+    REFUSED(OUTPUT_SHORT,
+            eiderwagon_capture_feed(STATE(EIDERWAGON_CAPTURE_SIZE - 1), SLOTS_OF(0), TEXT("bad"), FEWER(FEED)));
+    REFUSED(BAD_SETTING, eiderwagon_capture_feed(LEND(lent.state), SLOTS_OF(0), TEXT("bad"), FEWER(FEED)));
+    REFUSED(OUTPUT_SHORT, eiderwagon_capture_finish(STATE(EIDERWAGON_CAPTURE_SIZE - 1), SLOTS_OF(0), TEXT("bad")));
+    REFUSED(BAD_SETTING,
+            eiderwagon_capture_finish(LEND(lent.state), SLOTS_OF(EIDERWAGON_SLOTS_SIZE - 1), TEXT("bad")));
     REFUSED(OUTPUT_SHORT, eiderwagon_capture_write(STATE(EIDERWAGON_CAPTURE_SIZE - 1), LEND(lent.out), WORDS(WRITE)));
     REFUSED(OUTPUT_SHORT, eiderwagon_capture_write(LEND(lent.state), LEND(lent.out), FEWER(WRITE)));
     REFUSED(OUTPUT_SHORT, eiderwagon_capture_write(LEND(lent.state), OUT(16), WORDS(WRITE)));
@@ -1117,6 +1282,12 @@ static void use_no_more_of_a_state_than_its_size(void) {
     CHECK(untouched(lent.places, sizeof lent.places));
 
     memset(&lent, 0xA5, sizeof lent);
+    USES(EIDERWAGON_EARLY_SIZE, eiderwagon_early_start(LEND(name), 5, 100, LEND(lent.state)));
+    USES(EIDERWAGON_EARLY_SIZE, eiderwagon_early_take(LEND(lent.state), SLOTS, end.bytes, end.size, LEND(lent.words)));
+    CHECK(LENT(EARLY_TAKE_ANSWER) == EIDERWAGON_EARLY_ENDED && LENT(EARLY_TAKE_ASKS) == 0);
+    CHECK(untouched(lent.slots, sizeof lent.slots));
+
+    memset(&lent, 0xA5, sizeof lent);
     USES(EIDERWAGON_SERVER_SIZE, eiderwagon_server_start(LEND(name), 0, LEND(lent.state)));
     USES(EIDERWAGON_SERVER_SIZE,
          eiderwagon_server_step(LEND(lent.state), TEXT(accounts), TEXT(LOGIN), LEND(lent.words)));
@@ -1139,7 +1310,6 @@ static void use_no_more_of_a_state_than_its_size(void) {
     CHECK(LENT(CLIENT_STEP_ANSWER) == EIDERWAGON_SESSION_ACCEPTED && LENT(CLIENT_STEP_NUMBER) == UINT64_MAX);
 }
 
-/* Each part of a state stands where the header says. */
 /* Lays so many words of places, of a receiver that expects number 5. */
 static void lays(size_t laid, Bytes datagram, uint64_t answer) {
     memset(&lent, 0xA5, sizeof lent);
@@ -1186,6 +1356,25 @@ static void have_places_for_the_most_messages(void) {
     CHECK(places[last + EIDERWAGON_PLACE_OFFSET] == size && places[last + EIDERWAGON_PLACE_LENGTH] == 0);
 }
 
+/* The same at a receiver that keeps early messages: three words for each of them, and of the 64 that it may hold. */
+static void have_early_places_for_the_most_messages(void) {
+    static uint8_t datagram[EIDERWAGON_LARGEST_DATAGRAM];
+    static uint64_t places[EIDERWAGON_EARLY_MOST_PLACES];
+    const size_t most = EIDERWAGON_MOST_PLACES / EIDERWAGON_PLACE_WORDS;
+    CHECK(EIDERWAGON_EARLY_MOST_PLACES == EIDERWAGON_EARLY_PLACE_WORDS * (most + 64));
+    DONE(eiderwagon_mold_write_data(LEND(name), 1, too_many_lengths, most, zeros, 0, LEND(datagram), WORDS(WRITE)));
+    const size_t size = LENT(WRITE_SIZE);
+    /* at a receiver made by hand, all of whose slots are held: they are carried by the datagram too */
+    DONE(eiderwagon_early_start(LEND(name), 1, 100, LEND(lent.state)));
+    memset(lent.state + EIDERWAGON_EARLY_HELD_AT, 0xFF, 8);
+    REFUSED(OUTPUT_SHORT, eiderwagon_early_deliver(LEND(lent.state), SLOTS, datagram, size, WORDS(EARLY_TAKE), places,
+                                                   EIDERWAGON_EARLY_PLACE_WORDS * most - 1));
+    DONE(eiderwagon_early_deliver(LEND(lent.state), SLOTS, datagram, size, WORDS(EARLY_TAKE), LEND(places)));
+    CHECK(LENT(EARLY_TAKE_COUNT) == most && places[EIDERWAGON_EARLY_PLACE_OFFSET] == 22);
+    CHECK(places[EIDERWAGON_EARLY_PLACE_WORDS] == 1); /* the second one is held, and had from the slots */
+}
+
+/* Each part of a state stands where the header says. */
 static void keep_parts_in_their_places(void) {
     const Bytes capture = sample_capture();
     memset(&lent, 0xA5, sizeof lent);
@@ -1195,6 +1384,17 @@ static void keep_parts_in_their_places(void) {
     CHECK(number_in(lent.state, EIDERWAGON_RECEIVER_NEXT_AT, 8) == 258);
     CHECK(number_in(lent.state, EIDERWAGON_RECEIVER_LIMIT_AT, 2) == 772);
     CHECK(lent.state[EIDERWAGON_RECEIVER_CODE_AT] == EIDERWAGON_RECEIVER_OPEN);
+
+    DONE(eiderwagon_early_start(LEND(name), 258, 772, LEND(lent.state)));
+    CHECK(lent.state[EIDERWAGON_EARLY_CODE_AT] == EIDERWAGON_EARLY_OPEN);
+    CHECK(memcmp(lent.state + EIDERWAGON_EARLY_SESSION_AT, name, sizeof name) == 0);
+    CHECK(number_in(lent.state, EIDERWAGON_EARLY_NEXT_AT, 8) == 258);
+    CHECK(number_in(lent.state, EIDERWAGON_EARLY_LIMIT_AT, 2) == 772);
+    CHECK(number_in(lent.state, EIDERWAGON_EARLY_HELD_AT, 8) == 0);
+    for (size_t at = EIDERWAGON_EARLY_LENGTHS_AT; at < EIDERWAGON_EARLY_SIZE; at++) {
+        CHECK(lent.state[at] == 0);
+    }
+    CHECK(untouched(lent.state + EIDERWAGON_EARLY_SIZE, sizeof lent.state - EIDERWAGON_EARLY_SIZE));
 
     DONE(eiderwagon_server_start(LEND(name), 258, LEND(lent.state)));
     CHECK(lent.state[EIDERWAGON_SERVER_CODE_AT] == EIDERWAGON_SERVER_OPEN);
@@ -1216,13 +1416,13 @@ static void keep_parts_in_their_places(void) {
     CHECK(lent.state[EIDERWAGON_CLIENT_PHASE_AT] == EIDERWAGON_CLIENT_IN);
 
     DONE(eiderwagon_capture_start(LEND(lent.state)));
-    DONE(eiderwagon_capture_feed(LEND(lent.state), capture.bytes, capture.size, WORDS(FEED)));
+    DONE(eiderwagon_capture_feed(LEND(lent.state), SLOTS, capture.bytes, capture.size, WORDS(FEED)));
     CHECK(lent.state[EIDERWAGON_CAPTURE_CODE_AT] == EIDERWAGON_CAPTURE_OPEN);
-    CHECK(number_in(lent.state, EIDERWAGON_CAPTURE_RECEIVER_AT + EIDERWAGON_RECEIVER_NEXT_AT, 8) == 6);
+    CHECK(number_in(lent.state, EIDERWAGON_CAPTURE_RECEIVER_AT + EIDERWAGON_EARLY_NEXT_AT, 8) == 6);
     CHECK(lent.state[EIDERWAGON_CAPTURE_STAGE_AT] == EIDERWAGON_CAPTURE_RECORDS);
     CHECK(number_in(lent.state, EIDERWAGON_CAPTURE_RECORDS_AT, 8) == 9);
     CHECK(number_in(lent.state, EIDERWAGON_CAPTURE_DELIVERED_AT, 8) == 5);
-    CHECK(number_in(lent.state, EIDERWAGON_CAPTURE_OLD_AT, 8) == 1);
+    CHECK(number_in(lent.state, EIDERWAGON_CAPTURE_OLD_AT, 8) == 2);
     CHECK(number_in(lent.state, EIDERWAGON_CAPTURE_QUIET_AT, 8) == 1);
     CHECK(number_in(lent.state, EIDERWAGON_CAPTURE_ASKED_AT, 8) == 2);
     CHECK(number_in(lent.state, EIDERWAGON_CAPTURE_REFUSED_AT, 8) == 1);
@@ -1277,7 +1477,12 @@ static void take_bytes_of_zero_as_states(void) {
     REFUSED(SESSION_ENDED, eiderwagon_receiver_deliver(LEND(lent.state), LEND(heartbeat_of_zeros), LEND(lent.words),
                                                        LEND(lent.places)));
 
-    DONE(eiderwagon_capture_feed(LEND(lent.state), TEXT("more"), LEND(lent.words)));
+    REFUSED(SESSION_DIFFERS, eiderwagon_early_take(LEND(lent.state), SLOTS, one.bytes, one.size, LEND(lent.words)));
+    REFUSED(SESSION_ENDED, eiderwagon_early_take(LEND(lent.state), SLOTS, LEND(heartbeat_of_zeros), LEND(lent.words)));
+    DONE(eiderwagon_early_next(LEND(lent.walk), LEND(lent.state), SLOTS, one.bytes, one.size, LEND(lent.words)));
+    CHECK(LENT(PART_FOUND) == 0 && LENT(PART_HELD) == 0 && LENT(PART_OFFSET) == 0 && LENT(PART_LENGTH) == 0);
+
+    DONE(eiderwagon_capture_feed(LEND(lent.state), SLOTS, TEXT("more"), LEND(lent.words)));
     CHECK(LENT(FEED_USED) == 4 && LENT(FEED_OVER) == 1);
     DONE(eiderwagon_capture_write(LEND(lent.state), LEND(lent.out), LEND(lent.words)));
     CHECK(same(lent.out, LENT(WRITE_SIZE), "settings=refused\n"));
@@ -1331,7 +1536,7 @@ static void uses_all(void) {
     for (size_t size = 0; size <= 70000; size += 17500) {
         static const uint8_t many[70000];
         memcpy(&before, &lent, sizeof lent);
-        DONE(eiderwagon_capture_feed(LEND(lent.state), many, size, WORDS(FEED)));
+        DONE(eiderwagon_capture_feed(LEND(lent.state), SLOTS, many, size, WORDS(FEED)));
         CHECK(LENT(FEED_USED) == size && LENT(FEED_OVER) == 1);
         CHECK(memcmp(before.state, lent.state, sizeof lent.state) == 0);
     }
@@ -1346,22 +1551,22 @@ static void end_a_capture(void) {
     DONE(eiderwagon_capture_start(LEND(lent.state)));
     has_no_receiver();
     CHECK(lent.state[EIDERWAGON_CAPTURE_STAGE_AT] == EIDERWAGON_CAPTURE_SETTINGS);
-    DONE(eiderwagon_capture_feed(LEND(lent.state), zeros, 56, WORDS(FEED)));
+    DONE(eiderwagon_capture_feed(LEND(lent.state), SLOTS, zeros, 56, WORDS(FEED)));
     CHECK(LENT(FEED_USED) == 0 && LENT(FEED_OVER) == 0);
-    DONE(eiderwagon_capture_feed(LEND(lent.state), zeros, 57, WORDS(FEED)));
+    DONE(eiderwagon_capture_feed(LEND(lent.state), SLOTS, zeros, 57, WORDS(FEED)));
     CHECK(LENT(FEED_USED) == 57 && LENT(FEED_OVER) == 1);
     has_no_receiver();
     CHECK(lent.state[EIDERWAGON_CAPTURE_STAGE_AT] == EIDERWAGON_CAPTURE_BAD);
     uses_all();
     DONE(eiderwagon_capture_start(LEND(lent.state)));
-    DONE(eiderwagon_capture_finish(LEND(lent.state), zeros, 0));
+    DONE(eiderwagon_capture_finish(LEND(lent.state), SLOTS, zeros, 0));
     has_no_receiver();
     CHECK(lent.state[EIDERWAGON_CAPTURE_STAGE_AT] == EIDERWAGON_CAPTURE_BAD);
     uses_all();
 
     /* By the end of a good one. */
     DONE(eiderwagon_capture_start(LEND(lent.state)));
-    DONE(eiderwagon_capture_finish(LEND(lent.state), TEXT(good)));
+    DONE(eiderwagon_capture_finish(LEND(lent.state), SLOTS, TEXT(good)));
     CHECK(memcmp(lent.state + EIDERWAGON_CAPTURE_RECEIVER_AT + EIDERWAGON_RECEIVER_SESSION_AT, name, 10) == 0);
     CHECK(lent.state[EIDERWAGON_CAPTURE_STAGE_AT] == EIDERWAGON_CAPTURE_DONE);
     uses_all();
@@ -1373,7 +1578,7 @@ static void end_a_capture(void) {
         lent.state[EIDERWAGON_CAPTURE_STAGE_AT] = EIDERWAGON_CAPTURE_RECORDS;
         records[0] = (uint8_t)(0xFF - more);
         records[1] = records[2] = records[3] = 0xFF;
-        DONE(eiderwagon_capture_feed(LEND(lent.state), zeros, 4, WORDS(FEED)));
+        DONE(eiderwagon_capture_feed(LEND(lent.state), SLOTS, zeros, 4, WORDS(FEED)));
         CHECK(LENT(FEED_USED) == 4 && LENT(FEED_OVER) == 1);
         CHECK(lent.state[EIDERWAGON_CAPTURE_STAGE_AT] == EIDERWAGON_CAPTURE_DONE);
         uses_all();
@@ -1386,13 +1591,13 @@ static void end_a_capture(void) {
 
 /* What each kind's functions make of the bytes in a buffer: whether they take them for open. */
 typedef struct {
-    int cursor, receiver, server, client, capture, transmitter;
+    int cursor, receiver, server, client, capture, transmitter, early, walk;
 } Open;
 
 static Open open_as(const uint8_t *state) {
     const Bytes one = data(1, 1, (const uint16_t[]){3}, "one");
     uint8_t copy[EIDERWAGON_CAPTURE_SIZE];
-    uint64_t words[EIDERWAGON_SERVER_REPLY_WORDS];
+    uint64_t words[EIDERWAGON_EARLY_TAKE_WORDS];
     Open open;
     memcpy(copy, state, sizeof copy);
     DONE(eiderwagon_mold_next(LEND(copy), one.bytes, one.size, LEND(words)));
@@ -1404,16 +1609,23 @@ static Open open_as(const uint8_t *state) {
     memcpy(copy, state, sizeof copy);
     open.client = eiderwagon_client_step(LEND(copy), TEXT("\0\1+"), LEND(words)) == EIDERWAGON_OK;
     memcpy(copy, state, sizeof copy);
-    DONE(eiderwagon_capture_feed(LEND(copy), zeros, 0, LEND(words)));
+    DONE(eiderwagon_capture_feed(LEND(copy), SLOTS, zeros, 0, LEND(words)));
     open.capture = WORD(FEED_OVER) == 0;
     memcpy(copy, state, sizeof copy);
     open.transmitter = EIDERWAGON_NUMBER(NEXT_PACKET(LEND(name), 6, 29, LEND(copy), PART(NULL, 0), LEND(words))) !=
                        EIDERWAGON_REFUSED_NO_SUCH_PACKET;
+    memcpy(copy, state, sizeof copy);
+    open.early = eiderwagon_early_take(LEND(copy), SLOTS, one.bytes, one.size, LEND(words)) == EIDERWAGON_OK;
+    memcpy(copy, state, sizeof copy);
+    DONE(eiderwagon_early_next(LEND(copy), PART(zeros, EIDERWAGON_EARLY_SIZE), SLOTS, one.bytes, one.size,
+                               LEND(words)));
+    open.walk = WORD(PART_FOUND) == 1;
     return open;
 }
 
 static int opens(Open open) {
-    return open.cursor + open.receiver + open.server + open.client + open.capture + open.transmitter;
+    return open.cursor + open.receiver + open.server + open.client + open.capture + open.transmitter + open.early +
+           open.walk;
 }
 
 /* The bytes of each kind are open for its own functions, and for no others; so is one first byte of all. */
@@ -1443,6 +1655,11 @@ static void be_open_as_one_kind_alone(void) {
     OPEN_ONLY_AS(capture, EIDERWAGON_CAPTURE_OPEN);
     DONE(START(6, 29, LEND(lent.state)));
     OPEN_ONLY_AS(transmitter, EIDERWAGON_TRANSMITTER_OPEN);
+    DONE(eiderwagon_early_start(LEND(name), 1, 100, LEND(lent.state)));
+    OPEN_ONLY_AS(early, EIDERWAGON_EARLY_OPEN);
+    memcpy(before.state, lent.state, sizeof before.state);
+    DONE(eiderwagon_early_walk(LEND(before.state), SLOTS, one.bytes, one.size, LEND(lent.state)));
+    OPEN_ONLY_AS(walk, EIDERWAGON_WALK_OPEN);
 }
 
 /* The bytes in lent.state, lent for a cursor: no message is there, and none of them changes. */
@@ -1502,22 +1719,22 @@ static void change_no_byte_where_more_is_needed(void) {
         lent.state[EIDERWAGON_CAPTURE_CODE_AT] = EIDERWAGON_CAPTURE_OPEN;
         memset(lent.state + EIDERWAGON_CAPTURE_RECORDS_AT, 0, 8);
         memcpy(&before, &lent, sizeof lent);
-        DONE(eiderwagon_capture_feed(LEND(lent.state), zeros, 1, WORDS(FEED)));
+        DONE(eiderwagon_capture_feed(LEND(lent.state), SLOTS, zeros, 1, WORDS(FEED)));
         CHECK(LENT(FEED_USED) == 0 && LENT(FEED_OVER) == 0);
         CHECK(memcmp(before.state, lent.state, sizeof lent.state) == 0);
     }
 }
 
-/* The receiver inside a reading can be lent to the receiver's functions. */
+/* The receiver inside a reading can be lent, with its slots, to the functions of the one that keeps early messages. */
 static void lend_the_receiver_of_a_reading(void) {
     const Bytes capture = sample_capture();
     const Bytes six = data(6, 1, (const uint16_t[]){3}, "six");
     uint8_t *receiver = lent.state + EIDERWAGON_CAPTURE_RECEIVER_AT;
     DONE(eiderwagon_capture_start(LEND(lent.state)));
     /* all but the end of session */
-    DONE(eiderwagon_capture_feed(LEND(lent.state), capture.bytes, capture.size - 1, WORDS(FEED)));
-    DONE(eiderwagon_receiver_take(receiver, EIDERWAGON_RECEIVER_SIZE, six.bytes, six.size, WORDS(TAKE)));
-    CHECK(LENT(TAKE_ANSWER) == EIDERWAGON_RECEIVER_DELIVER && LENT(TAKE_FIRST) == 6);
+    DONE(eiderwagon_capture_feed(LEND(lent.state), SLOTS, capture.bytes, capture.size - 1, WORDS(FEED)));
+    DONE(eiderwagon_early_take(receiver, EIDERWAGON_EARLY_SIZE, SLOTS, six.bytes, six.size, WORDS(EARLY_TAKE)));
+    CHECK(LENT(EARLY_TAKE_ANSWER) == EIDERWAGON_EARLY_DELIVER && LENT(EARLY_TAKE_FIRST) == 6);
 }
 
 /* ---- 7. No elements, at NULL ------------------------------------------------------------------------------------- */
@@ -1743,29 +1960,65 @@ static void lend_no_bytes_to_sessions(void) {
     REFUSED(OUTPUT_SHORT, eiderwagon_client_step(NONE, NONE, NONE));
 }
 
+static void lend_no_bytes_to_early_receivers(void) {
+    const Bytes one = data(1, 1, (const uint16_t[]){3}, "one");
+    memset(&lent, 0xA5, sizeof lent);
+    REFUSED(BAD_SETTING, eiderwagon_early_start(NONE, 1, 100, NONE));
+    REFUSED(OUTPUT_SHORT, eiderwagon_early_start(LEND(name), 1, 100, NONE));
+    DONE(eiderwagon_early_start(LEND(name), 1, 100, LEND(lent.state)));
+    REFUSED(DATAGRAM_SHORT, eiderwagon_early_take(NONE, NONE, NONE, NONE));
+    REFUSED(OUTPUT_SHORT, eiderwagon_early_take(NONE, NONE, one.bytes, one.size, NONE));
+    REFUSED(BAD_SETTING, eiderwagon_early_take(LEND(lent.state), NONE, one.bytes, one.size, NONE));
+    REFUSED(OUTPUT_SHORT, eiderwagon_early_take(LEND(lent.state), SLOTS, one.bytes, one.size, NONE));
+    REFUSED(DATAGRAM_SHORT, eiderwagon_early_deliver(NONE, NONE, NONE, NONE, NONE));
+    REFUSED(BAD_SETTING, eiderwagon_early_deliver(LEND(lent.state), NONE, one.bytes, one.size, NONE, NONE));
+    REFUSED(OUTPUT_SHORT,
+            eiderwagon_early_deliver(LEND(lent.state), SLOTS, one.bytes, one.size, WORDS(EARLY_TAKE), NONE));
+    REFUSED(OUTPUT_SHORT, eiderwagon_early_count(NONE, NONE, NONE, NONE));
+    REFUSED(BAD_SETTING, eiderwagon_early_count(LEND(lent.state), NONE, NONE, NONE));
+    DONE(eiderwagon_early_count(LEND(lent.state), SLOTS, NONE, WORDS(EARLY_COUNT)));
+    CHECK(LENT(EARLY_COUNT_COUNT) == 0);
+    REFUSED(OUTPUT_SHORT, eiderwagon_early_locate(NONE, NONE, NONE, 0, NONE));
+    DONE(eiderwagon_early_locate(LEND(lent.state), SLOTS, NONE, 0, WORDS(PART)));
+    CHECK(LENT(PART_FOUND) == 0);
+    REFUSED(OUTPUT_SHORT, eiderwagon_early_walk(NONE, NONE, NONE, NONE));
+    REFUSED(OUTPUT_SHORT, eiderwagon_early_walk(LEND(lent.state), SLOTS, NONE, NONE));
+    DONE(eiderwagon_early_walk(LEND(lent.state), SLOTS, NONE, LEND(lent.walk)));
+    CHECK(number_in(lent.walk, EIDERWAGON_WALK_LEFT_AT, 2) == 0);
+    CHECK(number_in(lent.walk, EIDERWAGON_WALK_PLACE_AT, 8) == EIDERWAGON_MOLD_HEADER_SIZE);
+    CHECK(number_in(lent.walk, EIDERWAGON_WALK_BLOCKS_AT, 2) == 0);
+    CHECK(lent.walk[EIDERWAGON_WALK_CODE_AT] == EIDERWAGON_WALK_OPEN);
+    REFUSED(OUTPUT_SHORT, eiderwagon_early_next(NONE, NONE, NONE, NONE, NONE));
+    DONE(eiderwagon_early_next(LEND(lent.walk), LEND(lent.state), SLOTS, NONE, WORDS(PART)));
+    CHECK(LENT(PART_FOUND) == 0);
+}
+
 static void lend_no_bytes_to_captures(void) {
     memset(&lent, 0xA5, sizeof lent);
 
     REFUSED(OUTPUT_SHORT, eiderwagon_capture_start(NONE));
 
     DONE(eiderwagon_capture_start(LEND(lent.state)));
-    REFUSED(OUTPUT_SHORT, eiderwagon_capture_feed(NONE, zeros, 57, WORDS(FEED)));
-    DONE(eiderwagon_capture_feed(LEND(lent.state), NONE, WORDS(FEED)));
+    REFUSED(OUTPUT_SHORT, eiderwagon_capture_feed(NONE, SLOTS, zeros, 57, WORDS(FEED)));
+    DONE(eiderwagon_capture_feed(LEND(lent.state), SLOTS, NONE, WORDS(FEED)));
     CHECK(LENT(FEED_USED) == 0 && LENT(FEED_OVER) == 0);
-    REFUSED(OUTPUT_SHORT, eiderwagon_capture_feed(LEND(lent.state), zeros, 57, NONE));
-    REFUSED(OUTPUT_SHORT, eiderwagon_capture_feed(NONE, NONE, NONE));
+    REFUSED(OUTPUT_SHORT, eiderwagon_capture_feed(LEND(lent.state), SLOTS, zeros, 57, NONE));
+    REFUSED(OUTPUT_SHORT, eiderwagon_capture_feed(NONE, SLOTS, NONE, NONE));
 
-    REFUSED(OUTPUT_SHORT, eiderwagon_capture_finish(NONE, zeros, 57));
-    REFUSED(OUTPUT_SHORT, eiderwagon_capture_finish(NONE, NONE));
-    DONE(eiderwagon_capture_finish(LEND(lent.state), NONE));
+    REFUSED(OUTPUT_SHORT, eiderwagon_capture_finish(NONE, SLOTS, zeros, 57));
+    REFUSED(OUTPUT_SHORT, eiderwagon_capture_finish(NONE, SLOTS, NONE));
+    REFUSED(OUTPUT_SHORT, eiderwagon_capture_finish(NONE, NONE, NONE));
+    REFUSED(BAD_SETTING, eiderwagon_capture_feed(LEND(lent.state), NONE, NONE, NONE));
+    REFUSED(BAD_SETTING, eiderwagon_capture_finish(LEND(lent.state), NONE, NONE));
+    DONE(eiderwagon_capture_finish(LEND(lent.state), SLOTS, NONE));
     CHECK(lent.state[EIDERWAGON_CAPTURE_STAGE_AT] == EIDERWAGON_CAPTURE_BAD);
     /* between records and when it is done, too */
     for (uint8_t stage = EIDERWAGON_CAPTURE_RECORDS; stage <= EIDERWAGON_CAPTURE_DONE; stage++) {
         lent.state[EIDERWAGON_CAPTURE_CODE_AT] = stage == EIDERWAGON_CAPTURE_DONE ? 0 : EIDERWAGON_CAPTURE_OPEN;
         lent.state[EIDERWAGON_CAPTURE_STAGE_AT] = stage;
-        DONE(eiderwagon_capture_feed(LEND(lent.state), NONE, WORDS(FEED)));
+        DONE(eiderwagon_capture_feed(LEND(lent.state), SLOTS, NONE, WORDS(FEED)));
         CHECK(LENT(FEED_USED) == 0 && LENT(FEED_OVER) == (stage == EIDERWAGON_CAPTURE_DONE));
-        DONE(eiderwagon_capture_finish(LEND(lent.state), NONE));
+        DONE(eiderwagon_capture_finish(LEND(lent.state), SLOTS, NONE));
         CHECK(lent.state[EIDERWAGON_CAPTURE_STAGE_AT] == EIDERWAGON_CAPTURE_DONE);
         CHECK(number_in(lent.state, EIDERWAGON_CAPTURE_REFUSED_AT, 8) == 0);
     }
@@ -1806,6 +2059,7 @@ static void say_the_grounds(void) {
 
 int main(void) {
     follow_a_feed();
+    keep_early_messages();
     serve_from_a_store();
     send_a_run();
     read_a_datagram();
@@ -1821,6 +2075,7 @@ int main(void) {
     refuse_requests();
     refuse_at_a_receiver();
     refuse_to_deliver();
+    refuse_at_an_early_receiver();
     learn_a_name();
     refuse_at_a_store();
     refuse_at_a_transmitter();
@@ -1835,6 +2090,7 @@ int main(void) {
     use_no_more_of_a_state_than_its_size();
     lay_no_more_places_than_messages();
     have_places_for_the_most_messages();
+    have_early_places_for_the_most_messages();
     keep_parts_in_their_places();
     take_sizes_as_they_are_said();
     take_bytes_of_zero_as_states();
@@ -1849,6 +2105,7 @@ int main(void) {
     lend_the_receiver_of_a_reading();
 
     lend_no_bytes_to_datagrams();
+    lend_no_bytes_to_early_receivers();
     lend_no_bytes_to_stores_and_transmitters();
     lend_no_bytes_to_packets();
     lend_no_bytes_to_sessions();

@@ -5,11 +5,13 @@ import inspect
 import struct
 
 import capture_rules as capture
+import early_rules as early
 import mold_rules as mold
 import session_rules as session
 import soup_rules as soup
 import store_rules as store
 import transmitter_rules as transmitter
+from early_rules import SLOTS_SIZE, Early, slot_of
 from lines import FILL, Answer, room
 from mold_rules import Receiver, Refused
 from soup_rules import SENT
@@ -18,6 +20,7 @@ from soup_rules import SENT
 
 KINDS = ("", "data", "heartbeat", "end")
 TAKEN = ("", "deliver", "old", "quiet", "ask", "ended")
+TAKEN_EARLY = ("", "deliver", "old", "quiet", "ahead", "ended")
 STEPS = (
     "need more",
     "accepted",
@@ -40,19 +43,24 @@ def named(names, code):
 # ---- states and cursors, little-endian. The first byte is the kind's code while the state is open, and 0 where a call
 # lays one that isn't; any other byte means the same as 0
 
-CURSOR_CODE, RECEIVER_CODE, SERVER_CODE, CLIENT_CODE, CAPTURE_CODE, TRANSMITTER_CODE = CODES = range(0xE1, 0xE7)
+CODES = range(0xE1, 0xE9)
+CURSOR_CODE, RECEIVER_CODE, SERVER_CODE, CLIENT_CODE, CAPTURE_CODE, TRANSMITTER_CODE, EARLY_CODE, WALK_CODE = CODES
 NOT_OPEN = 0
 NOT_OPEN_TOO = 2  # a first byte that no call lays, and that no kind has as its code
 
 CURSOR = struct.Struct("<BQH")  # code, place, messages left
 RECEIVER = struct.Struct("<B10sQH")  # code, session, next number, asking limit
 SESSION = struct.Struct("<B10sQB")  # code, session, last or next number, phase
-FRONT = struct.Struct("<BB")  # of a reading: code, stage; a receiver follows
+FRONT = struct.Struct("<BB")  # of a reading: code, stage; a receiver that keeps early messages follows
 COUNTS = struct.Struct("<6Q")  # behind it: records, five counts
 TRANSMITTER = struct.Struct("<BQQ")  # code, messages that went out, the bytes of their data
+EARLY = struct.Struct("<B10sQHQ")  # code, session, next number, asking limit, held numbers; lengths follow
+LENGTHS = struct.Struct(">64H")  # of the messages in the slots
+WALK = struct.Struct("<BQHQH")  # code, number to come, messages left, place, messages left there
 
 CURSOR_SIZE, RECEIVER_SIZE, SERVER_SIZE, CLIENT_SIZE = CURSOR.size, RECEIVER.size, SESSION.size, SESSION.size
-CAPTURE_SIZE = FRONT.size + RECEIVER.size + COUNTS.size
+EARLY_SIZE, WALK_SIZE = EARLY.size + LENGTHS.size, WALK.size
+CAPTURE_SIZE = FRONT.size + EARLY_SIZE + COUNTS.size
 TRANSMITTER_SIZE = TRANSMITTER.size
 # fixed sizes of inputs
 NAME_SIZE, USERNAME_SIZE, PASSWORD_SIZE = 10, 6, 10
@@ -112,16 +120,60 @@ def client_in(data):
     return session.Client(name, number, meant(CLIENT_CODE, OPEN_CLIENT, SHUT_CLIENT, first, phase))
 
 
-def reading_bytes(reading):
+def lengths_with(before, kept):
+    """The lengths of what is in the slots, in a receiver's bytes, with those of some messages that are held anew."""
+    lengths = list(LENGTHS.unpack_from(before, EARLY.size))
+    for number, message in kept.items():
+        lengths[number % early.SLOTS] = len(message)
+    return LENGTHS.pack(*lengths)
+
+
+def slots_with(slots, kept):
+    """The slots with some messages, each from the first byte of its slot on."""
+    for number, message in kept.items():
+        at = slot_of(number)
+        slots = slots[:at] + message + slots[at + len(message) :]
+    return slots
+
+
+def early_bytes(receiver, before=bytes(EARLY_SIZE), kept=None):
+    """A receiver that keeps early messages, over the bytes before it: of these the lengths stay. Without `kept`, what
+    it holds is new."""
+    word = sum(1 << (number - receiver.next - 1) for number in receiver.held)
+    first = NOT_OPEN if receiver.ended else EARLY_CODE
+    return EARLY.pack(first, *receiver[:3], word) + lengths_with(before, receiver.held if kept is None else kept)
+
+
+def early_in(data, slots):
+    """A length that was made up ends with the slots."""
+    first, session, n, limit, word = EARLY.unpack_from(data)
+    lengths = LENGTHS.unpack_from(data, EARLY.size)
+    held = {}
+    for number in (n + 1 + bit for bit in range(64) if word >> bit & 1):
+        held[number] = slots[slot_of(number) :][: lengths[number % early.SLOTS]]
+    return Early(session, n, limit, first != EARLY_CODE, held)
+
+
+def walk_bytes(walk):
+    return WALK.pack(WALK_CODE, *walk)
+
+
+def walk_in(data):
+    first, *walk = WALK.unpack_from(data)
+    return tuple(walk) if first == WALK_CODE else (0, 0, 0, 0)
+
+
+def reading_bytes(reading, before=bytes(CAPTURE_SIZE), kept=None):
     report = reading.report
     front = FRONT.pack(*laid(CAPTURE_CODE, OPEN_STAGE, SHUT_STAGE, reading.stage))
-    return front + receiver_bytes(report.receiver) + COUNTS.pack(report.records, *report.tally)
+    receiver = early_bytes(report.receiver, before[FRONT.size :], kept)
+    return front + receiver + COUNTS.pack(report.records, *report.tally)
 
 
-def reading_in(data):
+def reading_in(data, slots=room(SLOTS_SIZE)):
     stage = meant(CAPTURE_CODE, OPEN_STAGE, SHUT_STAGE, *FRONT.unpack_from(data))
-    records, *counts = COUNTS.unpack_from(data, FRONT.size + RECEIVER.size)
-    receiver = receiver_in(data[FRONT.size :])
+    records, *counts = COUNTS.unpack_from(data, FRONT.size + EARLY_SIZE)
+    receiver = early_in(data[FRONT.size :], slots)
     return capture.Reading(stage, capture.Report(receiver, min(records, capture.MOST_RECORDS), capture.Tally(*counts)))
 
 
@@ -141,8 +193,8 @@ def by_hand(state, first, phase=None):
     return made if phase is None else made[:at] + bytes([phase]) + made[at + 1 :]
 
 
-# ---- what a function gives: the words that it sets, what it lays at the front of the lent bytes, and of three
-# functions what it writes into its second output
+# ---- what a function gives: the words that it sets, what it lays at the front of the lent bytes, of some functions
+# what they write into a second output, and of some the slots as they leave them
 
 
 def located(found):
@@ -271,13 +323,90 @@ def client_step(s, a):
     return step_words(answer), client_bytes(after) if answer.size else b""
 
 
-def capture_feed(s, a):
-    after, used = capture.feed(reading_in(s), a)
+def early_step(s, a, c):
+    """The words of a step, the receiver and the slots after it."""
+    step = early.early_take(early_in(s, c), a, len(c))
+    (answer, *values), asked = step.answer, [1, *step.request] if step.request else [0, 0, 0]
+    words = [TAKEN_EARLY.index(answer), *values, *[0] * (3 - len(values)), *asked]
+    return words, early_bytes(step.after, s, step.kept), slots_with(c, step.kept)
+
+
+def early_take(s, a, c):
+    words, state, slots = early_step(s, a, c)
+    return words, state, b"", slots
+
+
+def part(message):
+    """Whether a message lies in the slots, its offset and its length."""
+    held = message.offset is None
+    return int(held), slot_of(message.number) if held else message.offset, message.length
+
+
+def early_places_bytes(messages):
+    """Places as a line gives them: three words each, of eight bytes."""
+    return b"".join(struct.pack(">QQQ", *part(message)) for message in messages)
+
+
+def early_deliver(s, a, c):
+    words, state, slots = early_step(s, a, c)
+    return words, state, early_places_bytes(early.will_deliver(early_in(s, c), a)), slots
+
+
+def right_slots(slots):
+    if len(slots) != SLOTS_SIZE:
+        raise Refused(19)
+
+
+def early_count(a, b, c):
+    right_slots(c)
+    return [len(early.will_deliver(early_in(b, c), a))], b""
+
+
+def early_locate(a, b, c, n):
+    right_slots(c)
+    messages = early.will_deliver(early_in(b, c), a)
+    return [1, *part(messages[n])] if n < len(messages) else [0] * 4, b""
+
+
+def early_walk(a, b, c):
+    right_slots(c)
+    receiver = early_in(b, c)
+    many, cursor = len(early.will_deliver(receiver, a)), mold.cursor_start(a)
+    if cursor[1]:
+        # behind the datagram's messages with lower numbers
+        cursor = mold.cursor_skip(cursor, a, min(cursor[1], max(0, receiver.next - mold.packet_of(a)[1])))
+    return [], walk_bytes((receiver.next, many, *cursor))
+
+
+def early_next(s, a, b, c):
+    right_slots(c)
+    (number, left, *cursor), held = walk_in(s), early_in(b, c).held
+    found = mold.cursor_located(cursor, a)
+    if left == 0 or (number not in held and not found):
+        # no byte changes, of bytes that are no walk neither
+        return [0] * 4, b""
+    there = early.Delivered(number, *((None, len(held[number])) if number in held else found))
+    return [1, *part(there)], walk_bytes((min(mold.TOP, number + 1), left - 1, *mold.cursor_next(cursor, a)))
+
+
+def capture_feed(s, a, c):
+    right_slots(c)
+    after, used, kept = capture.feed(reading_in(s, c), a)
     over = after.stage in ("done", "refused")
-    return [used, int(over)], reading_bytes(after) if used or over else b""
+    return [used, int(over)], reading_bytes(after, s, kept) if used or over else b"", b"", slots_with(c, kept)
+
+
+def capture_finish(s, a, c):
+    right_slots(c)
+    after, kept = capture.finish(reading_in(s, c), a)
+    return [], reading_bytes(after, s, kept), b"", slots_with(c, kept)
 
 
 # ---- the functions
+
+
+WRITE_SLOTS = (early_take, early_deliver, capture_feed, capture_finish)
+READ_SLOTS = (early_count, early_locate, early_walk, early_next)
 
 
 class Function:
@@ -294,7 +423,10 @@ class Function:
         self.state, self.sized = state or {}, sized
         self.keys = inspect.signature(rule).parameters
         # the field of a second output
-        self.second = {receiver_deliver: "d", server_reply: "c", transmitter_next: "d"}.get(rule)
+        self.second = {receiver_deliver: "d", server_reply: "c", transmitter_next: "d", early_deliver: "d"}.get(rule)
+        # that of slots, which some functions only read
+        self.slots = "c" if rule in (*WRITE_SLOTS, *READ_SLOTS) else None
+        self.writes_slots = rule in WRITE_SLOTS
 
     def other_sizes(self, fields, refusals):
         """Refuses an input of another size than its own, on one of these grounds."""
@@ -310,30 +442,33 @@ class Function:
             self.before(**{key: fields[key] for key in inspect.signature(self.before).parameters})
         if any(len(fields[key]) < size for key, size in self.state.items()):
             raise Refused(41)
-        values, front, *second = self.rule(**{key: fields[key] for key in self.keys})
+        values, front, *others = self.rule(**{key: fields[key] for key in self.keys})
         self.other_sizes(fields, (41,))
-        return values, front, second[0] if second else b""
+        second, slots = [*others, *(b"", None)[len(others) :]]
+        return values, front, second, slots
 
     def answer(self, fields, words):
         lent, before = fields.get("s", b""), [FILL] * words
         also = fields[self.second] if self.second else None
+        slots = fields[self.slots] if self.writes_slots else None
         try:
-            values, front, second = self.given(fields)
+            values, front, second, written_slots = self.given(fields)
             if len(front) > len(lent) or len(second) > len(also or b"") or words < self.words:
                 raise Refused(41)
         except Refused as refusal:
-            return Answer(refusal.args[0], before, lent, [refusal.args[0]], also)
+            return Answer(refusal.args[0], before, lent, [refusal.args[0]], also, slots)
         assert len(values) == self.words
         said = [self.names[values[0]], *values[1:]] if self.names else values
         written_too = second + also[len(second) :] if self.second else None
-        return Answer(0, [*values, *before[len(values) :]], front + lent[len(front) :], said, written_too)
+        left = front + lent[len(front) :]
+        return Answer(0, [*values, *before[len(values) :]], left, said, written_too, written_slots)
 
 
 # a session's name: at a start, at a MoldUDP64 writer, which has no ground of its own, and at a SoupBinTCP writer
 NAME_AT_START, NAME_AT_MOLD, NAME_AT_SOUP = (NAME_SIZE, 19), (NAME_SIZE, 41), (NAME_SIZE, 46)
 
 # By subject, as the modules of the crate `vector_calls` have them, each from its own number on.
-MOLD, RECEIVERS, SOUP, SERVERS, CLIENTS, CAPTURES, STORES, TRANSMITTERS = range(0, 160, 20)
+MOLD, RECEIVERS, SOUP, SERVERS, CLIENTS, CAPTURES, STORES, TRANSMITTERS, EARLIES = range(0, 180, 20)
 
 FUNCTIONS = {
     "mold_read": Function(MOLD, mold_read, 3, KINDS),
@@ -385,9 +520,7 @@ FUNCTIONS = {
     ),
     "capture_start": Function(CAPTURES, lambda: ([], reading_bytes(capture.START))),
     "capture_feed": Function(CAPTURES + 1, capture_feed, 2, state={"s": CAPTURE_SIZE}),
-    "capture_finish": Function(
-        CAPTURES + 2, lambda s, a: ([], reading_bytes(capture.finish(reading_in(s), a))), state={"s": CAPTURE_SIZE}
-    ),
+    "capture_finish": Function(CAPTURES + 2, capture_finish, state={"s": CAPTURE_SIZE}),
     "capture_write": Function(
         CAPTURES + 3, lambda a: written(capture.reading_text(reading_in(a))), 1, state={"a": CAPTURE_SIZE}
     ),
@@ -407,5 +540,18 @@ FUNCTIONS = {
         state={"s": TRANSMITTER_SIZE},
         before=lambda m: store.check_size(m),
         a=NAME_AT_MOLD,
+    ),
+    "early_start": Function(
+        EARLIES, lambda a, n, m: ([], early_bytes(early.early_start(a, n, m))), a=NAME_AT_START
+    ),
+    "early_take": Function(
+        EARLIES + 1, early_take, 7, TAKEN_EARLY, {"s": EARLY_SIZE}, lambda a: mold.packet_of(a)
+    ),
+    "early_count": Function(EARLIES + 2, early_count, 1, state={"b": EARLY_SIZE}),
+    "early_locate": Function(EARLIES + 3, early_locate, 4, state={"b": EARLY_SIZE}),
+    "early_walk": Function(EARLIES + 4, early_walk, state={"b": EARLY_SIZE}),
+    "early_next": Function(EARLIES + 5, early_next, 4, state={"s": WALK_SIZE, "b": EARLY_SIZE}),
+    "early_deliver": Function(
+        EARLIES + 6, early_deliver, 7, TAKEN_EARLY, {"s": EARLY_SIZE}, lambda a: mold.packet_of(a)
     ),
 }

@@ -16,8 +16,9 @@ from capture_rules import (
 )
 from captures import BAD_SETTINGS, BLANK, GOOD_SETTINGS, capture, lines, record
 from datagrams import FULLEST, LARGEST, REFUSED, ROOM, data_of, end, heartbeat, packet
+from early_rules import SLOTS_SIZE, Early
 from lines import room
-from mold_rules import TOP, Receiver
+from mold_rules import TOP
 
 ROOT = pathlib.Path(__file__).resolve().parent.parent.parent
 OTHER = b"READROOM02"
@@ -61,7 +62,7 @@ def document(v):
     assert example == (ROOT / "crates" / "capture_report" / "stdin").read_bytes()
     text = (ROOT / "crates" / "capture_report" / "stdout").read_bytes()
     assert text == capture_text(example) == DOCUMENT_TEXT
-    counts = dict(next=6, ended="yes", delivered=5, old=1, quiet=1, asked=2, refused=1)
+    counts = dict(next=6, ended="yes", delivered=5, old=2, quiet=1, asked=2, refused=1)
     whole(v, "room to spare", example, 1, 7, 64, ALL, **counts)
     whole(v, "exactly enough", example, more=0)
     whole(v, "41: one byte short", example, more=-1)
@@ -74,7 +75,7 @@ session=READROOM01
 next=6
 ended=yes
 delivered=5
-old=1
+old=2
 quiet=1
 asked=2
 refused=1
@@ -107,7 +108,7 @@ def answers(v):
     whole(v, "ask at an end of session ahead", capture(end(2)), 64, ended="no", asked=1)
     whole(v, "ended", capture(end(1)), 64, next=1, ended="yes", **nothing)
     several = capture(*[data_of(9, 2)] * 3, *[heartbeat(1)] * 2)
-    whole(v, "a count counts answers, but for delivered", several, 64, asked=3, quiet=2)
+    whole(v, "a count counts answers, but for delivered", several, 64, asked=5, quiet=2)
     whole(v, "a zero-length message", capture(packet(1, b"")), 64, next=2, delivered=1)
     whole(v, "zero-length messages alone", capture(packet(1, b"", b"", b"")), 64, next=4, delivered=3)
     whole(v, "a zero-length message skipped", capture(packet(1, b""), packet(1, b"", b"a")), 64, next=3, delivered=2)
@@ -115,9 +116,38 @@ def answers(v):
     four = {"1": data_of(1, 2), "3": data_of(3, 1), "h": heartbeat(4), "e": end(4)}
     for order in itertools.permutations(four):
         whole(v, "".join(order), capture(*(four[key] for key in order)))
+    early(v)
     v.section("the asking limit is no part of the report")
     for limit in (1, 65534):
         whole(v, f"limit {limit}", capture(data_of(70000, 1), start=lines(limit=limit)), asked=1, refused=0)
+
+
+def early(v):
+    """Order 6: early messages are kept, and a request counts beside any other answer."""
+    v.section("early messages, kept and delivered later")
+    two, three, four = data_of(2, 1), data_of(3, 1), data_of(4, 1)
+    one, five = data_of(1, 1), data_of(5, 1)
+    whole(v, "swapped", capture(two, one), 7, 64, next=3, delivered=2, asked=1)
+    whole(v, "in reverse", capture(four, three, two, one), 64, next=5, delivered=4, asked=3)
+    whole(v, "a gap behind what is delivered", capture(three, one), 64, next=2, delivered=1, asked=2)
+    whole(v, "old, and asks", capture(one, three, one), 64, next=2, old=1, asked=2)
+    whole(v, "an old heartbeat that asks", capture(one, three, heartbeat(1)), 64, old=1, asked=2)
+    whole(v, "quiet, and asks", capture(three, heartbeat(1)), 64, next=1, quiet=1, asked=2)
+    whole(v, "ahead counts in asked alone", capture(three, heartbeat(9), end(9)), 64, old=0, quiet=0, asked=3)
+    whole(v, "two gaps", capture(five, three, one, two, four), 64, next=6, delivered=5, asked=4)
+    whole(v, "too long to keep", capture(packet(2, b"a" * 1025), one), 64, next=2, delivered=1, asked=1)
+    whole(v, "as long as is kept", capture(packet(2, b"a" * 1024), one), 500, next=3, delivered=2, asked=1)
+    whole(v, "too far to keep", capture(data_of(66, 1), one), 64, next=2, delivered=1, asked=1)
+    whole(v, "as far as is kept", capture(data_of(65, 1), data_of(1, 64)), 64, next=66, delivered=65, asked=1)
+    whole(v, "the end forgets them", capture(three, end(1)), 64, next=1, ended="yes", delivered=0, asked=1)
+    last = capture(data_of(TOP - 1, 1), data_of(TOP - 2, 1), start=lines(next=TOP - 2))
+    whole(v, "kept up to the largest number", last, next=TOP, delivered=2, asked=1)
+    v.section("early messages over the feeds of one reading, and slots that are used again")
+    reader = Reader(v)
+    reader.forge((ROOM, 1, 100, False))
+    for datagrams in ((data_of(2, 2), data_of(6, 1)), (one,), (data_of(66, 2),), (data_of(4, 2),), (data_of(7, 59),)):
+        reader.feed(b"".join(map(record, datagrams)))
+    assert reader.finish(b"").report.tally == (67, 0, 0, 5, 0), reader.now().report
 
 
 def names(v):
@@ -248,35 +278,36 @@ def long_captures(v):
 
 
 class Reader:
-    """A reading whose state goes from line to line."""
+    """A reading whose state and slots go from line to line."""
 
     def __init__(self, v):
         self.v = v
-        self.state = b""
+        self.state, self.slots = b"", room(SLOTS_SIZE)
 
     def start(self):
         self.state = self.v.ask("capture_start", s=room(CAPTURE_SIZE)).lent
 
     def forge(self, receiver, records=0, counts=(0,) * 5):
         """A state made by hand, with records to follow."""
-        self.state = reading_bytes(Reading("records", Report(Receiver(*receiver), records, Tally(*counts))))
+        self.state = reading_bytes(Reading("records", Report(Early(*receiver), records, Tally(*counts))))
 
     def feed(self, data, used=None, stage=None):
         """Some bytes, how many of them have to be used, and the stage after them."""
-        answer = self.v.ask("capture_feed", () if used is None else (used,), s=self.state, a=data)
-        self.state = answer.lent
+        answer = self.v.ask("capture_feed", () if used is None else (used,), s=self.state, a=data, c=self.slots)
+        self.state, self.slots = answer.lent, answer.slots
         assert stage in (None, self.now().stage), (data, self.now())
         return answer.said[0]
 
     def finish(self, data):
-        self.state = self.v.ask("capture_finish", s=self.state, a=data).lent
+        answer = self.v.ask("capture_finish", s=self.state, a=data, c=self.slots)
+        self.state, self.slots = answer.lent, answer.slots
         return self.now()
 
     def write(self, size):
         return self.v.ask("capture_write", a=self.state, s=room(size))
 
     def now(self):
-        return reading_in(self.state)
+        return reading_in(self.state, self.slots)
 
 
 def reading(v):

@@ -8,26 +8,31 @@ from boundary import (
     CAPTURE_SIZE,
     CLIENT_SIZE,
     CURSOR_SIZE,
+    EARLY_SIZE,
     RECEIVER_SIZE,
     SERVER_SIZE,
     TRANSMITTER_SIZE,
+    WALK_SIZE,
     client_bytes,
     cursor_bytes,
+    early_bytes,
     lengths_bytes,
     places_room,
     reading_bytes,
     receiver_bytes,
     server_bytes,
     transmitter_bytes,
+    walk_bytes,
 )
 from capture_rules import START
 from captures import lines
 from datagrams import ROOM, TWO, data_of, end
+from early_rules import Early
 from lines import room
 from logins import LOGIN, READER, SOUND_RECORD
 from mold_rules import TOP, Receiver, header
 from session_rules import Client, Server
-from sizes import KEPT
+from sizes import HOLDS, KEPT, SLOTS
 from streams import BLANK, PASSWORD, USER, accepted, login, packet, raw
 
 OTHER = b"READROOM02"
@@ -78,6 +83,21 @@ OF_UNNAMED = [
     ("20", dict(s=receiver_bytes(Receiver(BLANK, 3, 9, False)))),
     FEW_WORDS,
 ]
+
+
+# slots of another size, and of a receiver that keeps early messages, at number 2
+OTHER_SLOTS = [("19 slots, one byte short", dict(c=SLOTS[1:])), ("19 slots, one byte more", dict(c=SLOTS + b"\x00"))]
+OF_EARLY = [
+    *OF_DATAGRAM,
+    short(EARLY_SIZE),
+    ("17", dict(s=early_bytes(Early(OTHER, 2, 9, False)))),
+    ("18", dict(s=early_bytes(Early(ROOM, 2, 9, True)))),
+    *OTHER_SLOTS,
+]
+EARLY = early_bytes(Early(ROOM, 2, 9, False))
+BELOW = ("20", dict(s=early_bytes(Early(ROOM, 3, 9, False))))
+READ_ONLY = [("41 receiver", dict(b=room(EARLY_SIZE - 1))), *OTHER_SLOTS]
+LOOK = dict(a=data_of(5, 1), b=HOLDS, c=SLOTS)
 
 
 def of_stream(key, letter, other, bad_field):
@@ -234,7 +254,12 @@ LADDERS = [
         ],
     ),
     ("client_step", dict(a=packet(b"H"), s=IN), [("34", dict(a=packet(b"S", b"x"))), FEW_WORDS]),
-    ("capture_feed", dict(a=lines() + bytes(40), s=reading_bytes(START)), [short(CAPTURE_SIZE), FEW_WORDS]),
+    (
+        "capture_feed",
+        dict(a=lines() + bytes(40), c=SLOTS, s=reading_bytes(START)),
+        [short(CAPTURE_SIZE), *OTHER_SLOTS, FEW_WORDS],
+    ),
+    ("capture_finish", dict(a=lines(), c=SLOTS, s=reading_bytes(START)), [short(CAPTURE_SIZE), *OTHER_SLOTS]),
     (
         "capture_write",
         dict(a=reading_bytes(START), s=room(17)),
@@ -321,6 +346,32 @@ LADDERS = [
             output(27, "d"),
             FEW_WORDS,
         ],
+    ),
+    (
+        "early_start",
+        dict(a=ROOM, n=1, m=100, s=room(EARLY_SIZE)),
+        [*named(19), ("19 number", dict(n=0)), ("19 limit", dict(m=0)), short(EARLY_SIZE)],
+    ),
+    ("early_take", dict(a=end(2), c=SLOTS, s=EARLY), [*OF_EARLY, BELOW, FEW_WORDS]),
+    # without a name
+    (
+        "early_take",
+        dict(a=end(2), c=SLOTS, s=early_bytes(Early(BLANK, 2, 9, False))),
+        [short(EARLY_SIZE), ("17", dict(a=end(2, session=BLANK))), *OTHER_SLOTS, BELOW, FEW_WORDS],
+    ),
+    ("early_count", LOOK, [*READ_ONLY, FEW_WORDS]),
+    ("early_locate", dict(**LOOK, n=0), [*READ_ONLY, FEW_WORDS]),
+    ("early_walk", dict(**LOOK, s=room(WALK_SIZE)), [*READ_ONLY, ("41 cursor", dict(s=room(WALK_SIZE - 1)))]),
+    (
+        "early_next",
+        dict(**LOOK, s=walk_bytes((5, 2, 20, 1))),
+        [("41 cursor", dict(s=room(WALK_SIZE - 1))), *READ_ONLY, FEW_WORDS],
+    ),
+    ("early_deliver", dict(a=end(2), c=SLOTS, d=b"", s=EARLY), [*OTHER_SLOTS, BELOW, FEW_WORDS]),
+    (
+        "early_deliver",
+        dict(a=data_of(1, 3), c=SLOTS, d=places_room(6), s=EARLY),
+        [*OF_EARLY[4:], ("41 places", dict(d=places_room(5))), FEW_WORDS],
     ),
 ]
 

@@ -5,22 +5,27 @@ from boundary import (
     CAPTURE_SIZE,
     CLIENT_SIZE,
     CURSOR_SIZE,
+    EARLY_SIZE,
     FUNCTIONS,
     RECEIVER_SIZE,
     SERVER_SIZE,
     TRANSMITTER_SIZE,
+    WALK_SIZE,
     client_bytes,
     cursor_bytes,
+    early_bytes,
     lengths_bytes,
     places_room,
     reading_bytes,
     receiver_bytes,
     server_bytes,
     transmitter_bytes,
+    walk_bytes,
 )
 from capture_rules import START
 from captures import lines
 from datagrams import ROOM, TWO, data_of, heartbeat
+from early_rules import SLOTS_SIZE, Early
 from lines import FILL, room
 from logins import LOGIN, READER, UNSOUND_RECORD
 from mold_rules import TOP, Receiver, header
@@ -28,6 +33,8 @@ from session_rules import Client, Server
 from streams import BLANK, PASSWORD, USER, accepted, packet, raw
 
 LONG = b"m" * 4097  # a payload that no packet has
+SLOTS = room(SLOTS_SIZE)
+HOLDS = early_bytes(Early(ROOM, 5, 9, False, {6: b"six"}))  # an early receiver that holds a message
 # messages that a store keeps or a transmitter sends: one with no bytes
 KEPT = dict(b=lengths_bytes([3, 0, 5, 4]), c=b"onethreefour")
 
@@ -104,8 +111,14 @@ CALLS = {
         dict(a=raw(0, b"S"), s=room(CLIENT_SIZE)),
     ],
     "capture_start": [dict(s=room(CAPTURE_SIZE))],
-    "capture_feed": [dict(a=lines() + bytes(40), s=reading_bytes(START)), dict(a=b"", s=room(CAPTURE_SIZE))],
-    "capture_finish": [dict(a=lines(), s=reading_bytes(START)), dict(a=b"", s=room(CAPTURE_SIZE))],
+    "capture_feed": [
+        dict(a=lines() + bytes(40), c=SLOTS, s=reading_bytes(START)),
+        dict(a=b"", c=SLOTS, s=room(CAPTURE_SIZE)),
+    ],
+    "capture_finish": [
+        dict(a=lines(), c=SLOTS, s=reading_bytes(START)),
+        dict(a=b"", c=SLOTS, s=room(CAPTURE_SIZE)),
+    ],
     "capture_write": [dict(a=reading_bytes(START), s=room(17))],
     "capture_report": [dict(a=b"", s=room(17))],
     "store_answer": [
@@ -126,6 +139,23 @@ CALLS = {
         dict(a=ROOM, n=6, **KEPT, m=29, d=room(27), s=transmitter_bytes((4, 12))),
         dict(a=ROOM, n=6, **KEPT, m=21, d=room(27), s=room(TRANSMITTER_SIZE)),
     ],
+    "early_start": [
+        dict(a=ROOM, n=1, m=100, s=room(EARLY_SIZE)),
+        dict(a=ROOM, n=0, m=0, s=room(EARLY_SIZE)),
+    ],
+    "early_take": [
+        dict(a=data_of(5, 1), c=SLOTS, s=HOLDS),
+        dict(a=data_of(7, 1), c=SLOTS, s=HOLDS),
+        dict(a=b"", c=SLOTS, s=room(EARLY_SIZE)),
+    ],
+    "early_count": [dict(a=data_of(5, 1), b=HOLDS, c=SLOTS)],
+    "early_locate": [dict(a=data_of(5, 1), b=HOLDS, c=SLOTS, n=1)],
+    "early_walk": [dict(a=data_of(5, 1), b=HOLDS, c=SLOTS, s=room(WALK_SIZE))],
+    "early_next": [dict(a=data_of(5, 1), b=HOLDS, c=SLOTS, s=walk_bytes((5, 2, 20, 1)))],
+    "early_deliver": [
+        dict(a=data_of(5, 1), c=SLOTS, d=places_room(6), s=HOLDS),
+        dict(a=data_of(7, 1), c=SLOTS, d=b"", s=HOLDS),
+    ],
 }
 
 
@@ -137,7 +167,7 @@ def sizes(v):
             for spare in (-1, 0) if FUNCTIONS[name].words else (0,):
                 v.ask(name, spare=spare, **fields)
             function = FUNCTIONS[name]
-            lent = {"s", function.second} - {None}
+            lent = {"s", function.second, function.slots} - {None}
             for key in sorted({*function.state, *function.sized, *lent} & set(fields)):
                 for value in (fields[key][:-1], fields[key] + bytes([FILL]), b""):
                     v.ask(name, **{**fields, key: value})

@@ -6,12 +6,14 @@ import itertools
 from boundary import (
     CAPTURE_SIZE,
     CODES,
+    EARLY_SIZE,
     NOT_OPEN,
     NOT_OPEN_TOO,
     by_hand,
     client_bytes,
     client_in,
     cursor_bytes,
+    early_bytes,
     places_room,
     reading_bytes,
     reading_in,
@@ -19,10 +21,12 @@ from boundary import (
     server_bytes,
     server_in,
     transmitter_bytes,
+    walk_bytes,
 )
 from capture_rules import START, Reading, Report
 from captures import record
 from datagrams import ROOM, TWO, data_of, heartbeat
+from early_rules import SLOTS_SIZE, Early
 from lines import room
 from logins import GUEST, LOGIN, READER, SOUND_RECORD
 from mold_rules import TOP, Receiver
@@ -32,14 +36,18 @@ from sizes import KEPT
 from streams import BLANK, accepted, login, packet
 
 OPEN_RECEIVER = Receiver(ROOM, 1, 100, False)
+OPEN_EARLY = Early(*OPEN_RECEIVER)
+SLOTS = room(SLOTS_SIZE)
 # an open state of each kind
 KINDS = {
     "a cursor": cursor_bytes((20, 2)),
     "a receiver": receiver_bytes(OPEN_RECEIVER),
     "a server": server_bytes(Server(ROOM, 5, "waiting")),
     "a client": client_bytes(Client(ROOM, 7, "asked")),
-    "a reading": reading_bytes(Reading("records", Report(OPEN_RECEIVER))),
+    "a reading": reading_bytes(Reading("records", Report(OPEN_EARLY))),
     "a transmitter": transmitter_bytes((0, 0)),
+    "an early receiver": early_bytes(OPEN_EARLY),
+    "a walk": walk_bytes((1, 2, 20, 2)),
 }
 # what each kind's function answers to an open state, and to one that isn't; a receiver's own name may differ too
 TAKERS = {
@@ -47,8 +55,10 @@ TAKERS = {
     "a receiver": ("receiver_take", dict(a=TWO), ("deliver",), (17, 18)),
     "a server": ("server_step", dict(a=READER, b=packet(b"+")), ("debug",), (32,)),
     "a client": ("client_step", dict(a=packet(b"+")), ("debug",), (32,)),
-    "a reading": ("capture_feed", dict(a=record(heartbeat(1))), None, None),
+    "a reading": ("capture_feed", dict(a=record(heartbeat(1)), c=SLOTS), None, None),
     "a transmitter": ("transmitter_next", dict(a=ROOM, n=6, **KEPT, m=29, d=room(29)), (27,), (54,)),
+    "an early receiver": ("early_take", dict(a=TWO, c=SLOTS), ("deliver",), (17, 18)),
+    "a walk": ("early_next", dict(a=TWO, b=early_bytes(OPEN_EARLY), c=SLOTS), (1,), (0,)),
 }
 
 
@@ -73,20 +83,20 @@ def kinds(v):
     v.section("first bytes: the kind's code is open, and no other")
     for kind, state in KINDS.items():
         v.heading(kind)
-        for first in sorted({*CODES, NOT_OPEN, 1, NOT_OPEN_TOO, 0xE0, 0xE7, 0xFF}):
+        for first in sorted({*CODES, NOT_OPEN, 1, NOT_OPEN_TOO, 0xE0, 0xE9, 0xFF}):
             taken(v, kind, by_hand(state, first), first == state[0])
     v.section("bytes of zero are never open")
     for taker in TAKERS:
         taken(v, taker, bytes(CAPTURE_SIZE), False)
-    v.section("the receiver inside a reading, lent to the receiver's functions")
-    inside = dict(a=data_of(1, 2), s=KINDS["a reading"][2:23])
-    v.ask("receiver_take", ("deliver", 1, 2, 0), **inside)
-    v.ask("receiver_deliver", ("deliver", 1, 2, 0), d=places_room(4), **inside)
+    v.section("the receiver inside a reading, lent to the functions of the receiver that keeps early messages")
+    inside = dict(a=data_of(1, 2), c=SLOTS, s=KINDS["a reading"][2 : 2 + EARLY_SIZE])
+    v.ask("early_take", ("deliver", 1, 2, 0), **inside)
+    v.ask("early_deliver", ("deliver", 1, 2, 0), d=places_room(6), **inside)
     v.heading("before its settings it is blank and ended, as after a refused start")
-    inside = dict(s=reading_bytes(START)[2:23])
+    inside = dict(c=SLOTS, s=reading_bytes(START)[2 : 2 + EARLY_SIZE])
     for session, number in ((BLANK, 17), (ROOM, 18)):
-        v.ask("receiver_take", (number,), a=data_of(1, 2, session=session), **inside)
-        v.ask("receiver_deliver", (number,), a=data_of(1, 2, session=session), d=places_room(4), **inside)
+        v.ask("early_take", (number,), a=data_of(1, 2, session=session), **inside)
+        v.ask("early_deliver", (number,), a=data_of(1, 2, session=session), d=places_room(6), **inside)
     v.section("every kind's bytes, lent to the call that lays places: what isn't a receiver changes no byte")
     for kind, state in (*KINDS.items(), ("bytes of zero", bytes(CAPTURE_SIZE))):
         v.heading(kind)
@@ -122,20 +132,20 @@ def phases(v):
         assert v.ask("client_step", MORE, a=accepted()[:32], s=state).lent == state
     v.section("stages made by hand: a feed of no bytes, one of a whole record, and the end")
     for state in made(reading):
-        fed = v.ask("capture_feed", (0,), a=b"", s=state)
+        fed = v.ask("capture_feed", (0,), a=b"", c=SLOTS, s=state)
         assert fed.said[1] or fed.lent == state
-        v.ask("capture_feed", a=record(heartbeat(1)), s=state)
-        v.ask("capture_finish", a=b"", s=state)
+        v.ask("capture_feed", a=record(heartbeat(1)), c=SLOTS, s=state)
+        v.ask("capture_finish", a=b"", c=SLOTS, s=state)
         v.ask("capture_write", a=state, s=room(120))
     v.heading("before its settings, with a receiver made by hand: too few bytes change none of it")
     counted = by_hand(reading, reading[0], 1)
-    assert v.ask("capture_feed", (0, 0), a=bytes(56), s=counted).lent == counted
+    assert v.ask("capture_feed", (0, 0), a=bytes(56), c=SLOTS, s=counted).lent == counted
     v.section("the receiver of a reading, with a first byte made by hand")
     for first in (*CODES, NOT_OPEN, NOT_OPEN_TOO):
-        state = reading[:2] + by_hand(KINDS["a receiver"], first) + reading[23:]
-        v.ask("capture_feed", (22,), a=record(heartbeat(1)), s=state)
+        state = reading[:2] + by_hand(KINDS["an early receiver"], first) + reading[2 + EARLY_SIZE :]
+        v.ask("capture_feed", (22,), a=record(heartbeat(1)), c=SLOTS, s=state)
     v.section("the receiver of a reading, made by hand without a name: a record names it, and the report has the name")
-    blank = reading_bytes(Reading("records", Report(OPEN_RECEIVER._replace(session=BLANK))))
+    blank = reading_bytes(Reading("records", Report(OPEN_EARLY._replace(session=BLANK))))
     for datagram, name in (
         (heartbeat(1), ROOM),
         (data_of(1, 2), ROOM),
@@ -143,10 +153,10 @@ def phases(v):
         (heartbeat(1, session=BLANK), BLANK),
         (heartbeat(1)[:19], BLANK),
     ):
-        fed = v.ask("capture_feed", a=record(datagram), s=blank).lent
+        fed = v.ask("capture_feed", a=record(datagram), c=SLOTS, s=blank).lent
         assert reading_in(fed).report.receiver.session == name
         v.ask("capture_write", a=fed, s=room(120))
-        v.ask("capture_finish", a=record(datagram)[:-1], s=blank)
+        v.ask("capture_finish", a=record(datagram)[:-1], c=SLOTS, s=blank)
     v.section("no message is there: no byte changes, whatever the cursor was made of")
     cursor = KINDS["a cursor"]
     for data, state in (

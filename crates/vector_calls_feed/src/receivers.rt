@@ -5,10 +5,10 @@ use vector_lines::narrow::low16;
 use vector_lines::parse::least;
 
 // As many words of places as a line's bytes have room for.
-const MOST_PLACES: usize = 16384;
+pub(crate) const MOST_PLACES: usize = 16384;
 
 // The bytes that a word is shown as.
-const WORD_SIZE: usize = 8;
+pub(crate) const WORD_SIZE: usize = 8;
 
 // The place of a word's last byte, which is its lowest.
 const LAST: usize = 7;
@@ -17,7 +17,7 @@ const LAST: usize = 7;
 const FILL: u8 = 238;
 
 // A word of such bytes.
-const FILLED: u64 = 17216961135462248174;
+pub(crate) const FILLED: u64 = 17216961135462248174;
 
 // A byte of a word, by its place from 0 to 7.
 fn byte_of(word: u64, place: usize) -> u8 {
@@ -40,7 +40,7 @@ fn byte_at(words: &[u64], at: usize) -> u8 {
 }
 
 // Shows words as bytes.
-fn show(words: &[u64], out: &mut [u8]) {
+pub(crate) fn show(words: &[u64], out: &mut [u8]) {
     let mut at: usize = 0;
     while at < out.len() {
         out[at] = byte_at(words, at);

@@ -5,16 +5,16 @@
 
 mod store;
 
+use bench_orders::{least, runs};
 use differential::random::Random;
 use eiderwagon::mold::Request;
 use eiderwagon::raw;
 use eiderwagon::transmitter::Transmitter;
 use std::hint::black_box;
 use std::process::ExitCode;
-use std::time::{Duration, Instant};
+use std::time::Duration;
 use store::{in_parts, plain, Store};
 
-const RUNS: usize = 31;
 const NAME: &[u8; 10] = b"READROOM01";
 /// The size of a packet: what an Ethernet frame holds.
 const SIZE: usize = 1_472;
@@ -39,33 +39,6 @@ impl Messages {
     fn transmitter(&self) -> Transmitter<'_> {
         Transmitter::start(NAME, 1, &self.lengths, &self.joined, SIZE).expect("a good run")
     }
-}
-
-fn runs(mut arguments: impl Iterator<Item = String>) -> Option<usize> {
-    match (arguments.next(), arguments.next(), arguments.next()) {
-        (None, ..) => Some(RUNS),
-        (Some(name), Some(value), None) if name == "--runs" => {
-            value.parse().ok().filter(|&runs| runs > 0)
-        }
-        _ => None,
-    }
-}
-
-fn timed(work: impl FnOnce()) -> Duration {
-    let start = Instant::now();
-    work();
-    start.elapsed()
-}
-
-/// The least time of each of some works, taken in turns.
-fn least<const N: usize>(runs: usize, mut works: [&mut dyn FnMut(); N]) -> [Duration; N] {
-    let mut least = [Duration::MAX; N];
-    for _ in 0..runs {
-        for (least, work) in least.iter_mut().zip(&mut works) {
-            *least = timed(&mut **work).min(*least);
-        }
-    }
-    least
 }
 
 fn answers(runs: usize) {

@@ -11,6 +11,8 @@ pub struct Lent {
     pub state: Vec<u8>,
     /// Of the places of delivered messages.
     pub places: Vec<u64>,
+    /// Of a receiver that keeps early messages.
+    pub slots: Vec<u8>,
 }
 
 #[derive(Clone, Copy, Debug)]
@@ -65,6 +67,38 @@ pub enum Call<'a> {
         datagram: &'a [u8],
         count: u16,
         skipped: u16,
+    },
+    EarlyStart {
+        session: &'a [u8],
+        next: u64,
+        limit: u16,
+    },
+    EarlyTake {
+        datagram: &'a [u8],
+    },
+    EarlyCount {
+        state: &'a [u8],
+        slots: &'a [u8],
+        datagram: &'a [u8],
+    },
+    EarlyLocate {
+        state: &'a [u8],
+        slots: &'a [u8],
+        datagram: &'a [u8],
+        place: u16,
+    },
+    EarlyWalk {
+        state: &'a [u8],
+        slots: &'a [u8],
+        datagram: &'a [u8],
+    },
+    EarlyNext {
+        state: &'a [u8],
+        slots: &'a [u8],
+        datagram: &'a [u8],
+    },
+    EarlyDeliver {
+        datagram: &'a [u8],
     },
     StoreAnswer {
         session: &'a [u8],
@@ -190,6 +224,13 @@ impl<'a> Call<'a> {
             ReceiverTake { .. } => "receiver_take",
             ReceiverDeliver { .. } => "receiver_deliver",
             ReceiverWalk { .. } => "receiver_walk",
+            EarlyStart { .. } => "early_start",
+            EarlyTake { .. } => "early_take",
+            EarlyCount { .. } => "early_count",
+            EarlyLocate { .. } => "early_locate",
+            EarlyWalk { .. } => "early_walk",
+            EarlyNext { .. } => "early_next",
+            EarlyDeliver { .. } => "early_deliver",
             StoreAnswer { .. } => "store_answer",
             TransmitterPacket { .. } => "transmitter_packet",
             TransmitterStart { .. } => "transmitter_start",
@@ -229,7 +270,34 @@ impl<'a> Call<'a> {
             | MoldWalk { datagram }
             | MoldNext { datagram }
             | ReceiverTake { datagram }
-            | ReceiverDeliver { datagram } => vec![("datagram", Bytes(datagram))],
+            | ReceiverDeliver { datagram }
+            | EarlyTake { datagram }
+            | EarlyDeliver { datagram } => vec![("datagram", Bytes(datagram))],
+            EarlyCount {
+                state,
+                slots,
+                datagram,
+            }
+            | EarlyWalk {
+                state,
+                slots,
+                datagram,
+            }
+            | EarlyNext {
+                state,
+                slots,
+                datagram,
+            } => early_inputs(state, slots, datagram),
+            EarlyLocate {
+                state,
+                slots,
+                datagram,
+                place,
+            } => {
+                let mut inputs = early_inputs(state, slots, datagram);
+                inputs.push(("place", Number(place.into())));
+                inputs
+            }
             MoldLocate { datagram, place } => vec![
                 ("datagram", Bytes(datagram)),
                 ("place", Number(place.into())),
@@ -259,6 +327,11 @@ impl<'a> Call<'a> {
                 ("count", Number(count.into())),
             ],
             ReceiverStart {
+                session,
+                next,
+                limit,
+            }
+            | EarlyStart {
                 session,
                 next,
                 limit,
@@ -371,6 +444,19 @@ impl<'a> Call<'a> {
     }
 }
 
+/// What the functions read that say beforehand what a datagram will deliver.
+fn early_inputs<'a>(
+    state: &'a [u8],
+    slots: &'a [u8],
+    datagram: &'a [u8],
+) -> Vec<(&'static str, Input<'a>)> {
+    vec![
+        ("receiver", Input::Bytes(state)),
+        ("slots", Input::Bytes(slots)),
+        ("datagram", Input::Bytes(datagram)),
+    ]
+}
+
 /// How many bytes of a buffer are printed.
 const PRINTED: usize = 400;
 
@@ -413,6 +499,7 @@ impl Display for Lent {
         writeln!(formatter, "  words = {:x?}", self.words)?;
         writeln!(formatter, "  out = {}", hex(&self.out))?;
         writeln!(formatter, "  state = {}", hex(&self.state))?;
+        writeln!(formatter, "  slots = {}", hex(&self.slots))?;
         let shown = &self.places[..self.places.len().min(PRINTED / 4)];
         writeln!(
             formatter,

@@ -1,6 +1,6 @@
 //! Which outcomes of which functions were drawn, against the list of all that there are.
 
-use crate::compare::grounds::number;
+use crate::compare::grounds::{number, OTHER_SLOTS};
 use std::collections::BTreeMap;
 use std::fmt::{self, Display, Formatter};
 
@@ -27,6 +27,22 @@ receiver_deliver: deliver all | deliver the rest | old data | old heartbeat | qu
     ask to the limit, end | ended | named by deliver | named by old | named by quiet | named by ask |
     named by ended | 11 | 12 | 13 | 14 | 15 | 16 | 41 state | 17 | 17 blank | 18 | 20 | 41 places | 41 words
 receiver_walk: delivered messages | not of this datagram | 41 state
+early_start: started | 19 size | 19 | 41 state
+early_take: deliver all | deliver the rest | deliver held | deliver held that it carries too | deliver all slots |
+    deliver and ask | old data | old heartbeat | old and ask | quiet | quiet and ask | ahead, held | ahead, not held |
+    ahead, heartbeat | ahead, end | ended | ended, some held | named by deliver | named by old | named by quiet |
+    named by ahead | named by ended | 11 | 12 | 13 | 14 | 15 | 16 | 41 state | 17 | 17 blank | 18 | 19 slots | 20 |
+    41 words
+early_count: some | none | none, refused | 41 receiver | 19 slots | 41 words
+early_locate: in the datagram | in the slots | no such place | none, refused | 41 receiver | 19 slots | 41 words
+early_walk: messages | none | none, refused | 41 receiver | 19 slots | 41 state
+early_next: in the datagram | in the slots | none left | none, walk of another datagram | none, not open | 41 state |
+    41 receiver | 19 slots | 41 words
+early_deliver: deliver all | deliver the rest | deliver held | deliver held that it carries too | deliver all slots |
+    deliver and ask | old data | old heartbeat | old and ask | quiet | quiet and ask | ahead, held | ahead, not held |
+    ahead, heartbeat | ahead, end | ended | ended, some held | named by deliver | named by old | named by quiet |
+    named by ahead | named by ended | 11 | 12 | 13 | 14 | 15 | 16 | 41 state | 17 | 17 blank | 18 | 19 slots | 20 |
+    41 places | 41 words
 store_answer: all that is wanted | to the store's end | as many as fit | 19 packet | 19 numbers | 44 | 47 | 13 | 48 |
     41 session | 53 | 51 | 52 | 41 output | 41 words
 transmitter_packet: written | 19 | 44 | 13 | 14 | 52 | 54 | 41 session | 41 output | 41 words
@@ -72,9 +88,9 @@ client_step: asked, need more | asked, A | asked, J | asked, + | in, need more |
     33 | 34 | 41 words
 capture_start: started | 41 state
 capture_feed: settings, need more | settings, refused | settings, read | records, all used |
-    records, some kept | records, the most there are | done before | refused before | 41 state | 41 words
+    records, some kept | records, the most there are | done before | refused before | 41 state | 19 slots | 41 words
 capture_finish: settings, refused | settings, cut short | settings, whole | records, cut short |
-    records, the most there are | records, whole | done before | refused before | 41 state
+    records, the most there are | records, whole | done before | refused before | 41 state | 19 slots
 capture_write: report | settings=refused | 41 state | 41 output | 41 words
 capture_report: report | settings=refused | 41 output | 41 words
 ";
@@ -85,9 +101,13 @@ write_back: data | heartbeat | end of session | request | + of the server | + of
     J | S | H | Z | L | L, leading zeros | L, unsound | U | R | O
 ";
 
-/// Both sides of each bound of the places, of the store and of the transmitter.
+/// Both sides of each bound of the places, of early messages, of the store and of the transmitter.
 const BOUNDS: &str = "
 places: as many as are laid | one word less | none for no message | of the most messages
+early_window: n + 1 | n + 64 | n + 65
+early_length: 1,024 | 1,025
+early_places: as many as are laid | one word less | of the most messages
+early_swapped: delivered | nothing delivered
 packet_size: 21 | 22 | 65,507 | 65,508
 store_first: 0 | 1 | the last number is 2^64 - 2 | the last number is 2^64 - 1
 store_data: one byte short | as the lengths say | one byte more
@@ -202,6 +222,10 @@ fn listed_pairs() -> impl Iterator<Item = (&'static str, Pair)> {
 /// Grounds that never apply at once: what one looks at isn't there where the other applies.
 fn are_apart(function: &str, (first, second): &Pair) -> bool {
     let (one, other) = (number(first), number(second));
+    // The size of the slots is looked at by itself.
+    if *second == OTHER_SLOTS {
+        return false;
+    }
     match (one, other) {
         // Without a header there is no number, no block and no session.
         (11, 12..=17 | 20) => true,

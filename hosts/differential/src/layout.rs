@@ -1,6 +1,7 @@
 //! The byte layouts of states and cursors, as the header gives them. Decoding is total: any bytes are a state.
 
-use crate::reference::capture::{Capture, Stage, MOST_RECORDS};
+use crate::reference::capture::{Capture, Kept, Stage, MOST_RECORDS};
+use crate::reference::early::{Early, Number, SLOT};
 use crate::reference::login::Account;
 use crate::reference::mold::HEADER;
 use crate::reference::receiver::Receiver;
@@ -12,8 +13,11 @@ pub const CURSOR: usize = 11;
 pub const RECEIVER: usize = 21;
 pub const SERVER: usize = 20;
 pub const CLIENT: usize = 20;
-pub const CAPTURE: usize = 71;
+pub const CAPTURE: usize = 207;
 pub const TRANSMITTER: usize = 17;
+pub const EARLY: usize = 157;
+pub const WALK: usize = 21;
+pub const SLOTS: usize = 65_536;
 pub const ACCOUNT: usize = 16;
 
 /// The first byte of each kind's state while it is open. No two are the same, and none is 0.
@@ -23,13 +27,17 @@ pub const SERVER_CODE: u8 = 0xE3;
 pub const CLIENT_CODE: u8 = 0xE4;
 pub const CAPTURE_CODE: u8 = 0xE5;
 pub const TRANSMITTER_CODE: u8 = 0xE6;
-pub const CODES: [u8; 6] = [
+pub const EARLY_CODE: u8 = 0xE7;
+pub const WALK_CODE: u8 = 0xE8;
+pub const CODES: [u8; 8] = [
     CURSOR_CODE,
     RECEIVER_CODE,
     SERVER_CODE,
     CLIENT_CODE,
     CAPTURE_CODE,
     TRANSMITTER_CODE,
+    EARLY_CODE,
+    WALK_CODE,
 ];
 
 /// Where the parts stand that are made by hand: a session's phase, a reading's stage, its receiver, and how many
@@ -37,7 +45,7 @@ pub const CODES: [u8; 6] = [
 pub const PHASE: usize = 19;
 pub const STAGE: usize = 1;
 pub const CAPTURE_RECEIVER: usize = 2;
-pub const RECORDS: usize = 23;
+pub const RECORDS: usize = 159;
 
 /// A place in a datagram, and how many messages are left from there.
 #[derive(Clone, Copy, Debug, PartialEq, Eq)]
@@ -146,6 +154,101 @@ pub fn receiver_bytes(receiver: &Receiver) -> Vec<u8> {
     .concat()
 }
 
+/// Where the word of held numbers and the lengths of what is in the slots stand in a receiver that keeps early messages.
+pub const HELD: usize = 21;
+pub const LENGTHS: usize = 29;
+
+/// What isn't open is ended; its session, its numbers and what it holds still count.
+pub fn early(bytes: &[u8], slots: &[u8]) -> Early {
+    let bytes = whole::<EARLY>(bytes);
+    let next = number64(&bytes, 11);
+    let word = number64(&bytes, HELD);
+    let marked = (0..64).filter(|bit| word >> bit & 1 == 1);
+    let held = marked.map(|bit| {
+        let number = Number::from(next) + 1 + bit;
+        (number, slot_part(&bytes, slots, number).to_vec())
+    });
+    Early {
+        session: array(&bytes, 1),
+        next,
+        limit: number16(&bytes, 19),
+        ended: bytes[0] != EARLY_CODE,
+        held: held.collect(),
+    }
+}
+
+/// Where the slot of a number begins, and where its length stands in a receiver.
+pub fn slot_at(number: Number) -> usize {
+    (number % 64) as usize * SLOT
+}
+
+fn length_at(number: Number) -> usize {
+    LENGTHS + (number % 64) as usize * 2
+}
+
+/// What lies in the slot of a number. A length that was made up ends with the slots.
+fn slot_part<'s>(state: &[u8], slots: &'s [u8], number: Number) -> &'s [u8] {
+    let at = length_at(number);
+    let length = usize::from(u16::from_be_bytes([state[at], state[at + 1]]));
+    let from = slots.get(slot_at(number)..).unwrap_or_default();
+    &from[..length.min(from.len())]
+}
+
+/// The receiver behind a step that held some messages anew: their lengths are laid, and no others change.
+pub fn early_bytes(early: &Early, before: &[u8], kept: &Kept) -> Vec<u8> {
+    let mut word = 0;
+    for number in early.held.keys() {
+        word |= 1u64 << (number - Number::from(early.next) - 1);
+    }
+    let mut bytes = [
+        &[code(EARLY_CODE, !early.ended)][..],
+        &early.session,
+        &early.next.to_le_bytes(),
+        &early.limit.to_le_bytes(),
+        &word.to_le_bytes(),
+        &before[LENGTHS..EARLY],
+    ]
+    .concat();
+    for (number, message) in kept {
+        let length = message.len() as u16;
+        bytes[length_at(*number)..][..2].copy_from_slice(&length.to_be_bytes());
+    }
+    bytes
+}
+
+/// A walk over what a datagram will deliver: a number and how many are left, beside a cursor over the datagram's own.
+#[derive(Clone, Copy, Debug, PartialEq, Eq)]
+pub struct Walk {
+    pub number: u64,
+    pub left: u16,
+    pub cursor: Cursor,
+}
+
+/// What isn't open has no messages left.
+pub fn walk(bytes: &[u8]) -> Option<Walk> {
+    let bytes = whole::<WALK>(bytes);
+    let cursor = Cursor {
+        place: number64(&bytes, 11),
+        left: number16(&bytes, 19),
+    };
+    (bytes[0] == WALK_CODE).then(|| Walk {
+        number: number64(&bytes, 1),
+        left: number16(&bytes, 9),
+        cursor,
+    })
+}
+
+pub fn walk_bytes(walk: Walk) -> Vec<u8> {
+    [
+        &[WALK_CODE][..],
+        &walk.number.to_le_bytes(),
+        &walk.left.to_le_bytes(),
+        &walk.cursor.place.to_le_bytes(),
+        &walk.cursor.left.to_le_bytes(),
+    ]
+    .concat()
+}
+
 /// What is open is in by phase 2, and waiting by every other one.
 pub fn server(bytes: &[u8]) -> Server {
     let bytes = whole::<SERVER>(bytes);
@@ -207,11 +310,11 @@ pub fn client_bytes(client: &Client) -> Vec<u8> {
 
 /// What is open takes records by stage 2, and settings by every other one; what isn't is done by stage 3, and else its
 /// settings are refused.
-pub fn capture(bytes: &[u8]) -> Capture {
+pub fn capture(bytes: &[u8], slots: &[u8]) -> Capture {
     let bytes = whole::<CAPTURE>(bytes);
     let records = number64(&bytes, RECORDS).min(u64::from(MOST_RECORDS));
     Capture {
-        receiver: receiver(&bytes[CAPTURE_RECEIVER..]),
+        receiver: early(&bytes[CAPTURE_RECEIVER..], slots),
         stage: match (bytes[0] == CAPTURE_CODE, bytes[STAGE]) {
             (true, 2) => Stage::Records,
             (true, _) => Stage::Settings,
@@ -219,15 +322,16 @@ pub fn capture(bytes: &[u8]) -> Capture {
             (false, _) => Stage::SettingsRefused,
         },
         records: records as u32,
-        delivered: number64(&bytes, 31),
-        old: number64(&bytes, 39),
-        quiet: number64(&bytes, 47),
-        asked: number64(&bytes, 55),
-        refused: number64(&bytes, 63),
+        delivered: number64(&bytes, 167),
+        old: number64(&bytes, 175),
+        quiet: number64(&bytes, 183),
+        asked: number64(&bytes, 191),
+        refused: number64(&bytes, 199),
     }
 }
 
-pub fn capture_bytes(capture: &Capture) -> Vec<u8> {
+/// The reading behind a call that held some messages anew.
+pub fn capture_bytes(capture: &Capture, before: &[u8], kept: &Kept) -> Vec<u8> {
     let (open, stage) = match capture.stage {
         Stage::Settings => (true, 1),
         Stage::Records => (true, 2),
@@ -235,7 +339,8 @@ pub fn capture_bytes(capture: &Capture) -> Vec<u8> {
         Stage::SettingsRefused => (false, 0),
     };
     let mut bytes = vec![code(CAPTURE_CODE, open), stage];
-    bytes.extend(receiver_bytes(&capture.receiver));
+    let before = &before[CAPTURE_RECEIVER..];
+    bytes.extend(early_bytes(&capture.receiver, before, kept));
     let numbers = [
         u64::from(capture.records),
         capture.delivered,

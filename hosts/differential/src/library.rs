@@ -59,16 +59,32 @@ impl Library for Archive {
         let mut out = Guarded::new(&lent.out, BYTE);
         let mut state = Guarded::new(&lent.state, BYTE);
         let mut places = Guarded::new(&lent.places, WORD);
+        let mut slots = Guarded::new(&lent.slots, BYTE);
         let code = match *call {
             Call::ReceiverDeliver { datagram } => {
                 raw::receiver_deliver(state.lent(), datagram, words.lent(), places.lent())
             }
+            Call::EarlyTake { datagram } => {
+                raw::early_take(state.lent(), slots.lent(), datagram, words.lent())
+            }
+            Call::EarlyDeliver { datagram } => raw::early_deliver(
+                state.lent(),
+                slots.lent(),
+                datagram,
+                words.lent(),
+                places.lent(),
+            ),
+            Call::CaptureFeed { bytes } => {
+                raw::capture_feed(state.lent(), slots.lent(), bytes, words.lent())
+            }
+            Call::CaptureFinish { bytes } => raw::capture_finish(state.lent(), slots.lent(), bytes),
             _ => exported(call, words.lent(), out.lent(), state.lent()),
         };
         words.back(&mut lent.words, WORD);
         out.back(&mut lent.out, BYTE);
         state.back(&mut lent.state, BYTE);
         places.back(&mut lent.places, WORD);
+        slots.back(&mut lent.slots, BYTE);
         code
     }
 
@@ -84,7 +100,7 @@ impl Library for Archive {
 const WORD: u64 = 0xA5A5_A5A5_A5A5_A5A5;
 const BYTE: u8 = 0xA5;
 
-/// Every function but the one that lays places.
+/// Every function but those that lay places or write to slots.
 fn exported(call: &Call, words: &mut [u64], out: &mut [u8], state: &mut [u8]) -> u32 {
     match *call {
         Call::MoldRead { datagram } => raw::mold_read(datagram, words),
@@ -113,12 +129,42 @@ fn exported(call: &Call, words: &mut [u64], out: &mut [u8], state: &mut [u8]) ->
             limit,
         } => raw::receiver_start(session, next, limit, state),
         Call::ReceiverTake { datagram } => raw::receiver_take(state, datagram, words),
-        Call::ReceiverDeliver { .. } => unreachable!("it is lent places too"),
+        Call::ReceiverDeliver { .. }
+        | Call::EarlyTake { .. }
+        | Call::EarlyDeliver { .. }
+        | Call::CaptureFeed { .. }
+        | Call::CaptureFinish { .. } => unreachable!("it is lent places or slots too"),
         Call::ReceiverWalk {
             datagram,
             count,
             skipped,
         } => raw::receiver_walk(datagram, count, skipped, state),
+        Call::EarlyStart {
+            session,
+            next,
+            limit,
+        } => raw::early_start(session, next, limit, state),
+        Call::EarlyCount {
+            state: receiver,
+            slots,
+            datagram,
+        } => raw::early_count(receiver, slots, datagram, words),
+        Call::EarlyLocate {
+            state: receiver,
+            slots,
+            datagram,
+            place,
+        } => raw::early_locate(receiver, slots, datagram, place, words),
+        Call::EarlyWalk {
+            state: receiver,
+            slots,
+            datagram,
+        } => raw::early_walk(receiver, slots, datagram, state),
+        Call::EarlyNext {
+            state: receiver,
+            slots,
+            datagram,
+        } => raw::early_next(state, receiver, slots, datagram, words),
         Call::StoreAnswer {
             session,
             first,
@@ -176,8 +222,6 @@ fn exported(call: &Call, words: &mut [u64], out: &mut [u8], state: &mut [u8]) ->
         Call::ClientStart { session, number } => raw::client_start(session, number, state),
         Call::ClientStep { stream } => raw::client_step(state, stream, words),
         Call::CaptureStart => raw::capture_start(state),
-        Call::CaptureFeed { bytes } => raw::capture_feed(state, bytes, words),
-        Call::CaptureFinish { bytes } => raw::capture_finish(state, bytes),
         Call::CaptureWrite => raw::capture_write(state, out, words),
         Call::CaptureReport { capture } => raw::capture_report(capture, out, words),
     }

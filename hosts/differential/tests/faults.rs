@@ -143,6 +143,41 @@ const HANDLING: &[(&str, Fault)] = &[
             }
         },
     ),
+    ("a refusal writes to a slot", |_, _, code, after| {
+        if *code != 0 {
+            touch(after.slots.first_mut());
+        }
+    }),
+    (
+        "a byte behind a held message is set",
+        |call, before, code, after| {
+            if is_early(call) && *code == 0 && after.slots != before.slots {
+                touch(after.slots.last_mut());
+            }
+        },
+    ),
+    ("what delivers clears its slots", |call, _, code, after| {
+        if is_early(call) && *code == 0 && after.words[0] == 1 {
+            after.slots.fill(0);
+        }
+    }),
+    (
+        "a walk is laid where no message is there",
+        |call, _, code, after| {
+            let moved = matches!(call, Call::EarlyNext { .. }) && *code == 0;
+            if moved && after.words[0] == 0 && after.state[0] != 0xE8 {
+                after.state[..21].fill(0);
+            }
+        },
+    ),
+    (
+        "an early place behind the last is set",
+        |call, _, code, after| {
+            if matches!(call, Call::EarlyDeliver { .. }) && *code == 0 {
+                touch(after.places.get_mut(3 * after.words[2] as usize));
+            }
+        },
+    ),
     ("a short output is filled", |call, _, code, after| {
         if *code == 41 && call.function() == "capture_report" {
             after.out.fill(b'=');
@@ -153,6 +188,26 @@ const HANDLING: &[(&str, Fault)] = &[
 /// Whether a call delivered with places.
 fn laid(call: &Call, code: u32, after: &Lent) -> bool {
     matches!(call, Call::ReceiverDeliver { .. }) && code == 0 && after.words[0] == 1
+}
+
+/// Whether a call is a step of the receiver that keeps early messages.
+fn is_early(call: &Call) -> bool {
+    matches!(call, Call::EarlyTake { .. } | Call::EarlyDeliver { .. })
+}
+
+/// Where its word of held numbers stands.
+const HELD: std::ops::Range<usize> = 21..29;
+
+/// Whether such a step was answered so.
+fn answered_early(call: &Call, code: u32, after: &Lent, answer: u64) -> bool {
+    is_early(call) && code == 0 && after.words[0] == answer
+}
+
+/// Asks for nothing beside an answer.
+fn ask_nothing(answer: u64, call: &Call, code: u32, after: &mut Lent) {
+    if answered_early(call, code, after, answer) {
+        after.words[4..7].fill(0);
+    }
 }
 
 /// How far a datagram lies ahead of a receiver.
@@ -582,6 +637,89 @@ const RULES: &[(&str, Fault)] = &[
             let is_unnamed = name_in(&before.state) == Some(BLANK);
             if *code == 18 && taken(call, before).is_some() && is_unnamed {
                 refuse(17, before, code, after);
+            }
+        },
+    ),
+    ("what delivers doesn't ask", |call, _, code, after| {
+        ask_nothing(1, call, *code, after)
+    }),
+    ("what is old doesn't ask", |call, _, code, after| {
+        ask_nothing(2, call, *code, after)
+    }),
+    ("what is quiet doesn't ask", |call, _, code, after| {
+        ask_nothing(3, call, *code, after)
+    }),
+    ("what ends still holds", |call, before, code, after| {
+        if answered_early(call, *code, after, 5) {
+            after.state[HELD].copy_from_slice(&before.state[HELD]);
+        }
+    }),
+    (
+        "an ask reaches past what is held",
+        |call, before, code, after| {
+            if let Call::EarlyTake { datagram } = *call {
+                let is_ahead = answered_early(call, *code, after, 4);
+                if is_ahead && after.words[6] < u64::from(u16::MAX) {
+                    after.words[6] = ahead(datagram, &before.state).min(after.words[6] + 64);
+                }
+            }
+        },
+    ),
+    (
+        "held messages aren't counted",
+        |call, before, code, after| {
+            if answered_early(call, *code, after, 1) && before.state[HELD] != after.state[HELD] {
+                after.words[2] = 1;
+            }
+        },
+    ),
+    (
+        "the word shifts by the run alone",
+        |call, _, code, after| {
+            if answered_early(call, *code, after, 1) {
+                let word = u64::from_le_bytes(after.state[HELD].try_into().expect("eight bytes"));
+                after.state[HELD].copy_from_slice(&(word << 1).to_le_bytes());
+            }
+        },
+    ),
+    (
+        "a length is laid with its low byte first",
+        |call, before, code, after| {
+            if answered_early(call, *code, after, 4) && before.state != after.state {
+                for length in after.state[29..157].chunks_exact_mut(2) {
+                    length.swap(0, 1);
+                }
+            }
+        },
+    ),
+    (
+        "slots of another size come behind 20",
+        |call, before, code, after| {
+            if is_early(call) && *code == 19 {
+                let mut lent = before.clone();
+                lent.slots.resize(65_536, 7);
+                if StandIn.call(call, &mut lent) == 20 {
+                    refuse(20, before, code, after);
+                }
+            }
+        },
+    ),
+    (
+        "a message that is held is had from the datagram",
+        |call, _, code, after| {
+            if matches!(call, Call::EarlyLocate { .. }) && *code == 0 {
+                after.words[1] = 0;
+            }
+        },
+    ),
+    (
+        "a capture doesn't count a request beside an answer",
+        |call, before, code, after| {
+            if matches!(call, Call::CaptureFeed { .. }) && *code == 0 {
+                let grew = after.state[191..199] != before.state[191..199];
+                if grew && after.state[175..183] != before.state[175..183] {
+                    after.state[191..199].copy_from_slice(&before.state[191..199]);
+                }
             }
         },
     ),

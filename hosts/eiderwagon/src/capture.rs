@@ -1,7 +1,7 @@
 //! Captures: a session followed through recorded datagrams, and the report of it.
 //!
 //! A capture is three lines of settings and then records, each a length of two bytes, the high one
-//! first, and a datagram.
+//! first, and a datagram. The receiver that takes them keeps [early](crate::early) messages.
 //!
 //! ```
 //! use eiderwagon::{capture, mold};
@@ -29,7 +29,7 @@
 //!      next=6\n\
 //!      ended=yes\n\
 //!      delivered=5\n\
-//!      old=1\n\
+//!      old=2\n\
 //!      quiet=1\n\
 //!      asked=2\n\
 //!      refused=1\n"
@@ -38,14 +38,16 @@
 //! ```
 
 use crate::call::{check, field, number, small_number, sure, words, written};
+use crate::early::{new_slots, Slots};
 use crate::{raw, Refusal, Session};
+use std::fmt;
 
 /// The report of a whole capture: eight lines, or `settings=refused` alone.
 pub fn report(capture: &[u8]) -> String {
     text(|out, words| raw::capture_report(capture, out, words))
 }
 
-/// A capture that is read in pieces.
+/// A capture that is read in pieces. It has its own slots, 64 KiB of memory.
 ///
 /// ```
 /// use eiderwagon::capture::{self, Reading};
@@ -65,9 +67,10 @@ pub fn report(capture: &[u8]) -> String {
 /// assert_eq!(reading.report(), capture::report(file));
 /// assert_eq!((reading.next(), reading.counts().refused), (1, 1));
 /// ```
-#[derive(Debug, PartialEq, Eq)]
+#[derive(PartialEq, Eq)]
 pub struct Reading {
     state: [u8; raw::CAPTURE_SIZE],
+    slots: Slots,
 }
 
 /// What became of a piece.
@@ -106,7 +109,7 @@ pub struct Counts {
     pub old: u64,
     /// Answers quiet.
     pub quiet: u64,
-    /// Answers that ask.
+    /// Requests drawn, those beside another answer too.
     pub asked: u64,
     /// Refusals.
     pub refused: u64,
@@ -117,18 +120,19 @@ impl Reading {
     pub fn start() -> Self {
         let mut state = [0; raw::CAPTURE_SIZE];
         sure(check(raw::capture_start(&mut state)));
-        Reading { state }
+        Reading { state, slots: new_slots() }
     }
 
     /// Feeds some bytes, after which more may come.
     pub fn feed(&mut self, bytes: &[u8]) -> Fed {
-        let [used, over] = sure(words(|w| raw::capture_feed(&mut self.state, bytes, w)));
+        let Reading { state, slots } = self;
+        let [used, over] = sure(words(|w| raw::capture_feed(state, &mut slots[..], bytes, w)));
         Fed { used: used as usize, over: over == 1 }
     }
 
     /// Feeds the last bytes: those that were kept, with what came behind them.
     pub fn finish(&mut self, bytes: &[u8]) {
-        sure(check(raw::capture_finish(&mut self.state, bytes)));
+        sure(check(raw::capture_finish(&mut self.state, &mut self.slots[..], bytes)));
     }
 
     /// The report of what was read so far, or `settings=refused` while no settings were read.
@@ -165,34 +169,56 @@ impl Reading {
         }
     }
 
+    /// The bytes of the slots, in which messages are held that came before their turn.
+    pub fn slots(&self) -> &[u8; raw::SLOTS_SIZE] {
+        &self.slots
+    }
+
     /// The session that is followed; ten spaces while no settings were read.
     pub fn session(&self) -> Session {
-        field(self.receiver(), raw::RECEIVER_SESSION_AT)
+        field(self.receiver(), raw::EARLY_SESSION_AT)
     }
 
     /// The number of the next message; 1 while no settings were read.
     pub fn next(&self) -> u64 {
-        number(self.receiver(), raw::RECEIVER_NEXT_AT)
+        number(self.receiver(), raw::EARLY_NEXT_AT)
     }
 
     /// The most messages that are asked for at once; 1 while no settings were read.
     pub fn limit(&self) -> u16 {
-        small_number(self.receiver(), raw::RECEIVER_LIMIT_AT)
+        small_number(self.receiver(), raw::EARLY_LIMIT_AT)
     }
 
     /// Whether the session is over, or no settings were read.
     pub fn is_ended(&self) -> bool {
-        self.receiver()[raw::RECEIVER_CODE_AT] != raw::RECEIVER_OPEN
+        self.receiver()[raw::EARLY_CODE_AT] != raw::EARLY_OPEN
+    }
+
+    /// How many messages are held for later, at most 64.
+    pub fn held_count(&self) -> u32 {
+        number(self.receiver(), raw::EARLY_HELD_AT).count_ones()
     }
 
     /// The bytes of the receiver that it has.
     fn receiver(&self) -> &[u8] {
-        &self.state[raw::CAPTURE_RECEIVER_AT..][..raw::RECEIVER_SIZE]
+        &self.state[raw::CAPTURE_RECEIVER_AT..][..raw::EARLY_SIZE]
     }
 
     /// The state's bytes, as `include/eiderwagon.h` lays them out.
     pub fn as_bytes(&self) -> &[u8; raw::CAPTURE_SIZE] {
         &self.state
+    }
+}
+
+impl fmt::Debug for Reading {
+    fn fmt(&self, f: &mut fmt::Formatter<'_>) -> fmt::Result {
+        f.debug_struct("Reading")
+            .field("stage", &self.stage())
+            .field("session", &format_args!("\"{}\"", self.session().escape_ascii()))
+            .field("next", &self.next())
+            .field("held", &self.held_count())
+            .field("counts", &self.counts())
+            .finish()
     }
 }
 

@@ -8,8 +8,9 @@
 //! - the clocks: heartbeats are due after a second without sending, silence ends a connection, and
 //!   requests are paced, for which there is [`receiver::Requests`];
 //! - one [`session::Server`] or [`session::Client`] for each connection, and one
-//!   [`receiver::Receiver`] for each feed. The host keeps them, and hands each datagram or stream
-//!   to its own, in the order in which it came;
+//!   [`receiver::Receiver`] for each feed, or, where packets swap places, one
+//!   [`early::EarlyReceiver`]. The host keeps them, and hands each datagram or stream to its own, in
+//!   the order in which it came;
 //! - the messages of a [`store::Store`] that answers requests, and of a
 //!   [`transmitter::Transmitter`] that sends them: both borrow what the host keeps.
 //!
@@ -68,6 +69,7 @@
 
 mod call;
 pub mod capture;
+pub mod early;
 pub mod mold;
 #[allow(unsafe_code)]
 pub mod raw;
@@ -91,6 +93,10 @@ pub type Session = [u8; raw::SESSION_SIZE];
 ///
 /// ```compile_fail
 /// eiderwagon::receiver::Receiver { state: [0; 21] };
+/// ```
+///
+/// ```compile_fail
+/// eiderwagon::early::EarlyReceiver::start(b"READROOM01", 1, 1).unwrap().clone();
 /// ```
 ///
 /// ```compile_fail

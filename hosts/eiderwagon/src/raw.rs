@@ -135,7 +135,7 @@ constants! {
     REFUSED_SESSION_DIFFERS: u32 = 17;
     /// The session has already ended.
     REFUSED_SESSION_ENDED: u32 = 18;
-    /// A bad starting setting, an account table over 1,024 records, or a packet's size or a store's numbers out of bounds.
+    /// A bad starting setting, an account table over 1,024 records, a packet's size or a store's numbers out of bounds, or slots of another size.
     REFUSED_BAD_SETTING: u32 = 19;
     /// An end of session below the expected number.
     REFUSED_END_BELOW_EXPECTED: u32 = 20;
@@ -196,6 +196,10 @@ constants! {
     LARGEST_REPLY: usize = 33;
     /// A buffer that every capture's report fits, in bytes.
     LARGEST_REPORT: usize = 256;
+    /// A slot, and the longest message that is held in one, in bytes.
+    SLOT_SIZE: usize = 1024;
+    /// The 64 slots of a receiver that keeps early messages, in bytes.
+    SLOTS_SIZE: usize = 65536;
 
     /// Offset in a cursor: its code, or no messages are left (1).
     CURSOR_CODE_AT: usize = 0;
@@ -220,6 +224,40 @@ constants! {
     RECEIVER_SIZE: usize = 21;
     /// The code of a receiver that isn't ended.
     RECEIVER_OPEN: u8 = 0xE2;
+
+    /// Offset in a receiver that keeps early messages: its code, or it is ended (1).
+    EARLY_CODE_AT: usize = 0;
+    /// Offset in a receiver that keeps early messages: session (10).
+    EARLY_SESSION_AT: usize = 1;
+    /// Offset in a receiver that keeps early messages: number of the next message (8).
+    EARLY_NEXT_AT: usize = 11;
+    /// Offset in a receiver that keeps early messages: asking limit (2).
+    EARLY_LIMIT_AT: usize = 19;
+    /// Offset in a receiver that keeps early messages: the held numbers, a bit each, the lowest for
+    /// the next number + 1 (8).
+    EARLY_HELD_AT: usize = 21;
+    /// Offset in a receiver that keeps early messages: length of the message in each slot, its most
+    /// significant byte first (64 x 2).
+    EARLY_LENGTHS_AT: usize = 29;
+    /// A receiver that keeps early messages, in bytes.
+    EARLY_SIZE: usize = 157;
+    /// The code of a receiver that keeps early messages and isn't ended.
+    EARLY_OPEN: u8 = 0xE7;
+
+    /// Offset in a walk: its code, or no messages are left (1).
+    WALK_CODE_AT: usize = 0;
+    /// Offset in a walk: number of the message to come (8).
+    WALK_NUMBER_AT: usize = 1;
+    /// Offset in a walk: messages left (2).
+    WALK_LEFT_AT: usize = 9;
+    /// Offset in a walk: place in the datagram (8).
+    WALK_PLACE_AT: usize = 11;
+    /// Offset in a walk: the datagram's own messages that are left from there on (2).
+    WALK_BLOCKS_AT: usize = 19;
+    /// A walk, in bytes.
+    WALK_SIZE: usize = 21;
+    /// The code of a walk.
+    WALK_OPEN: u8 = 0xE8;
 
     /// Offset in a transmitter: its code, or no packet is left (1).
     TRANSMITTER_CODE_AT: usize = 0;
@@ -279,22 +317,22 @@ constants! {
     /// Offset in the reading of a capture: its stage (1); with the code only 2 is records and every
     /// other byte settings, without it only 3 is done and every other settings refused.
     CAPTURE_STAGE_AT: usize = 1;
-    /// Offset in the reading of a capture: a receiver.
+    /// Offset in the reading of a capture: a receiver that keeps early messages.
     CAPTURE_RECEIVER_AT: usize = 2;
     /// Offset in the reading of a capture: records read (8; above 2^32 - 1 counts as that).
-    CAPTURE_RECORDS_AT: usize = 23;
+    CAPTURE_RECORDS_AT: usize = 159;
     /// Offset in the reading of a capture: messages delivered (8).
-    CAPTURE_DELIVERED_AT: usize = 31;
+    CAPTURE_DELIVERED_AT: usize = 167;
     /// Offset in the reading of a capture: answers old (8).
-    CAPTURE_OLD_AT: usize = 39;
+    CAPTURE_OLD_AT: usize = 175;
     /// Offset in the reading of a capture: answers quiet (8).
-    CAPTURE_QUIET_AT: usize = 47;
-    /// Offset in the reading of a capture: answers asked (8).
-    CAPTURE_ASKED_AT: usize = 55;
+    CAPTURE_QUIET_AT: usize = 183;
+    /// Offset in the reading of a capture: requests drawn, beside whatever answer (8).
+    CAPTURE_ASKED_AT: usize = 191;
     /// Offset in the reading of a capture: refusals (8).
-    CAPTURE_REFUSED_AT: usize = 63;
+    CAPTURE_REFUSED_AT: usize = 199;
     /// The reading of a capture, in bytes.
-    CAPTURE_SIZE: usize = 71;
+    CAPTURE_SIZE: usize = 207;
     /// The code of a reading that isn't over.
     CAPTURE_OPEN: u8 = 0xE5;
     /// A capture's stage: settings refused.
@@ -384,6 +422,63 @@ constants! {
     PLACE_WORDS: usize = 2;
     /// How many words are enough for the places of every datagram.
     MOST_PLACES: usize = 65486;
+
+    /// A receiver that keeps early messages answers: deliver messages, of this datagram and of the
+    /// slots.
+    EARLY_DELIVER: u64 = 1;
+    /// A receiver that keeps early messages answers: nothing new.
+    EARLY_OLD: u64 = 2;
+    /// A receiver that keeps early messages answers: a heartbeat at the expected number.
+    EARLY_QUIET: u64 = 3;
+    /// A receiver that keeps early messages answers: messages are missing before this datagram.
+    EARLY_AHEAD: u64 = 4;
+    /// A receiver that keeps early messages answers: the session is over, and nothing is missing.
+    EARLY_ENDED: u64 = 5;
+
+    /// Word of [`early_take`] and [`early_deliver`]: what to do.
+    EARLY_TAKE_ANSWER: usize = 0;
+    /// Word of [`early_take`] and [`early_deliver`]: number of the first message delivered.
+    EARLY_TAKE_FIRST: usize = 1;
+    /// Word of [`early_take`] and [`early_deliver`]: how many are delivered, those of the slots too.
+    EARLY_TAKE_COUNT: usize = 2;
+    /// Word of [`early_take`] and [`early_deliver`]: how many of the datagram's messages are skipped
+    /// before those delivered.
+    EARLY_TAKE_SKIPPED: usize = 3;
+    /// Word of [`early_take`] and [`early_deliver`]: 1 if messages are missing, else 0.
+    EARLY_TAKE_ASKS: usize = 4;
+    /// Word of [`early_take`] and [`early_deliver`]: the first number wanted.
+    EARLY_TAKE_FROM: usize = 5;
+    /// Word of [`early_take`] and [`early_deliver`]: how many are wanted.
+    EARLY_TAKE_WANTED: usize = 6;
+    /// How many words [`early_take`] and [`early_deliver`] have.
+    EARLY_TAKE_WORDS: usize = 7;
+
+    /// Word of [`early_count`]: how many messages the datagram will deliver.
+    EARLY_COUNT_COUNT: usize = 0;
+    /// How many words [`early_count`] has.
+    EARLY_COUNT_WORDS: usize = 1;
+
+    /// Word of [`early_locate`] and [`early_next`]: 1 if a message is there, else 0.
+    PART_FOUND: usize = 0;
+    /// Word of [`early_locate`] and [`early_next`]: 1 if it lies in the slots, 0 if in the datagram.
+    PART_HELD: usize = 1;
+    /// Word of [`early_locate`] and [`early_next`]: the offset of its first byte there.
+    PART_OFFSET: usize = 2;
+    /// Word of [`early_locate`] and [`early_next`]: its length, perhaps 0.
+    PART_LENGTH: usize = 3;
+    /// How many words [`early_locate`] and [`early_next`] have.
+    PART_WORDS: usize = 4;
+
+    /// Word of an early receiver's place: 1 if the message lies in the slots, 0 if in the datagram.
+    EARLY_PLACE_HELD: usize = 0;
+    /// Word of an early receiver's place: the offset of the message's first byte there.
+    EARLY_PLACE_OFFSET: usize = 1;
+    /// Word of an early receiver's place: the message's length, perhaps 0.
+    EARLY_PLACE_LENGTH: usize = 2;
+    /// How many words an early receiver's place has.
+    EARLY_PLACE_WORDS: usize = 3;
+    /// How many words are enough for the places of every datagram at an early receiver.
+    EARLY_MOST_PLACES: usize = 98421;
 
     /// Of a stream: the server sends it.
     SOUP_FROM_SERVER: u8 = 0;
@@ -528,6 +623,27 @@ exported! {
     /// Sets a cursor to the first message delivered.
     receiver_walk(datagram: &[u8], count: u16, skipped: u16, cursor: &mut [u8]);
 
+    /// Starts a receiver that keeps early messages.
+    early_start(session: &[u8], next: u64, limit: u16, state: &mut [u8]);
+    /// Takes a datagram. Words: what to do, a first number, how many, how many skipped; 1 or 0, the
+    /// first number wanted, how many.
+    early_take(state: &mut [u8], slots: &mut [u8], datagram: &[u8], words: &mut [u64]);
+    /// Says how many messages a datagram will deliver. Words: how many.
+    early_count(state: &[u8], slots: &[u8], datagram: &[u8], words: &mut [u64]);
+    /// Finds a message that a datagram will deliver by its place. Words: 1 or 0, 1 if it lies in the
+    /// slots, its offset, its length.
+    early_locate(state: &[u8], slots: &[u8], datagram: &[u8], place: u16, words: &mut [u64]);
+    /// Sets a walk to the first message that a datagram will deliver.
+    early_walk(state: &[u8], slots: &[u8], datagram: &[u8], cursor: &mut [u8]);
+    /// Answers the message at a walk and moves on; where none is there the walk stays as it is.
+    /// Words: those of [`early_locate`].
+    early_next(cursor: &mut [u8], state: &[u8], slots: &[u8], datagram: &[u8],
+        words: &mut [u64]);
+    /// Takes a datagram, and lays the place of each delivered message: 1 if it lies in the slots, its
+    /// offset and its length. Words: those of [`early_take`].
+    early_deliver(state: &mut [u8], slots: &mut [u8], datagram: &[u8], words: &mut [u64],
+        places: &mut [u64]);
+
     /// Answers a request from a store. Words: how many bytes.
     store_answer(session: &[u8], first: u64, lengths: &[u16], joined: &[u8], size: u64,
         request: &[u8], out: &mut [u8], words: &mut [u64]);
@@ -586,9 +702,9 @@ exported! {
     /// Starts the reading of a capture.
     capture_start(state: &mut [u8]);
     /// Feeds bytes of a capture. Words: how many were used, 1 if the report stands already.
-    capture_feed(state: &mut [u8], bytes: &[u8], words: &mut [u64]);
+    capture_feed(state: &mut [u8], slots: &mut [u8], bytes: &[u8], words: &mut [u64]);
     /// Feeds the last bytes of a capture.
-    capture_finish(state: &mut [u8], bytes: &[u8]);
+    capture_finish(state: &mut [u8], slots: &mut [u8], bytes: &[u8]);
     /// Writes the report of what was read. Words: how many bytes.
     capture_write(state: &[u8], out: &mut [u8], words: &mut [u64]);
     /// Writes the report of a whole capture. Words: how many bytes.

@@ -60,12 +60,13 @@
 //!
 //! # Requests are paced by the host
 //!
-//! A datagram ahead isn't kept, and the receiver keeps no time: so by its table each datagram ahead
-//! asks anew, for the same messages, until they have come. A host that sends every request that is
-//! answered sends one for almost each datagram that comes while an answer is on its way, and each is
-//! answered with the same messages once more, on a line that is losing some already. [`Requests`]
-//! says which ones to send. Nothing is lost by the others: while something is missing, every
-//! datagram ahead asks again, and where nothing else is sent the venue's heartbeats do.
+//! This receiver keeps no datagram that is ahead ([`early`](crate::early) has one that does), and
+//! no time: so by its table each datagram ahead asks anew, for the same messages, until they have
+//! come. A host that sends every request that is answered sends one for almost each datagram that
+//! comes while an answer is on its way, and each is answered with the same messages once more, on a
+//! line that is losing some already. [`Requests`] says which ones to send. Nothing is lost by the
+//! others: while something is missing, every datagram ahead asks again, and where nothing else is
+//! sent the venue's heartbeats do.
 //!
 //! A good pause is a little longer than an answer takes to come. Over a feed of 2,000 datagrams of
 //! which one in thirty was lost, it spared nine requests in ten, and most of what was sent again for
@@ -83,7 +84,7 @@ use crate::{raw, Refusal, Session};
 use std::fmt;
 
 /// What stands for a session's name while there is none.
-const NO_NAME: &Session = &[b' '; raw::SESSION_SIZE];
+pub(crate) const NO_NAME: &Session = &[b' '; raw::SESSION_SIZE];
 
 /// A receiver of one session.
 #[derive(PartialEq, Eq)]

@@ -1,12 +1,13 @@
 //! The yardstick: the library's paths in ordinary Rust, and the library beside them.
 //!
-//! `mold`, `receiver`, `soup` and `report` are the yardstick: the receiver with its walk, both ends
-//! of a session, and the capture program. `captures` and `talks` are what both sides are fed, `host`
+//! `mold`, `receiver`, `early`, `soup` and `report` are the yardstick: the receiver with its walk, the
+//! one that keeps early messages, both ends of a session, and the capture program. `captures` and `talks` are what both sides are fed, `host`
 //! is the library as a host calls it, and `compare` holds that both answer alike at each input. The
 //! program of this crate compares first, and then times both; `report` is a program of its own too.
 
 pub mod captures;
 pub mod compare;
+pub mod early;
 pub mod host;
 pub mod mold;
 pub mod receiver;

@@ -51,6 +51,15 @@ impl Receiver {
         self.next
     }
 
+    pub fn limit(&self) -> u16 {
+        self.limit
+    }
+
+    /// Held messages were delivered too.
+    pub(crate) fn move_to(&mut self, next: u64) {
+        self.next = next;
+    }
+
     pub fn is_ended(&self) -> bool {
         self.ended
     }

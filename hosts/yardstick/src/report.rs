@@ -3,6 +3,7 @@
 mod buffer;
 mod settings;
 
+use crate::early::Early;
 use crate::mold::split_block;
 use crate::receiver::{Answer, Receiver};
 use buffer::Buffer;
@@ -33,7 +34,7 @@ pub fn report(input: impl Read) -> io::Result<String> {
 }
 
 struct Tally {
-    receiver: Receiver,
+    receiver: Early,
     records: u32,
     delivered: u64,
     old: u64,
@@ -45,7 +46,7 @@ struct Tally {
 impl Tally {
     fn new(receiver: Receiver) -> Tally {
         Tally {
-            receiver,
+            receiver: Early::new(receiver),
             records: 0,
             delivered: 0,
             old: 0,
@@ -75,14 +76,17 @@ impl Tally {
 
     fn take(&mut self, datagram: &[u8]) {
         self.records += 1;
-        match self.receiver.take(datagram) {
-            Ok(Answer::Deliver { count, .. }) => self.delivered += u64::from(count),
-            Ok(Answer::Old) => self.old += 1,
-            Ok(Answer::Quiet) => self.quiet += 1,
-            Ok(Answer::Ask { .. }) => self.asked += 1,
-            Ok(Answer::Ended) => {}
-            Err(_) => self.refused += 1,
+        let Ok((answer, request)) = self.receiver.take(datagram) else {
+            self.refused += 1;
+            return;
+        };
+        match answer {
+            Answer::Deliver { count, .. } => self.delivered += u64::from(count),
+            Answer::Old => self.old += 1,
+            Answer::Quiet => self.quiet += 1,
+            Answer::Ask { .. } | Answer::Ended => {}
         }
+        self.asked += u64::from(request.is_some());
     }
 
     /// What is left at the end of the input is a record that was cut short.
@@ -95,15 +99,12 @@ impl Tally {
 
 impl Display for Tally {
     fn fmt(&self, f: &mut Formatter<'_>) -> fmt::Result {
-        let session = self.receiver.session().expect("settings have a name");
+        let receiver = self.receiver.receiver();
+        let session = receiver.session().expect("settings have a name");
         let session = String::from_utf8_lossy(session);
         writeln!(f, "session={session}")?;
-        writeln!(f, "next={}", self.receiver.next())?;
-        let ended = if self.receiver.is_ended() {
-            "yes"
-        } else {
-            "no"
-        };
+        writeln!(f, "next={}", receiver.next())?;
+        let ended = if receiver.is_ended() { "yes" } else { "no" };
         writeln!(f, "ended={ended}")?;
         writeln!(f, "delivered={}", self.delivered)?;
         writeln!(f, "old={}", self.old)?;

@@ -1,27 +1,30 @@
 //! The captures' functions.
 
-use super::Expected;
-use crate::call::Call;
+use super::{early, Expected};
+use crate::call::{Call, Lent};
 use crate::layout;
-use crate::reference::capture::{self, Capture, Stage, Tail, MOST_RECORDS};
+use crate::reference::capture::{self, Capture, Kept, Stage, Tail, MOST_RECORDS};
 
-pub fn answer(call: &Call, state: &[u8]) -> Option<Expected> {
+pub fn answer(call: &Call, lent: &Lent) -> Option<Expected> {
     Some(match *call {
         Call::CaptureStart => {
-            Expected::answer("started").state(layout::capture_bytes(&Capture::start()))
+            let nothing = [0; layout::CAPTURE];
+            let state = layout::capture_bytes(&Capture::start(), &nothing, &vec![]);
+            Expected::answer("started").state(state)
         }
-        Call::CaptureFeed { bytes } => feed(state, bytes),
-        Call::CaptureFinish { bytes } => finish(state, bytes),
-        Call::CaptureWrite => report(layout::capture(state).report()),
+        Call::CaptureFeed { bytes } => feed(lent, bytes),
+        Call::CaptureFinish { bytes } => finish(lent, bytes),
+        Call::CaptureWrite => report(layout::capture(&lent.state, &[]).report()),
         Call::CaptureReport { capture } => report(capture::report(capture)),
         _ => return None,
     })
 }
 
-fn feed(state: &[u8], bytes: &[u8]) -> Expected {
-    let mut capture = layout::capture(state);
+fn feed(lent: &Lent, bytes: &[u8]) -> Expected {
+    let mut capture = layout::capture(&lent.state, &lent.slots);
     let from = capture.stage;
-    let used = capture.feed(bytes);
+    let mut kept = vec![];
+    let used = capture.feed(bytes, &mut kept);
     let outcome = match (from, capture.stage) {
         (Stage::Settings, Stage::Settings) => "settings, need more",
         (Stage::Settings, Stage::SettingsRefused) => "settings, refused",
@@ -38,13 +41,21 @@ fn feed(state: &[u8], bytes: &[u8]) -> Expected {
     if used == 0 && !over {
         return fed;
     }
-    fed.state(layout::capture_bytes(&capture))
+    left(fed, &capture, lent, &kept)
 }
 
-fn finish(state: &[u8], bytes: &[u8]) -> Expected {
-    let mut capture = layout::capture(state);
+/// With the state and the slots as the call leaves them.
+fn left(answer: Expected, capture: &Capture, lent: &Lent, kept: &Kept) -> Expected {
+    let mut answer = answer.state(layout::capture_bytes(capture, &lent.state, kept));
+    answer.slots = early::patches(kept);
+    answer
+}
+
+fn finish(lent: &Lent, bytes: &[u8]) -> Expected {
+    let mut capture = layout::capture(&lent.state, &lent.slots);
     let from = capture.stage;
-    let tail = capture.finish(bytes);
+    let mut kept = vec![];
+    let tail = capture.finish(bytes, &mut kept);
     let outcome = match (from, tail) {
         (Stage::Settings, _) if capture.stage == Stage::SettingsRefused => "settings, refused",
         (Stage::Settings, Tail::CutShort) => "settings, cut short",
@@ -55,7 +66,7 @@ fn finish(state: &[u8], bytes: &[u8]) -> Expected {
         (Stage::Done, _) => "done before",
         (Stage::SettingsRefused, _) => "refused before",
     };
-    Expected::answer(outcome).state(layout::capture_bytes(&capture))
+    left(Expected::answer(outcome), &capture, lent, &kept)
 }
 
 fn report(report: Vec<u8>) -> Expected {

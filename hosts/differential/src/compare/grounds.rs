@@ -3,10 +3,9 @@
 //!
 //! A ground's name begins with its number. 25, 31 and 32 stand here without the finer names of their outcomes.
 
-use super::fixed_sizes;
-use super::receiver;
 use super::store::store_of;
 use super::transmitter::run_of;
+use super::{early, fixed_sizes, receiver};
 use crate::call::{Call, Lent};
 use crate::layout;
 use crate::reference::login::{self, Reply};
@@ -29,6 +28,9 @@ pub const LAST_TOO_HIGH: &str = "19 too high";
 pub const LAST_FALLS: &str = "19 falls";
 pub const BAD_SIZE: &str = "19 packet";
 pub const BAD_NUMBERS: &str = "19 numbers";
+pub const OTHER_SLOTS: &str = "19 slots";
+/// Of a receiver that is only read.
+pub const SHORT_RECEIVER: &str = "41 receiver";
 /// While a receiver has no name.
 pub const BLANK_NAME: &str = "17 blank";
 
@@ -41,7 +43,7 @@ pub fn number(ground: &str) -> u32 {
 
 /// Whether a ground is one of how much is lent, and not of what it says.
 pub fn is_of_what_is_lent(ground: &str) -> bool {
-    number(ground) == 41 || ground == SETTING_SIZE || ground == FIELD_SIZE
+    number(ground) == 41 || [SETTING_SIZE, FIELD_SIZE, OTHER_SLOTS].contains(&ground)
 }
 
 /// Whether a ground is of a size that the wrapper's types have right.
@@ -67,17 +69,23 @@ pub fn of(call: &Call, lent: &Lent) -> Vec<&'static str> {
     let (words, state) = fixed_sizes(call);
     let whole = lent.state.len() >= state;
     without_state(call, &mut ladder);
-    ladder.rung(!whole, SHORT_STATE);
+    let walks = matches!(call, Call::EarlyWalk { .. });
+    ladder.rung(!whole && !walks, SHORT_STATE);
     if whole {
         of_state(call, &lent.state, &mut ladder);
     }
+    of_slots(call, &lent.slots, &mut ladder);
+    if whole {
+        ladder.rung(ends_below(call, &lent.state), "20");
+    }
+    ladder.rung(!whole && walks, SHORT_STATE);
     // Its session is looked at behind the state.
     if let Call::TransmitterNext { session, .. } = call {
         ladder.rung(session.len() != 10, OTHER_SESSION_SIZE);
     }
     let needed = output_needed(call, &lent.state);
     ladder.rung(lent.out.len() < needed, SHORT_OUTPUT);
-    let places = places_needed(call, &lent.state);
+    let places = places_needed(call, &lent.state, &lent.slots);
     ladder.rung(lent.places.len() < places, FEW_PLACES);
     ladder.rung(lent.words.len() < words, FEW_WORDS);
     ladder.0
@@ -87,7 +95,9 @@ fn without_state(call: &Call, ladder: &mut Ladder) {
     match *call {
         Call::MoldRead { datagram }
         | Call::ReceiverTake { datagram }
-        | Call::ReceiverDeliver { datagram } => of_datagram(datagram, ladder),
+        | Call::ReceiverDeliver { datagram }
+        | Call::EarlyTake { datagram }
+        | Call::EarlyDeliver { datagram } => of_datagram(datagram, ladder),
         Call::MoldWriteData {
             session,
             first,
@@ -124,6 +134,11 @@ fn without_state(call: &Call, ladder: &mut Ladder) {
             ladder.rung(session.len() != 10, OTHER_SESSION_SIZE);
         }
         Call::ReceiverStart {
+            session,
+            next,
+            limit,
+        }
+        | Call::EarlyStart {
             session,
             next,
             limit,
@@ -275,20 +290,11 @@ fn of_state(call: &Call, state: &[u8], ladder: &mut Ladder) {
     match *call {
         Call::ReceiverTake { datagram } | Call::ReceiverDeliver { datagram } => {
             let receiver = layout::receiver(state);
-            let fields = (datagram.len() >= HEADER).then(|| mold::header(datagram));
-            let ground = if receiver.is_named() {
-                "17"
-            } else {
-                BLANK_NAME
-            };
-            let differs = |(session, _, _): (Name, u64, u16)| match receiver.is_named() {
-                true => session != receiver.session,
-                false => text::is_blank(&session),
-            };
-            ladder.rung(fields.is_some_and(differs), ground);
-            ladder.rung(receiver.ended, "18");
-            let ends_below = |(_, number, count)| count == END && number < receiver.next;
-            ladder.rung(fields.is_some_and(ends_below), "20");
+            of_receiver(&receiver.session, receiver.ended, datagram, ladder);
+        }
+        Call::EarlyTake { datagram } | Call::EarlyDeliver { datagram } => {
+            let early = layout::early(state, &[]);
+            of_receiver(&early.session, early.ended, datagram, ladder);
         }
         Call::TransmitterNext { .. } => of_turn(call, state, ladder),
         Call::ServerSetLast { last } => {
@@ -302,6 +308,55 @@ fn of_state(call: &Call, state: &[u8], ladder: &mut Ladder) {
             ladder.rung(accepts && !text::is_session(&session), "46");
         }
         Call::ClientStep { stream } => of_client(state, stream, ladder),
+        _ => {}
+    }
+}
+
+/// The fields of a datagram's header, if it has one.
+fn fields(datagram: &[u8]) -> Option<(Name, u64, u16)> {
+    (datagram.len() >= HEADER).then(|| mold::header(datagram))
+}
+
+/// 17 and 18.
+fn of_receiver(name: &Name, ended: bool, datagram: &[u8], ladder: &mut Ladder) {
+    let is_named = !text::is_blank(name);
+    let ground = if is_named { "17" } else { BLANK_NAME };
+    let differs = |(session, _, _): (Name, u64, u16)| match is_named {
+        true => session != *name,
+        false => text::is_blank(&session),
+    };
+    ladder.rung(fields(datagram).is_some_and(differs), ground);
+    ladder.rung(ended, "18");
+}
+
+/// 20, which stands behind the slots.
+fn ends_below(call: &Call, state: &[u8]) -> bool {
+    let (datagram, next) = match *call {
+        Call::ReceiverTake { datagram } | Call::ReceiverDeliver { datagram } => {
+            (datagram, layout::receiver(state).next)
+        }
+        Call::EarlyTake { datagram } | Call::EarlyDeliver { datagram } => {
+            (datagram, layout::early(state, &[]).next)
+        }
+        _ => return false,
+    };
+    fields(datagram).is_some_and(|(_, number, count)| count == END && number < next)
+}
+
+/// Slots of another size; before them comes a receiver that is only read and lacks bytes.
+fn of_slots(call: &Call, lent: &[u8], ladder: &mut Ladder) {
+    match *call {
+        Call::EarlyTake { .. }
+        | Call::EarlyDeliver { .. }
+        | Call::CaptureFeed { .. }
+        | Call::CaptureFinish { .. } => ladder.rung(lent.len() != layout::SLOTS, OTHER_SLOTS),
+        Call::EarlyCount { state, slots, .. }
+        | Call::EarlyLocate { state, slots, .. }
+        | Call::EarlyWalk { state, slots, .. }
+        | Call::EarlyNext { state, slots, .. } => {
+            ladder.rung(state.len() < layout::EARLY, SHORT_RECEIVER);
+            ladder.rung(slots.len() != layout::SLOTS, OTHER_SLOTS);
+        }
         _ => {}
     }
 }
@@ -400,8 +455,9 @@ fn stored_packet(call: &Call, size: u64, request: &[u8]) -> usize {
 }
 
 /// How many words of places the call lays, where nothing else refuses it: what isn't taken delivers nothing.
-pub fn places_needed(call: &Call, state: &[u8]) -> usize {
+pub fn places_needed(call: &Call, state: &[u8], slots: &[u8]) -> usize {
     match *call {
+        Call::EarlyDeliver { datagram } => early::places(state, slots, datagram).len(),
         Call::ReceiverDeliver { datagram } => receiver::places(state, datagram).len(),
         _ => 0,
     }
@@ -439,7 +495,7 @@ pub fn output_needed(call: &Call, state: &[u8]) -> usize {
             None => 0,
         },
         // A state that is too short reads as one whose settings are refused.
-        Call::CaptureWrite => layout::capture(state).report().len(),
+        Call::CaptureWrite => layout::capture(state, &[]).report().len(),
         Call::CaptureReport { capture } => crate::reference::capture::report(capture).len(),
         _ => 0,
     }

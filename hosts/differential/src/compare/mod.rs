@@ -1,6 +1,7 @@
 //! What the header promises for each call, worked out by the reference; and the comparison with what the library did.
 
 mod capture;
+mod early;
 pub mod grounds;
 mod mold;
 mod receiver;
@@ -27,6 +28,8 @@ pub struct Expected {
     pub out: Vec<u8>,
     /// The words of places that are laid, from the first on.
     pub places: Vec<u64>,
+    /// The bytes that are written to the slots, each with its place, in order.
+    pub slots: Vec<(usize, Vec<u8>)>,
     /// The state or cursor afterwards; none where it stays.
     pub state: Option<Vec<u8>>,
     /// Whether it is left open where the cursor stands: then its code and what stands behind it are compared.
@@ -41,6 +44,7 @@ impl Expected {
             words: vec![],
             out: vec![],
             places: vec![],
+            slots: vec![],
             state: None,
             cursor_anywhere: false,
         }
@@ -78,6 +82,9 @@ impl Expected {
         lent.words[..self.words.len()].copy_from_slice(&self.words);
         lent.out[..self.out.len()].copy_from_slice(&self.out);
         lent.places[..self.places.len()].copy_from_slice(&self.places);
+        for (at, bytes) in &self.slots {
+            lent.slots[*at..][..bytes.len()].copy_from_slice(bytes);
+        }
         if let Some(state) = &self.state {
             lent.state[..state.len()].copy_from_slice(state);
         }
@@ -123,7 +130,7 @@ pub fn refusal_name(code: Refusal) -> &'static str {
 
 /// How many words and how many bytes of a state or cursor a function has.
 pub fn fixed_sizes(call: &Call) -> (usize, usize) {
-    use crate::layout::{CAPTURE, CLIENT, CURSOR, RECEIVER, SERVER, TRANSMITTER};
+    use crate::layout::{CAPTURE, CLIENT, CURSOR, EARLY, RECEIVER, SERVER, TRANSMITTER, WALK};
     use Call::*;
     match call {
         MoldRead { .. } | MoldLocate { .. } | SoupRead { .. } | SoupScan { .. } => (3, 0),
@@ -132,6 +139,11 @@ pub fn fixed_sizes(call: &Call) -> (usize, usize) {
         MoldNext { .. } => (3, CURSOR),
         ReceiverStart { .. } => (0, RECEIVER),
         ReceiverTake { .. } | ReceiverDeliver { .. } => (4, RECEIVER),
+        EarlyStart { .. } => (0, EARLY),
+        EarlyTake { .. } | EarlyDeliver { .. } => (7, EARLY),
+        EarlyLocate { .. } => (4, 0),
+        EarlyWalk { .. } => (0, WALK),
+        EarlyNext { .. } => (4, WALK),
         TransmitterStart { .. } => (0, TRANSMITTER),
         TransmitterNext { .. } => (1, TRANSMITTER),
         ServerStart { .. } | ServerSetLast { .. } => (0, SERVER),
@@ -149,7 +161,7 @@ pub fn fixed_sizes(call: &Call) -> (usize, usize) {
 /// What the call has to do with these buffers: the first of the grounds that apply, or its answer.
 pub fn expect(call: &Call, lent: &Lent) -> Expected {
     let Some(&first) = grounds::of(call, lent).first() else {
-        return answer(call, &lent.state);
+        return answer(call, lent);
     };
     let number = grounds::number(first);
     if grounds::is_of_what_is_lent(first) {
@@ -158,7 +170,7 @@ pub fn expect(call: &Call, lent: &Lent) -> Expected {
         return refusal;
     }
     // The rules, taken step by step, end at the ground that is the first of all those looked at one by one.
-    let refusal = answer(call, &lent.state);
+    let refusal = answer(call, lent);
     assert_eq!(
         refusal.code, number,
         "the reference's steps and its grounds: {call}"
@@ -167,14 +179,16 @@ pub fn expect(call: &Call, lent: &Lent) -> Expected {
 }
 
 /// What the call has to do where every buffer has room.
-pub fn answer(call: &Call, state: &[u8]) -> Expected {
+pub fn answer(call: &Call, lent: &Lent) -> Expected {
+    let state = &lent.state;
     mold::answer(call, state)
         .or_else(|| receiver::answer(call, state))
+        .or_else(|| early::answer(call, lent))
         .or_else(|| store::answer(call))
         .or_else(|| transmitter::answer(call, state))
         .or_else(|| soup::answer(call))
         .or_else(|| session::answer(call, state))
-        .or_else(|| capture::answer(call, state))
+        .or_else(|| capture::answer(call, lent))
         .expect("every function belongs to one of these")
 }
 

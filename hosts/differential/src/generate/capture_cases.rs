@@ -7,7 +7,7 @@ use crate::call::Call;
 use crate::layout;
 use crate::random::Random;
 use crate::reference::capture::{Capture, Stage};
-use crate::reference::receiver::Receiver;
+use crate::reference::early::Early;
 use crate::reference::BLANK;
 use crate::run::Run;
 
@@ -31,11 +31,12 @@ pub fn single(run: &mut Run, random: &mut Random) {
 /// The state of a reading in any stage, its counts at their ends now and then; sometimes its receiver has no name, as no
 /// settings leave it.
 pub fn by_hand(random: &mut Random, feed: &Feed) -> Vec<u8> {
-    let receiver = Receiver {
+    let receiver = Early {
         session: random.pick(&[feed.name, feed.name, feed.name, BLANK]),
         next: feed.first,
         limit: bytes::count(random),
         ended: random.one_in(8),
+        held: Default::default(),
     };
     let capture = Capture {
         receiver,
@@ -56,7 +57,13 @@ pub fn by_hand(random: &mut Random, feed: &Feed) -> Vec<u8> {
         asked: line(random),
         refused: line(random),
     };
-    let mut state = layout::capture_bytes(&capture);
+    let mut state = layout::capture_bytes(&capture, &[0; layout::CAPTURE], &vec![]);
+    if random.one_in(3) {
+        let held = random.word().to_le_bytes();
+        state[layout::CAPTURE_RECEIVER + layout::HELD..][..8].copy_from_slice(&held);
+        let lengths = &mut state[layout::CAPTURE_RECEIVER + layout::LENGTHS..][..128];
+        random.fill(lengths);
+    }
     bytes::by_hand(random, &mut state, Some(layout::STAGE));
     match random.below(16) {
         0 => bytes::by_hand(random, &mut state[layout::CAPTURE_RECEIVER..], None),
@@ -81,7 +88,7 @@ fn line(random: &mut Random) -> u64 {
 pub fn pieces(run: &mut Run, random: &mut Random) {
     let feed = capture::feed(random);
     let capture = capture::capture(random, &feed);
-    let mut state = vec![0; layout::CAPTURE];
+    let (mut state, mut slots) = (vec![0; layout::CAPTURE], lend::slots(random));
     lend::chained(run, random, &Call::CaptureStart, &mut state);
     let mut kept = 0;
     let mut there = 0;
@@ -89,7 +96,8 @@ pub fn pieces(run: &mut Run, random: &mut Random) {
     while there < capture.len() {
         there = (there + random.between(0, most)).min(capture.len());
         let bytes = &capture[kept..there];
-        let (_, lent) = lend::chained(run, random, &Call::CaptureFeed { bytes }, &mut state);
+        let feed = Call::CaptureFeed { bytes };
+        let (_, lent) = lend::chained_with(run, random, &feed, &mut state, &mut slots);
         kept += lent.words[0] as usize;
         if there - kept > 65_536 {
             run.fail("a feed left more than 65,536 bytes to keep");
@@ -102,7 +110,8 @@ pub fn pieces(run: &mut Run, random: &mut Random) {
         }
     }
     let bytes = &capture[kept..there];
-    lend::chained(run, random, &Call::CaptureFinish { bytes }, &mut state);
+    let finish = Call::CaptureFinish { bytes };
+    lend::chained_with(run, random, &finish, &mut state, &mut slots);
     let (_, lent) = lend::chained(run, random, &Call::CaptureWrite, &mut state);
     let in_pieces = &lent.out[..lent.words[0] as usize];
     let call = Call::CaptureReport { capture: &capture };

@@ -44,7 +44,7 @@ impl Feed {
     }
 
     /// Some messages around the one with this number.
-    fn data_near(&self, random: &mut Random, number: u64) -> Vec<u8> {
+    pub fn data_near(&self, random: &mut Random, number: u64) -> Vec<u8> {
         let number = bytes::near(random, number).clamp(self.first, self.behind() - 1);
         let from = (number - self.first) as usize;
         let most = (self.messages.len() - from).min(6);
@@ -76,7 +76,7 @@ impl Feed {
     }
 
     /// Whether the datagram is of condition 3's kind.
-    fn is_true(&self, bytes: &[u8]) -> bool {
+    pub fn is_true(&self, bytes: &[u8]) -> bool {
         let Ok(datagram) = read(bytes) else {
             return true;
         };

@@ -2,7 +2,9 @@
 
 use crate::call::{Call, Lent};
 use crate::compare::{self, grounds};
+use crate::layout::SLOTS;
 use crate::random::Random;
+use crate::reference::early::SLOT;
 use crate::run::Run;
 
 use super::bytes;
@@ -39,53 +41,100 @@ fn state_of_size(random: &mut Random, state: Option<&[u8]>, size: usize) -> Vec<
     lent
 }
 
-/// Places of a size near the one that is needed, for the one function that lays some.
-fn lend_places(
-    random: &mut Random,
-    call: &Call,
-    lent: &mut Lent,
-    size: fn(&mut Random, usize) -> usize,
-) {
-    if let Call::ReceiverDeliver { .. } = call {
-        let size = size(random, grounds::places_needed(call, &lent.state));
-        lent.places = words(random, size);
+/// Slots of any bytes: runs of one byte, and here and there others.
+pub fn slots(random: &mut Random) -> Vec<u8> {
+    let mut slots = vec![random.byte(); SLOTS];
+    for _ in 0..random.below(6) {
+        let at = random.below(SLOTS - 64);
+        random.fill(&mut slots[at..at + 64]);
     }
+    slots
 }
 
-/// Buffers of any size. Without a state, random bytes are one.
-pub fn any(random: &mut Random, call: &Call, state: Option<&[u8]>) -> Lent {
+/// Slots of another size, cut or with more behind them.
+pub fn other_slots(random: &mut Random, slots: &mut Vec<u8>) {
+    let size = random.pick(&[0, 1, SLOT, SLOTS - 1, SLOTS + 1, SLOTS + SLOT]);
+    slots.resize(size, 7);
+}
+
+/// Whether the function writes to slots.
+fn has_slots(call: &Call) -> bool {
+    use Call::{CaptureFeed, CaptureFinish, EarlyDeliver, EarlyTake};
+    matches!(
+        call,
+        EarlyTake { .. } | EarlyDeliver { .. } | CaptureFeed { .. } | CaptureFinish { .. }
+    )
+}
+
+/// The sizes that are lent for what is needed: of words and states, of outputs and places; and how often, once in so
+/// many times, slots have another size.
+struct Sizes {
+    fixed: fn(&mut Random, usize) -> usize,
+    written: fn(&mut Random, usize) -> usize,
+    other_slots: Option<usize>,
+}
+
+const ANY: Sizes = Sizes {
+    fixed: any_size,
+    written: bytes::size_near,
+    other_slots: Some(24),
+};
+
+const LACKING: Sizes = Sizes {
+    fixed: lacking_size,
+    written: lacking_size,
+    other_slots: Some(3),
+};
+
+const ROOMY: Sizes = Sizes {
+    fixed: roomy_size,
+    written: roomy_size,
+    other_slots: None,
+};
+
+/// Without a state or slots, random bytes are some.
+fn lend(
+    random: &mut Random,
+    call: &Call,
+    state: Option<&[u8]>,
+    slots: Option<&[u8]>,
+    sizes: &Sizes,
+) -> Lent {
     let (words_size, state_size) = compare::fixed_sizes(call);
-    let words_size = any_size(random, words_size);
-    let state_size = any_size(random, state_size);
+    let words_size = (sizes.fixed)(random, words_size);
+    let state_size = (sizes.fixed)(random, state_size);
     let mut lent = Lent {
         words: words(random, words_size),
         out: vec![],
         state: state_of_size(random, state, state_size),
         places: vec![],
+        slots: vec![],
     };
+    if has_slots(call) {
+        lent.slots = slots.map_or_else(|| self::slots(random), <[u8]>::to_vec);
+        if sizes.other_slots.is_some_and(|often| random.one_in(often)) {
+            other_slots(random, &mut lent.slots);
+        }
+    }
     let needed = grounds::output_needed(call, &lent.state).min(MOST_ROOM);
-    let out_size = bytes::size_near(random, needed);
+    let out_size = (sizes.written)(random, needed);
     lent.out = random.bytes(out_size);
-    lend_places(random, call, &mut lent, bytes::size_near);
+    if let Call::ReceiverDeliver { .. } | Call::EarlyDeliver { .. } = call {
+        let needed = grounds::places_needed(call, &lent.state, &lent.slots);
+        let size = (sizes.written)(random, needed);
+        lent.places = words(random, size);
+    }
     lent
+}
+
+/// Buffers of any size.
+pub fn any(random: &mut Random, call: &Call, state: Option<&[u8]>) -> Lent {
+    lend(random, call, state, None, &ANY)
 }
 
 /// Buffers of which each lacks something every third time, so that several do at once.
 pub fn lacking(random: &mut Random, call: &Call, state: Option<&[u8]>) -> Lent {
-    let (words_size, state_size) = compare::fixed_sizes(call);
-    let words_size = lacking_size(random, words_size);
-    let state_size = lacking_size(random, state_size);
-    let mut lent = Lent {
-        words: words(random, words_size),
-        out: vec![],
-        state: state_of_size(random, state, state_size),
-        places: vec![],
-    };
-    let needed = grounds::output_needed(call, &lent.state).min(MOST_ROOM);
-    let out_size = lacking_size(random, needed);
-    lent.out = random.bytes(out_size);
-    lend_places(random, call, &mut lent, lacking_size);
-    lent
+    lend(random, call, state, None, &LACKING)
 }
 
 fn lacking_size(random: &mut Random, size: usize) -> usize {
@@ -99,25 +148,29 @@ fn lacking_size(random: &mut Random, size: usize) -> usize {
 
 /// Buffers that are large enough.
 pub fn roomy(random: &mut Random, call: &Call, state: &[u8]) -> Lent {
-    let (words_size, state_size) = compare::fixed_sizes(call);
-    let words_size = roomy_size(random, words_size);
-    let state_size = roomy_size(random, state_size);
-    let mut lent = Lent {
-        words: words(random, words_size),
-        out: vec![],
-        state: state_of_size(random, Some(state), state_size),
-        places: vec![],
-    };
-    let needed = grounds::output_needed(call, &lent.state).min(MOST_ROOM);
-    let out_size = roomy_size(random, needed);
-    lent.out = random.bytes(out_size);
-    lend_places(random, call, &mut lent, roomy_size);
-    lent
+    lend(random, call, Some(state), None, &ROOMY)
+}
+
+/// The same with these slots.
+pub fn with_slots(random: &mut Random, call: &Call, state: &[u8], slots: &[u8]) -> Lent {
+    lend(random, call, Some(state), Some(slots), &ROOMY)
 }
 
 /// A call of its own.
 pub fn single(run: &mut Run, random: &mut Random, call: &Call, state: Option<&[u8]>) {
     let mut lent = any(random, call, state);
+    run.check(call, &mut lent);
+}
+
+/// A call of its own with these slots.
+pub fn single_with(
+    run: &mut Run,
+    random: &mut Random,
+    call: &Call,
+    state: Option<&[u8]>,
+    slots: &[u8],
+) {
+    let mut lent = lend(random, call, state, Some(slots), &ANY);
     run.check(call, &mut lent);
 }
 
@@ -129,14 +182,28 @@ pub fn chained(
     call: &Call,
     state: &mut Vec<u8>,
 ) -> (u32, Lent) {
+    chained_with(run, random, call, state, &mut vec![])
+}
+
+/// The same with slots, which are handed on too where the call has any.
+pub fn chained_with(
+    run: &mut Run,
+    random: &mut Random,
+    call: &Call,
+    state: &mut Vec<u8>,
+    slots: &mut Vec<u8>,
+) -> (u32, Lent) {
     if random.one_in(16) {
-        single(run, random, call, Some(state));
+        single_with(run, random, call, Some(state), slots);
     }
-    let mut lent = roomy(random, call, state);
+    let mut lent = lend(random, call, Some(state), Some(slots), &ROOMY);
     let code = run.check(call, &mut lent);
     let (_, state_size) = compare::fixed_sizes(call);
     if state_size > 0 {
         *state = lent.state[..state_size].to_vec();
+    }
+    if has_slots(call) {
+        slots.clone_from(&lent.slots);
     }
     (code, lent)
 }

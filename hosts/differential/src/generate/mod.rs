@@ -4,6 +4,9 @@ mod accounts;
 mod bytes;
 mod capture;
 mod capture_cases;
+mod early_bounds;
+mod early_cases;
+mod early_lists;
 mod feed;
 mod lend;
 mod mold;
@@ -22,7 +25,7 @@ use crate::run::Run;
 
 /// One case: a kind of input, and some calls with it.
 pub fn case(run: &mut Run, random: &mut Random) {
-    match random.below(104) {
+    match random.below(114) {
         0..13 => mold_cases::read(run, random),
         13..24 => mold_cases::write(run, random),
         24..34 => mold_cases::receive(run, random),
@@ -36,6 +39,7 @@ pub fn case(run: &mut Run, random: &mut Random) {
         90..96 => capture_cases::single(run, random),
         96..100 => capture_cases::pieces(run, random),
         100..102 => store_cases::case(run, random),
-        _ => transmitter_cases::case(run, random),
+        102..104 => transmitter_cases::case(run, random),
+        _ => early_cases::case(run, random),
     }
 }

@@ -5,6 +5,7 @@ use super::{accounts, bytes, capture, capture_cases, lend, mold, soup};
 use crate::call::Call;
 use crate::layout;
 use crate::random::Random;
+use crate::reference::early::Early;
 use crate::reference::mold::{END, HEADER, LARGEST};
 use crate::reference::receiver::Receiver;
 use crate::reference::session::{Client, ClientState, Server, ServerState};
@@ -92,6 +93,7 @@ fn datagrams(run: &mut Run, random: &mut Random) {
     check(run, random, &Call::ReceiverTake { datagram }, Some(&state));
     let deliver = Call::ReceiverDeliver { datagram };
     check(run, random, &deliver, Some(&state));
+    early(run, random, datagram, &receiver);
     check(run, random, &Call::MoldLocate { datagram, place: 0 }, None);
     check(run, random, &Call::MoldNext { datagram }, None);
 
@@ -104,6 +106,54 @@ fn datagrams(run: &mut Run, random: &mut Random) {
     }
     let request = request.as_slice();
     check(run, random, &Call::MoldReadRequest { request }, None);
+}
+
+/// The same receiver with slots.
+fn early(run: &mut Run, random: &mut Random, datagram: &[u8], plain: &Receiver) {
+    let early = Early {
+        session: plain.session,
+        next: plain.next,
+        limit: plain.limit,
+        ended: plain.ended,
+        held: Default::default(),
+    };
+    let mut state = layout::early_bytes(&early, &[0; layout::EARLY], &vec![]);
+    bytes::by_hand(random, &mut state, None);
+    check(run, random, &Call::EarlyTake { datagram }, Some(&state));
+    check(run, random, &Call::EarlyDeliver { datagram }, Some(&state));
+    let mut slots = lend::slots(random);
+    if random.one_in(3) {
+        lend::other_slots(random, &mut slots);
+    }
+    if random.one_in(3) {
+        state.pop();
+    }
+    let (state, slots) = (state.as_slice(), slots.as_slice());
+    let count = Call::EarlyCount {
+        state,
+        slots,
+        datagram,
+    };
+    check(run, random, &count, None);
+    let locate = Call::EarlyLocate {
+        state,
+        slots,
+        datagram,
+        place: 0,
+    };
+    check(run, random, &locate, None);
+    let walk = Call::EarlyWalk {
+        state,
+        slots,
+        datagram,
+    };
+    check(run, random, &walk, None);
+    let next = Call::EarlyNext {
+        state,
+        slots,
+        datagram,
+    };
+    check(run, random, &next, None);
 }
 
 fn written_datagrams(run: &mut Run, random: &mut Random) {
@@ -145,6 +195,12 @@ fn starts(run: &mut Run, random: &mut Random) {
         limit: random.pick(&[0, 1, 100, 65_534, 65_535]),
     };
     check(run, random, &receiver, None);
+    let early = Call::EarlyStart {
+        session,
+        next: number(random),
+        limit: random.pick(&[0, 1, 100, 65_534, 65_535]),
+    };
+    check(run, random, &early, None);
     let last = number(random);
     check(run, random, &Call::ServerStart { session, last }, None);
     let number = number(random);

@@ -1,6 +1,7 @@
-//! Document 01, "The capture program": settings, records, report; and order 12's rule of the session.
+//! Document 01, "The capture program": settings, records, report; order 12's rule of the session; and order 6, by which
+//! the receiver that keeps early messages takes the records, and the report counts both parts of its answers.
 
-use super::receiver::{Answer, Receiver};
+use super::early::{Early, Number, Row};
 use super::{text, Name};
 
 pub const MOST_RECORDS: u32 = u32::MAX;
@@ -21,7 +22,7 @@ pub enum Stage {
 
 #[derive(Clone, Debug, PartialEq, Eq)]
 pub struct Capture {
-    pub receiver: Receiver,
+    pub receiver: Early,
     pub stage: Stage,
     pub records: u32,
     pub delivered: u64,
@@ -30,6 +31,9 @@ pub struct Capture {
     pub asked: u64,
     pub refused: u64,
 }
+
+/// Messages with their numbers, in the order in which they are held.
+pub type Kept = Vec<(Number, Vec<u8>)>;
 
 /// What stood behind the last record read.
 #[derive(Clone, Copy, Debug, PartialEq, Eq)]
@@ -42,7 +46,7 @@ pub enum Tail {
 impl Capture {
     pub fn start() -> Capture {
         Capture {
-            receiver: Receiver::refused(),
+            receiver: Early::refused(),
             stage: Stage::Settings,
             records: 0,
             delivered: 0,
@@ -53,18 +57,19 @@ impl Capture {
         }
     }
 
-    /// Reads what can be read of `bytes`, after which more may come. Answers how many bytes need not be kept.
-    pub fn feed(&mut self, bytes: &[u8]) -> usize {
+    /// Reads what can be read of `bytes`, after which more may come. Answers how many bytes need not be kept. What the
+    /// receiver holds anew is gathered in `kept`.
+    pub fn feed(&mut self, bytes: &[u8], kept: &mut Kept) -> usize {
         if self.stage == Stage::Settings && bytes.len() < LONGEST_SETTINGS {
             return 0;
         }
-        self.read(bytes)
+        self.read(bytes, kept)
     }
 
     /// Reads the last bytes: a record cut short is one refusal, and one of the records. Bytes behind the last record that may be read
     /// are ignored.
-    pub fn finish(&mut self, bytes: &[u8]) -> Tail {
-        let used = self.read(bytes);
+    pub fn finish(&mut self, bytes: &[u8], kept: &mut Kept) -> Tail {
+        let used = self.read(bytes, kept);
         if self.records == MOST_RECORDS {
             return Tail::Ignored;
         }
@@ -81,13 +86,13 @@ impl Capture {
     }
 
     /// Reads settings, if they come next, and all whole records that may be read. Of a reading that is over all bytes are used.
-    fn read(&mut self, bytes: &[u8]) -> usize {
+    fn read(&mut self, bytes: &[u8], kept: &mut Kept) -> usize {
         let mut used = 0;
         if self.stage == Stage::Settings {
             used = self.read_settings(bytes);
         }
         if self.stage == Stage::Records {
-            used += self.read_records(&bytes[used..]);
+            used += self.read_records(&bytes[used..], kept);
         }
         if self.stage == Stage::Records && self.records == MOST_RECORDS {
             self.stage = Stage::Done;
@@ -119,7 +124,7 @@ impl Capture {
         bytes.len() - rest.len()
     }
 
-    fn read_records(&mut self, bytes: &[u8]) -> usize {
+    fn read_records(&mut self, bytes: &[u8], kept: &mut Kept) -> usize {
         let mut used = 0;
         while self.records < MOST_RECORDS {
             let Some(datagram) = record(&bytes[used..]) else {
@@ -127,21 +132,26 @@ impl Capture {
             };
             used += 2 + datagram.len();
             self.records += 1;
-            self.count(datagram);
+            self.count(datagram, kept);
         }
         used
     }
 
-    fn count(&mut self, datagram: &[u8]) {
-        let (line, more) = match self.receiver.take(datagram) {
-            Ok(Answer::Deliver { count, .. }) => (&mut self.delivered, count),
-            Ok(Answer::Old) => (&mut self.old, 1),
-            Ok(Answer::Quiet) => (&mut self.quiet, 1),
-            Ok(Answer::Ask { .. }) => (&mut self.asked, 1),
-            Ok(Answer::Ended) => return,
-            Err(_) => (&mut self.refused, 1),
+    /// A datagram that delivers, or is old or quiet, and asks, counts in both lines; one that is ahead only asks.
+    fn count(&mut self, datagram: &[u8], kept: &mut Kept) {
+        let Ok(step) = self.receiver.take(datagram, true) else {
+            return add(&mut self.refused, 1);
         };
-        *line = line.saturating_add(more);
+        match step.row {
+            Row::Deliver => add(&mut self.delivered, step.delivered.len() as u64),
+            Row::Old => add(&mut self.old, 1),
+            Row::Quiet => add(&mut self.quiet, 1),
+            Row::Ahead | Row::Ended => {}
+        }
+        if step.request.is_some() {
+            add(&mut self.asked, 1);
+        }
+        kept.extend(step.kept);
     }
 
     /// The report as it is printed.
@@ -161,10 +171,14 @@ impl Capture {
     }
 }
 
+fn add(line: &mut u64, more: u64) {
+    *line = line.saturating_add(more);
+}
+
 /// The report of a whole capture.
 pub fn report(capture: &[u8]) -> Vec<u8> {
     let mut reading = Capture::start();
-    reading.finish(capture);
+    reading.finish(capture, &mut vec![]);
     reading.report()
 }
 
@@ -175,7 +189,7 @@ fn record(bytes: &[u8]) -> Option<&[u8]> {
 }
 
 /// Takes the three lines off the front, if they are good.
-fn settings(rest: &mut &[u8]) -> Option<Receiver> {
+fn settings(rest: &mut &[u8]) -> Option<Early> {
     literal(rest, b"session=")?;
     let session = printable_name(rest)?;
     if text::is_blank(&session) {
@@ -185,7 +199,7 @@ fn settings(rest: &mut &[u8]) -> Option<Receiver> {
     let next = number_line(rest)?;
     literal(rest, b"limit=")?;
     let limit = number_line(rest)?;
-    Receiver::start(session, next, u16::try_from(limit).ok()?).ok()
+    Early::start(session, next, u16::try_from(limit).ok()?).ok()
 }
 
 fn literal(rest: &mut &[u8], wanted: &[u8]) -> Option<()> {

@@ -11,6 +11,7 @@
 //! What `transmitter_next` refuses of a state that no start and no turns lead to is the header's rule, not order 14's.
 
 pub mod capture;
+pub mod early;
 pub mod login;
 pub mod mold;
 pub mod receiver;

@@ -38,7 +38,7 @@ const SETTINGS: &str = "session=READROOM01\nnext=1\nlimit=100\n";
 #[test]
 fn the_capture() {
     let exact =
-        "session=READROOM01\nnext=6\nended=yes\ndelivered=5\nold=1\nquiet=1\nasked=2\nrefused=1\n";
+        "session=READROOM01\nnext=6\nended=yes\ndelivered=5\nold=2\nquiet=1\nasked=2\nrefused=1\n";
     assert_eq!(report(&example(SETTINGS)), exact);
     let mut cut = example(SETTINGS);
     cut.push(0);
@@ -85,7 +85,7 @@ fn a_blank_session() {
     let blank = example(&SETTINGS.replace("READROOM01", "          "));
     let bytes = blank.as_slice();
     assert_eq!(report(bytes), refused);
-    let started = ask(&Call::CaptureStart, &[0; 71]).state;
+    let started = ask(&Call::CaptureStart, &[0; 207]).state;
     let fed = ask(&Call::CaptureFeed { bytes }, &started);
     assert_eq!(fed.words[..2], [bytes.len() as u64, 1]);
     let finished = ask(&Call::CaptureFinish { bytes }, &started);
@@ -107,7 +107,7 @@ fn the_capture_in_pieces() {
     let whole = example(SETTINGS);
     let wanted = report(&whole);
     for cut in 0..=whole.len() {
-        let started = ask(&Call::CaptureStart, &[0; 71]).state;
+        let started = ask(&Call::CaptureStart, &[0; 207]).state;
         let bytes = &whole[..cut];
         let fed = ask(&Call::CaptureFeed { bytes }, &started);
         assert_eq!((fed.code, fed.words[1]), (0, 0));
@@ -121,14 +121,14 @@ fn the_capture_in_pieces() {
 /// With 2^32 - 1 records the reading is over, and the bytes behind the last record are ignored: they are no refusal.
 #[test]
 fn the_most_records() {
-    let mut state = ask(&Call::CaptureStart, &[0; 71]).state;
+    let mut state = ask(&Call::CaptureStart, &[0; 207]).state;
     state[1] = 2;
-    state[23..31].copy_from_slice(&(u64::from(u32::MAX) - 1).to_le_bytes());
+    state[159..167].copy_from_slice(&(u64::from(u32::MAX) - 1).to_le_bytes());
     let bytes = &[0; 5];
     let fed = ask(&Call::CaptureFeed { bytes }, &state);
     assert_eq!((fed.code, fed.words[..2].to_vec()), (0, vec![5, 1]));
     assert_eq!(fed.state[..2], [0, 3]);
-    assert_eq!(fed.state[23..31], u64::from(u32::MAX).to_le_bytes());
+    assert_eq!(fed.state[159..167], u64::from(u32::MAX).to_le_bytes());
     let more = ask(&Call::CaptureFeed { bytes }, &fed.state);
     assert_eq!(
         (more.words[..2].to_vec(), &more.state),
@@ -136,5 +136,5 @@ fn the_most_records() {
     );
     let finished = ask(&Call::CaptureFinish { bytes }, &fed.state).state;
     assert_eq!(finished, fed.state);
-    assert_eq!(finished[63..71], 1u64.to_le_bytes());
+    assert_eq!(finished[199..207], 1u64.to_le_bytes());
 }

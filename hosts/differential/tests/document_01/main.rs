@@ -1,7 +1,9 @@
-//! Document 01's own examples and table rows, with the values that stand there: of the reference, and of the library.
+//! Document 01's own examples and table rows, and order 6's rule, with the values that stand there: of the reference, and
+//! of the library.
 
 mod captures;
 mod datagrams;
+mod early;
 mod login;
 mod packets;
 mod receiver;
@@ -17,18 +19,20 @@ const TOP: u64 = u64::MAX;
 
 struct Answer {
     code: u32,
-    words: [u64; 6],
+    words: [u64; 7],
     out: Vec<u8>,
     state: Vec<u8>,
     places: Vec<u64>,
+    slots: Vec<u8>,
 }
 
 fn lent(state: &[u8]) -> Lent {
     Lent {
-        words: vec![0; 6],
+        words: vec![0; 7],
         out: vec![0; 70_000],
         state: state.to_vec(),
         places: vec![7; 8],
+        slots: vec![7; 65_536],
     }
 }
 
@@ -54,6 +58,7 @@ fn ask_with(call: &Call, lent: Lent) -> Answer {
         out: by_library.out,
         state: by_library.state,
         places: by_library.places,
+        slots: by_library.slots,
     }
 }
 

@@ -207,7 +207,7 @@ fn a_name_is_learned_once() {
 /// settings are read.
 #[test]
 fn a_refused_start_has_no_name() {
-    let reading = ask(&Call::CaptureStart, &[7; 71]).state;
+    let reading = ask(&Call::CaptureStart, &[7; 207]).state;
     let mut by_hand = receiver_of(BLANK, 1, 1);
     by_hand[0] = 0;
     assert_eq!(reading[2..23], by_hand);
@@ -223,7 +223,7 @@ fn a_refused_start_has_no_name() {
 fn a_reading_made_by_hand_learns() {
     let mut bytes = b"session=READROOM01\nnext=3\nlimit=9\n".to_vec();
     bytes.resize(60, 0);
-    let reading = ask(&Call::CaptureStart, &[7; 71]).state;
+    let reading = ask(&Call::CaptureStart, &[7; 207]).state;
     let mut reading = ask(&Call::CaptureFeed { bytes: &bytes }, &reading).state;
     reading[3..13].copy_from_slice(BLANK);
     let record = [&[0, 20], &heartbeat(3)[..]].concat();

@@ -83,7 +83,7 @@ fn need_more_changes_no_state() {
                 let with_reply = Call::ServerReply { accounts, stream };
                 for call in [at_server, with_reply, Call::ClientStep { stream }] {
                     let answer = ask(&call, &state);
-                    assert_eq!((answer.code, answer.words), (0, [0; 6]));
+                    assert_eq!((answer.code, answer.words), (0, [0; 7]));
                     assert_eq!(answer.state, state);
                 }
             }
@@ -128,13 +128,16 @@ fn client_numbers() {
     let seven = accepted(NAME, "07");
     for (session, number) in [(NAME, 7), (NAME, 0), (BLANK, 7), (BLANK, 0)] {
         let answer = step(&client(session, number, 1), &seven);
-        assert_eq!(answer, (0, [1, 33, 7, 0, 0, 0], client(NAME, 7, 2)));
+        assert_eq!(answer, (0, [1, 33, 7, 0, 0, 0, 0], client(NAME, 7, 2)));
     }
     assert_eq!(step(&client(NAME, 8, 1), &seven).0, 33);
     assert_eq!(step(&client(b"readroom01", 7, 1), &seven).0, 33);
     let message = packet(b'S', b"abc");
     let answer = step(&client(NAME, TOP - 1, 2), &message);
-    assert_eq!(answer, (0, [3, 6, TOP - 1, 3, 3, 0], client(NAME, TOP, 2)));
+    assert_eq!(
+        answer,
+        (0, [3, 6, TOP - 1, 3, 3, 0, 0], client(NAME, TOP, 2))
+    );
     assert_eq!(step(&client(NAME, TOP, 2), &message).0, 34);
     assert_eq!(step(&client(NAME, TOP, 2), &packet(b'H', b"")).0, 0);
 }

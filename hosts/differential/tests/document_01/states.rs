@@ -11,8 +11,13 @@ const ACCOUNTS: &[u8] = b"alice secret    ";
 /// An open state of each kind, with bytes behind it, so that it has room for every other one.
 fn open_states() -> Vec<(&'static str, Vec<u8>)> {
     let datagram = &data(1, &[b"a", b"b"]);
-    let room = &[0; 80];
+    let room = &[0; 220];
     let receiver = Call::ReceiverStart {
+        session: NAME,
+        next: 1,
+        limit: 9,
+    };
+    let early = Call::EarlyStart {
         session: NAME,
         next: 1,
         limit: 9,
@@ -33,16 +38,18 @@ fn open_states() -> Vec<(&'static str, Vec<u8>)> {
         ("receiver", ask(&receiver, room).state),
         ("server", ask(&server, room).state),
         ("client", ask(&client, room).state),
+        ("early", ask(&early, room).state),
         ("capture", reading),
     ]
 }
 
 /// The code with which an open state of a kind takes what it can, and another one doesn't.
-fn answers(state: &[u8]) -> [(&'static str, bool); 5] {
+fn answers(state: &[u8]) -> [(&'static str, bool); 6] {
     let datagram = &data(1, &[b"a", b"b"]);
     let next = ask(&Call::MoldNext { datagram }, state);
     // The bytes of another kind hardly have this name at its place, so that 17 may come before 18.
     let take = ask(&Call::ReceiverTake { datagram }, state);
+    let early = ask(&Call::EarlyTake { datagram }, state);
     let stream = &packet(b'+', b"");
     let accounts = ACCOUNTS;
     let step = ask(&Call::ServerStep { accounts, stream }, state);
@@ -53,6 +60,7 @@ fn answers(state: &[u8]) -> [(&'static str, bool); 5] {
         ("receiver", take.code == 0),
         ("server", step.code == 0),
         ("client", client.code == 0),
+        ("early", early.code == 0),
         ("capture", feed.words[1] == 0),
     ]
 }
@@ -81,6 +89,8 @@ fn no_kind_is_changed_as_another() {
         ("cursor", Call::MoldNext { datagram }),
         ("receiver", Call::ReceiverTake { datagram }),
         ("receiver", Call::ReceiverDeliver { datagram }),
+        ("early", Call::EarlyTake { datagram }),
+        ("early", Call::EarlyDeliver { datagram }),
         ("server", Call::ServerStep { accounts, stream }),
         ("server", Call::ServerReply { accounts, stream }),
         ("client", Call::ClientStep { stream }),
@@ -128,7 +138,7 @@ fn one_first_byte_is_open() {
             let open = answers(&made).into_iter().find(|(taker, _)| *taker == kind);
             assert_eq!(open, Some((kind, first == state[0])));
         }
-        assert_eq!(answers(&[0; 80]).map(|(_, open)| open), [false; 5]);
+        assert_eq!(answers(&[0; 220]).map(|(_, open)| open), [false; 6]);
     }
 }
 
@@ -136,9 +146,9 @@ fn one_first_byte_is_open() {
 #[test]
 fn a_readings_receiver_can_be_lent() {
     let (_, reading) = open_states().pop().expect("a reading");
-    let receiver = &reading[2..23];
+    let receiver = &reading[2..159];
     let datagram = &data(1, &[b"a", b"b"]);
-    let taken = ask(&Call::ReceiverTake { datagram }, receiver);
+    let taken = ask(&Call::EarlyTake { datagram }, receiver);
     assert_eq!(
         (taken.code, taken.words[..4].to_vec()),
         (0, vec![1, 1, 2, 0])
@@ -152,6 +162,7 @@ fn lend(words: usize, out: usize, state: &[u8]) -> Lent {
         out: vec![7; out],
         state: state.to_vec(),
         places: vec![7; 8],
+        slots: vec![7; 65_536],
     }
 }
 
@@ -302,7 +313,7 @@ fn a_reply_is_written() {
     let stream = &login(b"alice ", b"secret    ", BLANK, 0);
     let reply = Call::ServerReply { accounts, stream };
     let answer = ask(&reply, &server(5));
-    assert_eq!((answer.code, answer.words), (0, [1, 49, 5, 0, 0, 33]));
+    assert_eq!((answer.code, answer.words), (0, [1, 49, 5, 0, 0, 33, 0]));
     assert_eq!(answer.out[..34], [&accepted(NAME, "5")[..], &[0]].concat());
     // Too short an output, or a session that can't stand in A: nothing is taken.
     let short = ask_with(&reply, lend(6, 32, &server(5)));
@@ -314,14 +325,14 @@ fn a_reply_is_written() {
 
     let stream = &login(b"alice ", b"wrong     ", BLANK, 0);
     let answer = ask(&Call::ServerReply { accounts, stream }, &unnamed);
-    assert_eq!((answer.code, answer.words), (0, [2, 49, 65, 0, 0, 4]));
+    assert_eq!((answer.code, answer.words), (0, [2, 49, 65, 0, 0, 4, 0]));
     assert_eq!(answer.out[..5], [0, 2, b'J', b'A', 0]);
     let stream = &packet(b'+', b"text");
     let answer = ask_with(
         &Call::ServerReply { accounts, stream },
         lend(6, 0, &server(5)),
     );
-    assert_eq!((answer.code, answer.words), (0, [6, 7, 0, 0, 0, 0]));
+    assert_eq!((answer.code, answer.words), (0, [6, 7, 0, 0, 0, 0, 0]));
 }
 
 #[test]

@@ -1,9 +1,10 @@
 //! MoldUDP64: a transmitter made of the library's writers, and a receiver, over a line that loses, doubles and swaps in
-//! both directions. Half of the receivers have to learn the session's name.
+//! both directions. Half of the receivers have to learn the session's name, and half of them keep early messages.
 
+use crate::either::Either;
 use differential::random::Random;
 use eiderwagon::mold::{self, Request};
-use eiderwagon::receiver::{Answer, Receiver, Requests};
+use eiderwagon::receiver::Requests;
 use eiderwagon::Ground;
 use std::collections::VecDeque;
 use std::time::Duration;
@@ -144,6 +145,8 @@ fn written(result: Result<&[u8], eiderwagon::Refusal>) -> Vec<u8> {
 /// How a feed is sent and received.
 struct Settings {
     seed: u64,
+    /// Whether the receiver keeps early messages.
+    early: bool,
     /// Whether the receiver has to learn the session's name.
     unnamed: bool,
     first: u64,
@@ -168,7 +171,7 @@ struct Counts {
 
 /// The receiver's host.
 struct Host {
-    receiver: Receiver,
+    receiver: Either,
     requests: Requests,
     /// The number of the first message, and what was delivered from there on.
     first: u64,
@@ -179,12 +182,9 @@ struct Host {
 impl Host {
     fn new(settings: &Settings) -> Host {
         let (first, limit) = (settings.first, settings.limit);
-        let receiver = match settings.unnamed {
-            true => Receiver::start_unnamed(first, limit),
-            false => Receiver::start(NAME, first, limit),
-        };
+        let name = (!settings.unnamed).then_some(NAME);
         Host {
-            receiver: receiver.expect("a start"),
+            receiver: Either::start(settings.early, name, first, limit),
             requests: Requests::new(settings.pause),
             first,
             delivered: vec![],
@@ -208,19 +208,16 @@ impl Host {
     /// Takes a datagram, and hands back the request to send for it, if one is due.
     fn take(&mut self, datagram: &[u8], now: u64) -> Option<Vec<u8>> {
         self.refuse_others();
-        match self.receiver.take(datagram).expect("nothing is damaged") {
-            Answer::Deliver { first, messages } => {
-                assert_eq!(first, self.first + self.delivered.len() as u64);
-                self.delivered.extend(messages.map(<[u8]>::to_vec));
-                None
-            }
-            Answer::Ask(request) => {
-                self.asked += 1;
-                let due = self.requests.due(&request, Duration::from_millis(now));
-                due.then(|| written(request.write(&mut [0; 20])))
-            }
-            _ => None,
+        let taken = self.receiver.take(datagram);
+        let (messages, request) = taken.expect("nothing is damaged");
+        for (number, message) in messages {
+            assert_eq!(number, self.first + self.delivered.len() as u64);
+            self.delivered.push(message);
         }
+        let request = request?;
+        self.asked += 1;
+        let due = self.requests.due(&request, Duration::from_millis(now));
+        due.then(|| written(request.write(&mut [0; 20])))
     }
 }
 
@@ -273,6 +270,7 @@ fn settings(seed: u64) -> Settings {
     let highest = u64::MAX - messages.len() as u64;
     Settings {
         seed,
+        early: random.one_in(2),
         unnamed: random.one_in(2),
         first: random.pick(&[1, 1, 7, highest - 1, highest]),
         messages,
@@ -307,6 +305,7 @@ fn what_is_delivered_is_what_was_sent() {
 fn a_pause_spares_requests() {
     let with = |pause| Settings {
         seed: 7,
+        early: false,
         unnamed: false,
         first: 1,
         messages: (0..2_000u32).map(|n| n.to_be_bytes().to_vec()).collect(),
@@ -326,4 +325,85 @@ fn a_pause_spares_requests() {
     assert!(paced.requested * 5 < all.requested);
     assert!(paced.sent_again * 3 < all.sent_again);
     assert!(paced.milliseconds < all.milliseconds + 200);
+}
+
+/// Two thousand messages on a line that swaps one datagram in four: the same settings for both receivers.
+fn swapping(early: bool, seed: u64, loses: usize, pause: u64) -> Settings {
+    Settings {
+        seed,
+        early,
+        unnamed: false,
+        first: 1,
+        messages: (0..2_000u32).map(|n| n.to_be_bytes().to_vec()).collect(),
+        most: 3,
+        limit: 100,
+        pause: Duration::from_millis(pause),
+        faults: Faults {
+            loses,
+            doubles: 50,
+            swaps: 4,
+        },
+        delay: 5,
+    }
+}
+
+/// What was sent for requests on such lines, the pauses being none and one that is a little longer than an answer takes.
+#[test]
+fn keeping_early_messages_spares_requests() {
+    for (loses, pause) in [(1_000_000, 0), (1_000_000, 12), (30, 0), (30, 12)] {
+        let mut sums = [[0; 2]; 2];
+        for (early, [requested, sent_again]) in sums.iter_mut().enumerate() {
+            for seed in 0..10 {
+                let counts = run(&swapping(early == 1, seed, loses, pause));
+                *requested += counts.requested;
+                *sent_again += counts.sent_again;
+            }
+        }
+        let [plain, early] = sums;
+        println!(
+            "loses 1 in {loses}, pause {pause} ms: plain {} requests, {} sent again; early {}, {}",
+            plain[0], plain[1], early[0], early[1]
+        );
+        assert!(early[0] < plain[0] && early[1] < plain[1]);
+    }
+}
+
+/// The same datagrams for both, what the plain one asked for among them: at each of them the early one is as far or
+/// further, and what it has delivered begins with what the plain one has.
+#[test]
+fn keeping_early_messages_never_delivers_less() {
+    let mut ahead = 0;
+    for seed in 0..20 {
+        let settings = swapping(false, seed, 20, 12);
+        let mut random = Random::new(seed, 2);
+        let mut transmitter = Transmitter::new(settings.first, &settings.messages);
+        let mut plain = Host::new(&settings);
+        let mut early = Host::new(&swapping(true, seed, 20, 12));
+        let mut down = Line::new(settings.faults, settings.delay);
+        for now in 0..LONGEST {
+            let datagram = transmitter.datagram(&mut random, settings.most);
+            down.send(&mut random, now, &datagram);
+            while let Some(datagram) = down.come(now) {
+                let request = plain.take(&datagram, now);
+                if !early.receiver.is_ended() {
+                    early.take(&datagram, now);
+                }
+                assert!(early.delivered.starts_with(&plain.delivered));
+                assert!(early.receiver.is_ended() || !plain.receiver.is_ended());
+                ahead += usize::from(early.delivered.len() > plain.delivered.len());
+                for datagram in request.iter().flat_map(|r| transmitter.answer(r)) {
+                    down.send(&mut random, now, datagram);
+                }
+                if plain.receiver.is_ended() {
+                    break;
+                }
+            }
+            if plain.receiver.is_ended() {
+                break;
+            }
+        }
+        assert!(plain.delivered == settings.messages && early.delivered == settings.messages);
+    }
+    println!("20 feeds: the early receiver was further at {ahead} datagrams");
+    assert!(ahead > 1_000);
 }

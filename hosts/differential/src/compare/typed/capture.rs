@@ -4,9 +4,10 @@ use super::{same, same_bytes, same_state};
 use crate::call::Call;
 use crate::compare::Expected;
 use crate::layout;
-use crate::reference::capture::{self as reference, Capture};
-use crate::reference::receiver::Receiver;
+use crate::reference::capture::{self as reference, Capture, Kept};
+use crate::reference::early::{Early, Number};
 use eiderwagon::capture::{self, Counts, Fed, Reading, Stage};
+use std::collections::BTreeMap;
 
 pub fn difference(call: &Call, expected: &Expected, out: &mut [u8]) -> Option<String> {
     match *call {
@@ -28,33 +29,36 @@ pub fn difference(call: &Call, expected: &Expected, out: &mut [u8]) -> Option<St
 fn in_pieces(capture: &[u8], expected: &Expected, out: &mut [u8]) -> Option<String> {
     let mut reading = Reading::start();
     let mut wanted = Capture::start();
+    let mut kept = vec![];
     let mut used = 0;
     for end in [capture.len() / 3, capture.len() / 3 * 2] {
         let piece = &capture[used..end];
         let fed = reading.feed(piece);
-        let difference = same("feed", fed, reference_feed(&mut wanted, piece))
-            .or_else(|| same_reading(&reading, &wanted));
+        let difference = same("feed", fed, reference_feed(&mut wanted, piece, &mut kept))
+            .or_else(|| same_reading(&reading, &wanted, &kept));
         if difference.is_some() {
             return difference;
         }
         used += fed.used;
     }
     reading.finish(&capture[used..]);
-    wanted.finish(&capture[used..]);
-    same_reading(&reading, &wanted).or_else(|| same_bytes(expected, reading.write(out)))
+    wanted.finish(&capture[used..], &mut kept);
+    same_reading(&reading, &wanted, &kept).or_else(|| same_bytes(expected, reading.write(out)))
 }
 
-fn reference_feed(capture: &mut Capture, piece: &[u8]) -> Fed {
-    let used = capture.feed(piece);
+fn reference_feed(capture: &mut Capture, piece: &[u8], kept: &mut Kept) -> Fed {
+    let used = capture.feed(piece, kept);
     let over = capture.is_over();
     Fed { used, over }
 }
 
-fn same_reading(reading: &Reading, wanted: &Capture) -> Option<String> {
+/// `kept` is all that the reading has held so far: so the lengths of what is in its slots are those that it started with,
+/// 0, and these.
+fn same_reading(reading: &Reading, wanted: &Capture, kept: &Kept) -> Option<String> {
     same("report", reading.report(), text(&wanted.report()))
         .or_else(|| same("reading", as_reference(reading), wanted.clone()))
         .or_else(|| {
-            let bytes = layout::capture_bytes(wanted);
+            let bytes = layout::capture_bytes(wanted, &[0; layout::CAPTURE], kept);
             same("reading", reading.as_bytes().as_slice(), bytes.as_slice())
         })
 }
@@ -69,11 +73,12 @@ fn as_reference(reading: &Reading) -> Capture {
         refused,
     } = reading.counts();
     Capture {
-        receiver: Receiver {
+        receiver: Early {
             session: reading.session(),
             next: reading.next(),
             limit: reading.limit(),
             ended: reading.is_ended(),
+            held: held(reading),
         },
         stage: match reading.stage() {
             Stage::Settings => reference::Stage::Settings,
@@ -88,6 +93,13 @@ fn as_reference(reading: &Reading) -> Capture {
         asked,
         refused,
     }
+}
+
+fn held(reading: &Reading) -> BTreeMap<Number, Vec<u8>> {
+    let receiver = &reading.as_bytes()[layout::CAPTURE_RECEIVER..];
+    let held = layout::early(receiver, reading.slots()).held;
+    assert_eq!(held.len(), reading.held_count() as usize);
+    held
 }
 
 fn text(report: &[u8]) -> String {

@@ -5,6 +5,7 @@
 //! there.
 
 mod capture;
+mod early;
 mod mold;
 mod reach;
 mod session;
@@ -25,6 +26,7 @@ pub fn difference(call: &Call, lent: &Lent) -> Option<String> {
     let expected = expect(call, lent);
     let mut out = lent.out.clone();
     mold::difference(call, &lent.state, &expected, &mut out)
+        .or_else(|| early::difference(call, lent))
         .or_else(|| store::difference(call, &lent.state, &expected, &mut out))
         .or_else(|| soup::difference(call, &expected, &mut out))
         .or_else(|| session::difference(call, &lent.state, &expected, &mut out))

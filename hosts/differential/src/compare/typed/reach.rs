@@ -1,8 +1,11 @@
 //! The wrapper's ends and receivers in a drawn state. Their types can't be made of bytes, so each state is reached from
 //! a start; one that no start and no step leads to isn't had at all.
 
+use super::early::as_reference;
 use crate::layout::{self, CLIENT, RECEIVER, SERVER};
+use crate::reference::early::{Early, SLOT};
 use crate::reference::session::{ClientState, ServerState};
+use eiderwagon::early::EarlyReceiver;
 use eiderwagon::mold;
 use eiderwagon::receiver::Receiver;
 use eiderwagon::session::{Accounts, Client, Server};
@@ -21,6 +24,23 @@ pub fn receiver(state: &[u8; RECEIVER]) -> Option<Receiver> {
         receiver.take(end.expect("an end")).expect("it ends");
     }
     (receiver.as_bytes() == state).then_some(receiver)
+}
+
+/// It holds what came to it ahead of its turn. Of a receiver without a name nothing did.
+pub fn early(wanted: &Early) -> Option<EarlyReceiver> {
+    let mut receiver = EarlyReceiver::start(&wanted.session, wanted.next, wanted.limit).ok()?;
+    let mut out = vec![0; 2_000];
+    for (number, message) in &wanted.held {
+        let number = u64::try_from(*number).ok()?;
+        let named = wanted.is_named() && message.len() <= SLOT;
+        let early = named.then(|| mold::write_data(&wanted.session, number, &[message], &mut out));
+        receiver.take(early?.ok()?).expect("it is held");
+    }
+    if wanted.ended {
+        let end = mold::write_end_of_session(&wanted.session, wanted.next, &mut out);
+        receiver.take(end.expect("an end")).ok()?;
+    }
+    (as_reference(&receiver) == *wanted).then_some(receiver)
 }
 
 pub fn server(state: &[u8; SERVER]) -> Option<Server> {
