@@ -90,6 +90,6 @@ ReadingHandsOn = (l ss m st : List ℕ) (ds : List (List ℕ)) → readingSize �
 
 -- ---- for private helpers alone: no exported function promises it
 
--- a feed or a finish with a state and slots of their size is told by what it returns: 0
+-- a state that is long enough, and slots of their size
 abbrev pub IsSized : List ℕ → List ℕ → Type 0
 IsSized l ss = (readingSize ≤ length l) × (length ss ≡ slotBytes)
