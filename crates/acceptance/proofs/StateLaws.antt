@@ -13,11 +13,15 @@ use Rattle.soupbintcp_client.specs.declared.client.ClientState.the-variants as 
 use Rattle.capture.specs.declared.reading.Stage.the-variants as stage
 use Rattle.capture.specs.Reading.{isOver}
 use Rattle.host_answers.specs.Answers.{isOneOf}
-use Rattle.host_states.specs.States.{cursorCode, receiverCode, serverCode, clientCode, readingCode, transmitterCode, isOpen}
+use Rattle.host_states.specs.States.{cursorCode, receiverCode, serverCode, clientCode, readingCode, transmitterCode, earlyCode, walkCode, isOpen}
 use Rattle.host_cursor.specs.Cursor.{cursorSize, cursorIn}
 use Rattle.host_cursor.proofs.CursorLaws.{cursor-promises}
 use Rattle.host_receiver.specs.Receiver.{receiverSize, receiverIn}
 use Rattle.host_receiver.proofs.ReceiverLaws as kept-receiver
+use Rattle.host_early.specs.Early.{earlySize, earlyIn}
+use Rattle.host_early.specs.Walk.{walkSize, walkIn}
+use Rattle.host_early.proofs.EarlyLaws.{kept-promises}
+use Rattle.host_early.proofs.WalkLaws.{walk-promises}
 use Rattle.host_transmitter.specs.Progress.{progressSize, progressIn, pastAll}
 use Rattle.host_transmitter.proofs.ProgressLaws.{progress-promises}
 use Rattle.host_session.specs.Session.{sessionStateSize}
@@ -34,6 +38,8 @@ host-states =
     record {
       cursor = cursor-promises;
       receiver = kept-receiver.receiver-promises;
+      early = kept-promises;
+      walk = walk-promises;
       transmitter = progress-promises;
       server = kept-server.server-promises;
       client = kept-client.client-promises;
@@ -52,6 +58,14 @@ receiver-open =
     record {
       by-code = λ l h. rw (le-ltb (length l) receiverSize h) (not-not (eqb (getD l 0 0) receiverCode));
       too-few = λ l h. rw (lt-ltb (length l) receiverSize h);
+    }
+
+early-open : OpenExactly earlyIn (λ r. not (r .base .ended)) earlySize earlyCode
+unfolding earlyIn isOpen
+early-open =
+    record {
+      by-code = λ l h. rw (le-ltb (length l) earlySize h) (not-not (eqb (getD l 0 0) earlyCode));
+      too-few = λ l h. rw (lt-ltb (length l) earlySize h);
     }
 
 server-so : (b : Bool) (n : ℕ) → serverIsOpen (serverStateOf b n) ≡ b
@@ -123,6 +137,16 @@ cursor-few : (l : List ℕ) → length l < cursorSize → cursorIn l .left .0 �
 unfolding cursorIn
 cursor-few l h = rw (lt-ltb (length l) cursorSize h)
 
+walk-none : (l : List ℕ) → (getD l 0 0 ≡ walkCode → ⊥) → walkIn l .left .0 ≡ 0
+unfolding walkIn isOpen
+walk-none l e =
+    below-or-not _ (length l) walkSize (λ h. rw (lt-ltb (length l) walkSize h))
+    (λ h. rw (le-ltb (length l) walkSize h, ne-eqb (getD l 0 0) walkCode e))
+
+walk-few : (l : List ℕ) → length l < walkSize → walkIn l .left .0 ≡ 0
+unfolding walkIn
+walk-few l h = rw (lt-ltb (length l) walkSize h)
+
 transmitter-past : (l : List ℕ) → (getD l 0 0 ≡ transmitterCode → ⊥) → progressIn l ≡ pastAll
 unfolding progressIn isOpen
 transmitter-past l e =
@@ -138,11 +162,14 @@ unfolding allDifferent isOneOf
 open-by-code =
     record {
       receiver = receiver-open;
+      early = early-open;
       server = server-open;
       client = client-open;
       reading = reading-open;
       cursor = cursor-none;
       cursor-too-few = cursor-few;
+      walk = walk-none;
+      walk-too-few = walk-few;
       transmitter = transmitter-past;
       transmitter-too-few = transmitter-few;
       apart = refl;

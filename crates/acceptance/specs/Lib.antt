@@ -1,4 +1,5 @@
 pub mod States
 pub mod Layouts
 pub mod Conditions
+pub mod Orders
 pub mod Examples

@@ -9,9 +9,11 @@ use Rattle.wire.specs.Choice.{if_then_else_}
 use Rattle.capture.specs.Reading.{isOver}
 use Rattle.host_answers.specs.Answers.{isOneOf}
 use Rattle.host_states.specs.States.{cursorCode, receiverCode, serverCode, clientCode, readingCode, transmitterCode}
-use Rattle.host_states.specs.States.{StatePromises}
+use Rattle.host_states.specs.States.{earlyCode, walkCode, StatePromises}
 use Rattle.host_cursor.specs.Cursor.{cursorSize, cursorBytes, cursorIn, KeepsCursor}
 use Rattle.host_receiver.specs.Receiver.{receiverSize, receiverBytes, receiverIn, KeepsReceiver}
+use Rattle.host_early.specs.Early.{earlySize, keptBytes, earlyIn, KeepsKept}
+use Rattle.host_early.specs.Walk.{walkSize, walkBytes, walkIn, KeepsWalk}
 use Rattle.host_transmitter.specs.Progress.{progressSize, progressBytes, progressIn, pastAll, KeepsProgress}
 use Rattle.host_session.specs.Session.{sessionStateSize}
 use Rattle.host_server.specs.Server.{serverIsOpen, serverBytes, serverIn, KeepsServer}
@@ -22,6 +24,8 @@ use Rattle.host_capture.specs.Reading.{readingSize, readingBytes, readingIn, Ke
 pub record HostStates : Type 0 where
   pub cursor : StatePromises KeepsCursor cursorSize cursorBytes
   pub receiver : StatePromises KeepsReceiver receiverSize receiverBytes
+  pub early : StatePromises KeepsKept earlySize keptBytes
+  pub walk : StatePromises KeepsWalk walkSize walkBytes
   pub transmitter : StatePromises KeepsProgress progressSize progressBytes
   pub server : StatePromises KeepsServer sessionStateSize serverBytes
   pub client : StatePromises KeepsClient sessionStateSize clientBytes
@@ -42,15 +46,22 @@ allDifferent (x ∷ xs) = if isOneOf x xs then false else allDifferent xs
 pub record OpenByCode : Type 0 where
   -- a receiver that isn't ended, a session that waits, has asked or is in, a reading that isn't over
   pub receiver : OpenExactly receiverIn (λ r. not (r .ended)) receiverSize receiverCode
+  pub early : OpenExactly earlyIn (λ r. not (r .base .ended)) earlySize earlyCode
   pub server : OpenExactly serverIn (λ s. serverIsOpen (s .state)) sessionStateSize serverCode
   pub client : OpenExactly clientIn (λ c. clientIsOpen (c .state)) sessionStateSize clientCode
   pub reading : OpenExactly readingIn (λ x. not (isOver (x .stage))) readingSize readingCode
   -- bytes whose first isn't a cursor's code, and too few, have no messages left
   pub cursor : (l : List ℕ) → (getD l 0 0 ≡ cursorCode → ⊥) → cursorIn l .left .0 ≡ 0
   pub cursor-too-few : (l : List ℕ) → length l < cursorSize → cursorIn l .left .0 ≡ 0
+  -- and so have those whose first isn't a walk's
+  pub walk : (l : List ℕ) → (getD l 0 0 ≡ walkCode → ⊥) → walkIn l .left .0 ≡ 0
+  pub walk-too-few : (l : List ℕ) → length l < walkSize → walkIn l .left .0 ≡ 0
   -- and a transmitter's are past the end of every run
   pub transmitter : (l : List ℕ) → (getD l 0 0 ≡ transmitterCode → ⊥) → progressIn l ≡ pastAll
   pub transmitter-too-few : (l : List ℕ) → length l < progressSize → progressIn l ≡ pastAll
   -- no two kinds share a code, and 0 is no kind's
   pub apart :
-      allDifferent (0 ∷ cursorCode ∷ receiverCode ∷ serverCode ∷ clientCode ∷ readingCode ∷ transmitterCode ∷ []) ≡ true
+      allDifferent (0 ∷ cursorCode ∷ receiverCode ∷ serverCode ∷ clientCode ∷ readingCode ∷ transmitterCode ∷ earlyCode
+      ∷ walkCode
+      ∷ [])
+      ≡ true

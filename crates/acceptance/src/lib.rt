@@ -1,10 +1,11 @@
 // What the tender asks for, by name. The functions have nothing to do: each promises one condition, so that the gate
-// can't pass without its proof, and `specs/Conditions.antt` is the one file to open.
+// can't pass without its proof, and `specs/Conditions.antt` is the one file to open; `specs/Orders.antt` has later orders.
 ghost use Rattle.receiver.specs.Calls.{CallsDeliverTrue};
 ghost use Rattle.exports_receiver.specs.Run.{HostGetsTrue};
 ghost use Rattle.acceptance.specs.Conditions.{Condition1, Condition2, Condition2IsMeant};
 ghost use Rattle.acceptance.specs.Conditions.{Condition3, RefusedChangeNothing, Condition3IsMeant};
 ghost use Rattle.acceptance.specs.Examples.{EveryExample};
+ghost use Rattle.acceptance.specs.Orders.{Order6, Order13};
 ghost use Rattle.acceptance.specs.Layouts.{EveryLayout};
 
 // A refusal changes neither state nor one lent byte.
@@ -26,6 +27,16 @@ pub fn condition_3()
     ensures by_calls { λ _. ⌜ CallsDeliverTrue ⌝ }
     ensures for_hosts { λ _. ⌜ HostGetsTrue ⌝ }
     ensures is_meant { λ _. ⌜ Condition3IsMeant ⌝ }
+{}
+
+// Order 6: the receiver that keeps early messages.
+pub fn order_6()
+    ensures { λ _. ⌜ Order6 ⌝ }
+{}
+
+// Order 13: swapped neighbours do no harm.
+pub fn order_13()
+    ensures { λ _. ⌜ Order13 ⌝ }
 {}
 
 // Document 01's examples either side of the line.

@@ -1,0 +1,41 @@
+-- Orders 6 and 13 of document 02 by name: the statements that carry them, wherever they stand.
+use Rattle.early_receiver.specs.Early.{lentAfter}
+use Rattle.early_receiver.specs.Statements.{EarlyPromises}
+use Rattle.early_messages.specs.Delivery.{delivery, PartsAreMessages, PlacesExist, PlacesAreDelivered}
+use Rattle.early_messages.specs.Walk.{WalksTheDelivery}
+use Rattle.early_condition_3.specs.Rule.{SoundThroughout, OneMessage, FollowsTheRule}
+use Rattle.early_condition_3.specs.Condition3.{EarlyCondition3}
+use Rattle.early_condition_3.specs.Plain.{NeverLess}
+use Rattle.early_condition_3.specs.Swapped.{SwappedNeighbours}
+use Rattle.early_condition_3.specs.Witnesses.{NotVacuous, NotWeak, SwappedExample}
+use Rattle.exports_early.specs.Run.{HandsOn, HostGetsTrue}
+
+-- Order 6: keep early messages
+pub record Order6 : Type 0 where
+  -- what one message does, in the order's own words; a datagram's are taken one at a time in rising number; and this is
+  -- so at every receiver that datagrams bring up
+  pub one-message : OneMessage
+  pub follows-the-rule : FollowsTheRule lentAfter delivery
+  pub sound-throughout : SoundThroughout
+  -- a refusal changes nothing, no slot byte changes but those of a message that is held, it asks exactly when, and what
+  -- bytes the slots had doesn't matter
+  pub at-one-datagram : EarlyPromises
+  -- what will be delivered, by place before the step: a part each, there, its message's bytes, and all in one walk
+  pub parts : PartsAreMessages
+  pub places-exist : PlacesExist
+  pub places-are-delivered : PlacesAreDelivered
+  pub one-walk : WalksTheDelivery
+  -- condition 3, with slots of any bytes at first; and no less than the plain receiver delivers
+  pub condition-3 : EarlyCondition3
+  pub never-less : NeverLess
+  -- over calls of the exported functions, state and slots handed on, and condition 3 of what a host gets by them
+  pub hands-on : HandsOn
+  pub for-hosts : HostGetsTrue
+  -- it speaks of something, and wrong receivers break it
+  pub not-vacuous : NotVacuous
+  pub not-weak : NotWeak
+
+-- Order 13: swapped neighbours
+pub record Order13 : Type 0 where
+  pub either-order : SwappedNeighbours
+  pub example : SwappedExample
