@@ -6,7 +6,7 @@ use Rattle.early_receiver.proofs.AnswerLaws.{in-deliver, in-old, in-qui
 use Rattle.early_receiver.proofs.StepLaws.{past-fits, past-held, deliver-free, deliver-held, moved-open, data-above, beat-above, end-above, kept-open, kept-above, ahead-kept, ahead-beat, ahead-end, ahead-refused}
 use Rattle.early_receiver.proofs.AcceptLaws.{deliver-next, deliver-open, accept-deliver, old-open, accept-old, quiet-open, accept-quiet, refused-open, accept-refused, ask-above, ask-open, accept-ask, over-ended, accept-ended}
 use Rattle.early_receiver.proofs.ReadLaws.{whole-takes, take-refused, take-open, take-row, take-moved, take-done}
-use Rattle.early_receiver.proofs.SettleLaws.{kind-data, kind-beat, kind-end, kind-refused, here-data, here-beat, here-end, here-refused, refusal-so, row-next, row-open, row-deliver, row-old-open, row-old, row-quiet-open, row-quiet, row-ask, row-ended, row-refused, here-open, here-not, not-here, settle-open, settle-answer, settle-after, settle-done}
+use Rattle.early_receiver.proofs.SettleLaws.{kind-data, kind-beat, kind-end, kind-refused, here-data, here-beat, here-end, here-refused, refusal-so, row-next, row-open, row-deliver, row-old-open, row-old, row-quiet-open, row-quiet, row-ask, row-ended, row-refused, here-open, here-not, not-here, settle-open, settle-answer, settle-after, settle-done, settled-takes}
 
 pub ruleset refusals = (refusal-so, in-deliver, in-old, in-quiet, in-ask, in-ended, in-refused, slots-right, slots-none, slots-above, slots-below, needs)
 
@@ -22,7 +22,7 @@ pub ruleset accepts = (deliver-next, deliver-open, accept-deliver, old-open, acc
 
 pub ruleset takes = (take-refused, take-open, take-row, take-moved, take-done, needs)
 
-pub ruleset wholes = (whole-takes, needs)
+pub ruleset wholes = (whole-takes, settled-takes, needs)
 
 pub ruleset kinds-here = (kind-data, kind-beat, kind-end, kind-refused, here-data, here-beat, here-end, here-refused, needs)
 

@@ -16,7 +16,7 @@ use Rattle.wire.proofs.Cases.{below-or-not}
 use Rattle.wire.proofs.Same.{same-equal, different}
 use Rattle.moldudp64.specs.declared.downstream.Downstream.{Downstream}
 use Rattle.moldudp64.specs.declared.downstream.Downstream.the-variants as found
-use Rattle.moldudp64.specs.Downstream.{data-packet, heartbeat, downstreamWords}
+use Rattle.moldudp64.specs.Downstream.{data-packet, heartbeat, downstreamWords, downstreamOf}
 use Rattle.receiver.specs.declared.receiver.Receiver.{Receiver}
 use Rattle.receiver.specs.declared.receiver.Answer.{Answer as Plain}
 use Rattle.receiver.specs.declared.receiver.Answer.the-variants as plain
@@ -31,10 +31,11 @@ use Rattle.early_holding.proofs.HoldingLaws.{either}
 use Rattle.early_receiver.specs.declared.early.Answer.the-variants.{Old, Quiet}
 use Rattle.early_receiver.specs.declared.early.Settled.{Settled}
 use Rattle.early_receiver.specs.declared.early.Taken.{Taken}
-use Rattle.early_receiver.specs.Early.{withSlots}
+use Rattle.early_receiver.specs.Early.{withSlots, TakesEarly}
 use Rattle.early_receiver.specs.Read.{earlyRefusalRead, earlyAnswerRead, requestRead, lentAfterRead}
 use Rattle.early_receiver.specs.Steps.{Stays, Delivers, Accepts}
 use Rattle.early_receiver.specs.Settled.{dataOrBeat, isHere, settles, unsettledOf, settledOf, Settles, RowHere, staysHere, SettlesRow}
+use Rattle.early_receiver.proofs.ReadLaws.{whole-takes}
 use Rattle.early_receiver.proofs.AcceptLaws as accepts
 
 -- ---- the kind
@@ -250,3 +251,10 @@ module _ (r : EarlyReceiver) (l : List ℕ) (p : Downstream) (t : Bool) (e : t �
               record { answers = rw (z, settle-open) (d .answers); asks = rw (z, settle-open) (d .asks); leaves = rw (z, settle-open) (d .leaves) };
           else-nothing = s .else-nothing;
         }
+
+-- ---- as `take` has it: what is settled is taken, whatever is lent of its size
+
+pub settled-takes : (r : EarlyReceiver) (ls ss l : List ℕ) (p : Downstream) (b : Bool) (y : Settled) (x : Taken) → downstreamWords p ≡ downstreamOf l
+    → b ≡ (eqb (length ss) 65536 && eqb (length ls) 128) → b ≡ true → Settles y r l (downstreamWords p) → y .applies ≡ true → y .taken ≡ x
+    → TakesEarly x ls ss (lent r ls ss) l
+settled-takes r ls ss l p b y x e f g s a i = whole-takes x ls ss (lent r ls ss) l p e (rw i at (s .takes a ls ss (sym f ∙ g)))

@@ -68,18 +68,20 @@ pub struct Taken {
 }
 
 // Takes a datagram: the reader walks over its blocks, and a datagram ahead of the expected number is walked over again.
+// What can be told without the slots goes the short way.
 pub fn take(receiver: EarlyReceiver, lengths: &mut [u8], slots: &mut [u8], datagram: &[u8]) -> Taken
     ensures { λ r. ⌜ TakesEarly r (now (lengths .exit)) (now (slots .exit))
         (lent receiver (now (lengths .entry)) (now (slots .entry))) (now (datagram .entry)) ⌝ }
     ensures promises { λ _. ⌜ EarlyPromises ⌝ }
 {
-    take_read(
-        receiver,
-        downstream::read(datagram),
-        lengths,
-        slots,
-        datagram,
-    )
+    let packet = downstream::read(datagram);
+    if is_right_size(lengths.len(), slots.len()) {
+        let settled = settle(receiver, packet, datagram);
+        if settled.applies {
+            return settled.taken;
+        }
+    }
+    take_read(receiver, packet, lengths, slots, datagram)
 }
 
 // The same by what was read, so that a caller can look at that before it has a receiver.

@@ -3,7 +3,6 @@ use crate::receivers::FILLED;
 use crate::receivers::MOST_PLACES;
 use crate::receivers::WORD_SIZE;
 use crate::receivers::show;
-use exports_early_deliver;
 use exports_early::messages;
 use exports_early::walks;
 use vector_lines::NO_FUNCTION;

@@ -1,4 +1,4 @@
--- What the reader finds in a datagram is answered as the datagram is.
+-- Settled, or taken by what the reader finds, which is answered as the datagram is.
 use Rattle.early_receiver.proofs.Promises.{early-promises}
 use Rattle.early_receiver.proofs.Rules.{wholes}
 use Rattle.early_receiver.proofs.early.take.Statement.{statement}
@@ -9,8 +9,11 @@ take-spec =
     tie.close
     (tie.spec
     (λ c κs. search wholes)  -- read-requires
+    (λ c κs. search wholes)  -- is-right-size-requires
+    (λ c κs. search wholes)  -- settle-requires
+    (λ c. (search wholes, early-promises))  -- returns
     (λ c κs. search wholes)  -- take-read-requires
     (λ c. search wholes)  -- same-length
     (λ c. search wholes)  -- same-length-2
-    (λ c. (search wholes, early-promises))  -- returns
+    (λ c. (search wholes, early-promises))  -- returns-2
     )
