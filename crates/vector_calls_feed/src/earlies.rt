@@ -18,7 +18,13 @@ fn deliver_at(
     places: &mut [u64],
     out: &mut [u8],
 ) -> u32 {
-    let code = deliver::eiderwagon_early_deliver(state, slots, datagram, words, places);
+    let code = exports_early_deliver::eiderwagon_early_deliver(
+        state,
+        slots,
+        datagram,
+        words,
+        places,
+    );
     show(places, out);
     code
 }

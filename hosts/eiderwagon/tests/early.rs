@@ -1,27 +1,15 @@
 //! The receiver that keeps early messages: what is held, what it delivers, and what it asks for.
 
-use eiderwagon::early::{Answer, EarlyReceiver};
-use eiderwagon::mold::{self, Request};
-use eiderwagon::{raw, Fault, Ground};
+mod feed;
 
-const NAME: &[u8; 10] = b"READROOM01";
+use eiderwagon::early::{Answer, EarlyReceiver};
+use eiderwagon::mold::Request;
+use eiderwagon::{raw, Fault, Ground};
+use feed::{data, end, heartbeat, NAME};
 
 /// A receiver at a number, with the limit 100.
 fn at(next: u64) -> EarlyReceiver {
     EarlyReceiver::start(NAME, next, 100).unwrap()
-}
-
-fn data(first: u64, messages: &[&[u8]]) -> Vec<u8> {
-    let mut out = [0; raw::LARGEST_DATAGRAM];
-    mold::write_data(NAME, first, messages, &mut out).unwrap().to_vec()
-}
-
-fn heartbeat(next: u64) -> Vec<u8> {
-    mold::write_heartbeat(NAME, next, &mut [0; 20]).unwrap().to_vec()
-}
-
-fn end(next: u64) -> Vec<u8> {
-    mold::write_end_of_session(NAME, next, &mut [0; 20]).unwrap().to_vec()
 }
 
 /// What is delivered, with the numbers, and what is asked for.

@@ -1,27 +1,14 @@
 //! All messages of a datagram by one call: as `take` answers them.
 
-use eiderwagon::mold;
+mod feed;
+
 use eiderwagon::receiver::{Answer, Places, Receiver};
 use eiderwagon::{raw, Fault};
-
-const NAME: &[u8; 10] = b"READROOM01";
+use feed::{data, end, heartbeat, NAME};
 
 /// A receiver at a number, with the limit 100.
 fn at(next: u64) -> Receiver {
     Receiver::start(NAME, next, 100).unwrap()
-}
-
-fn data(first: u64, messages: &[&[u8]]) -> Vec<u8> {
-    let mut out = [0; raw::LARGEST_DATAGRAM];
-    mold::write_data(NAME, first, messages, &mut out).unwrap().to_vec()
-}
-
-fn heartbeat(next: u64) -> Vec<u8> {
-    mold::write_heartbeat(NAME, next, &mut [0; 20]).unwrap().to_vec()
-}
-
-fn end(next: u64) -> Vec<u8> {
-    mold::write_end_of_session(NAME, next, &mut [0; 20]).unwrap().to_vec()
 }
 
 /// Takes a datagram both ways: the answer, with its messages gathered.

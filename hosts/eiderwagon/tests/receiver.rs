@@ -1,26 +1,15 @@
 //! The receiver: its table, line by line.
 
+mod feed;
+
 use eiderwagon::mold::{self, Request};
 use eiderwagon::receiver::{Answer, Receiver};
 use eiderwagon::Ground;
-
-const NAME: &[u8; 10] = b"READROOM01";
+use feed::{data, end, heartbeat, NAME};
 
 /// A receiver at a number, with the limit 100.
 fn at(next: u64) -> Receiver {
     Receiver::start(NAME, next, 100).unwrap()
-}
-
-fn data(first: u64, messages: &[&[u8]]) -> Vec<u8> {
-    mold::write_data(NAME, first, messages, &mut [0; 100]).unwrap().to_vec()
-}
-
-fn heartbeat(next: u64) -> Vec<u8> {
-    mold::write_heartbeat(NAME, next, &mut [0; 20]).unwrap().to_vec()
-}
-
-fn end(next: u64) -> Vec<u8> {
-    mold::write_end_of_session(NAME, next, &mut [0; 20]).unwrap().to_vec()
 }
 
 /// Takes a datagram that delivers: the first number, and the messages.
