@@ -91,11 +91,11 @@ flag-one : (b : Bool) → flag b ≡ 1 → b ≡ true
 flag-one true e = refl
 flag-one false e = absurd (omega arith)
 
-flag-is : (b : Bool) → eqb (flag b) 1 ≡ b
+pub flag-is : (b : Bool) → eqb (flag b) 1 ≡ b
 flag-is true = refl
 flag-is false = refl
 
-moves-one : (i : ℕ) (d : List ℕ) (x : Walk) → walkOn d (walkBy i d x) ≡ walkBy (suc i) d x
+pub moves-one : (i : ℕ) (d : List ℕ) (x : Walk) → walkOn d (walkBy i d x) ≡ walkBy (suc i) d x
 unfolding walkBy
 moves-one zero d x = refl
 moves-one (suc i) d x = moves-one i d (walkOn d x)
@@ -191,13 +191,13 @@ bad-own t d z =
     let low : refusalOf d ≤ 16 = only-at-most (refusalOf d) 16 datagramGrounds (datagram-only d) refl in
     rw (ill-formed (t .receiver .base) d z) (low-stays (rightSize t) (refusalOf d) z (omega arith))
 
-ladder-own : (s : Lent) (d : List ℕ) → stateLadder (refusalOf d) false (earlyRefusal s d) ≡ earlyRefusal s d
+pub ladder-own : (s : Lent) (d : List ℕ) → stateLadder (refusalOf d) false (earlyRefusal s d) ≡ earlyRefusal s d
 unfolding short
 ladder-own s d =
     zero-or-not _ (refusalOf d) (λ z. sym (or-next 0 (earlyRefusal s d) refl ∙ or-next (refusalOf d) _ z)) (λ z. sym (or-first (refusalOf d) _ z) ∙ sym (bad-own s d z))
 
 module _ {l ss m st d ws ws′ : List ℕ} {r : ℕ} (t : TakesLent r l m ss st d ws ws′) (room : 7 ≤ length ws) (h : 157 ≤ length l) where
-  code-is : r ≡ earlyRefusal (lentIn l ss) d
+  pub code-is : r ≡ earlyRefusal (lentIn l ss) d
   unfolding short
   code-is =
       t .answers .returns

@@ -309,7 +309,7 @@ module _ (d l ss : List ℕ) (p : Downstream) (e : downstreamWords p ≡ downstr
 abbrev takeList : List ℕ
 takeList = 11 ∷ 12 ∷ 13 ∷ 14 ∷ 15 ∷ 16 ∷ 17 ∷ 18 ∷ 19 ∷ 20 ∷ 41 ∷ []
 
-own-only : (s : Lent) (d : List ℕ) → RefusesOnly (earlyRefusal s d) takeList
+pub own-only : (s : Lent) (d : List ℕ) → RefusesOnly (earlyRefusal s d) takeList
 unfolding earlyRefusal withSlots isOneOf within
 own-only s d =
     let k = only-within (refusalFor (s .receiver .base) d) takeGrounds takeList (receiver-only (s .receiver .base) d (only-within (refusalOf d) datagramGrounds takeGrounds (datagram-only d) refl)) refl in

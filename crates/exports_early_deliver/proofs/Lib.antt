@@ -1,0 +1,4 @@
+pub mod PlaceLaws
+pub mod LayLaws
+pub mod DeliverLaws
+pub mod Rules
