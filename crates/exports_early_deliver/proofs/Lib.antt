@@ -1,4 +1,5 @@
 pub mod PlaceLaws
 pub mod LayLaws
 pub mod DeliverLaws
+pub mod RunLaws
 pub mod Rules

@@ -80,7 +80,7 @@ enough-places s d = let n = length-delivered s d in let m = count-most s d in om
 
 -- ---- a step that delivers changes no slot
 
-moved-slots : (s : Lent) (d : List ℕ) → Moves s d → lentAfter s d .slots ≡ s .slots
+pub moved-slots : (s : Lent) (d : List ℕ) → Moves s d → lentAfter s d .slots ≡ s .slots
 unfolding takeKind
 moved-slots s d g =
     ap (λ (x : Lent). x .slots)

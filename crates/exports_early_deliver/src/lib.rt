@@ -19,6 +19,7 @@ ghost use Rattle.host_early.specs.Early.{earlySize};
 ghost use Rattle.exports_early_deliver.specs.Places.{placeWords, placesDelivered};
 ghost use Rattle.exports_early_deliver.specs.Places.{PlacesAreMessages, EnoughPlaces, StillThere};
 ghost use Rattle.exports_early_deliver.specs.Calls.{DeliversLent};
+ghost use Rattle.exports_early_deliver.specs.Run.{HandsOn};
 
 // Words of a place: whether the message lies in the slots, its offset there or in the datagram, and its length.
 const PLACE_WORDS: usize = 3;
@@ -128,6 +129,7 @@ pub extern "C" fn eiderwagon_early_deliver(
     ensures messages { λ _. ⌜ PlacesAreMessages ⌝ }
     ensures enough { λ _. ⌜ EnoughPlaces ⌝ }
     ensures still_there { λ _. ⌜ StillThere ⌝ }
+    ensures hands_on { λ _. ⌜ HandsOn ⌝ }
 {
     if state.len() < host_early::SIZE {
         return exports_early::eiderwagon_early_take(state, slots, datagram, words);

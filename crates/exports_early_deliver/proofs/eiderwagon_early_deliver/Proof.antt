@@ -1,13 +1,15 @@
 -- A state that is too short and too few words are refused, and then the places.
 use Rattle.exports_early_deliver.specs.Places.{PlacesAreMessages, EnoughPlaces, StillThere}
+use Rattle.exports_early_deliver.specs.Run.{HandsOn}
+use Rattle.exports_early_deliver.proofs.RunLaws.{hands-on}
 use Rattle.exports_early_deliver.proofs.Rules.{delivering}
 use Rattle.exports_early_deliver.proofs.PlaceLaws.{places-are-messages, enough-places, still-there}
 use Rattle.exports_early_deliver.proofs.eiderwagon_early_deliver.Statement.{statement}
 use Rattle.exports_early_deliver.proofs.eiderwagon_early_deliver.Tie as tie
 
 -- what holds of every call
-promises : PlacesAreMessages × (EnoughPlaces × StillThere)
-promises = (places-are-messages, (enough-places, still-there))
+promises : PlacesAreMessages × (EnoughPlaces × (StillThere × HandsOn))
+promises = (places-are-messages, (enough-places, (still-there, hands-on)))
 
 pub eiderwagon-early-deliver-spec : {M : Type 1} → statement M
 eiderwagon-early-deliver-spec =
