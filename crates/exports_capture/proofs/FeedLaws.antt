@@ -29,7 +29,8 @@ use Rattle.host_answers.proofs.AnswerLaws.{or-first, or-next, or-none, no-succe
 use Rattle.host_early.proofs.EarlyLaws.{early-ten, lengths-few}
 use Rattle.host_capture.specs.Reading.{readingSize, readingIn, KeptReading, lentReadingIn, LaysReading}
 use Rattle.host_capture.proofs.ReadingLaws.{lengths-stand, reading-not, reading-kept}
-use Rattle.exports_capture.specs.Calls.{slotsRefusal, slotsLadder, fedWords, onFeed, feedIn, FeedsReading, finishIn, FinishesReading, FeedCall, Handed, none, one, readingAfter, ReadingHandsOn, IsSized}
+use Rattle.host_early.specs.Slots.{slotsRefusal, slotsLadder}
+use Rattle.exports_capture.specs.Calls.{fedWords, onFeed, feedIn, FeedsReading, finishIn, FinishesReading, FeedCall, Handed, none, one, readingAfter, ReadingHandsOn, IsSized}
 
 -- ---- the reading in some bytes
 
@@ -85,21 +86,21 @@ on-refusal code f z = rw (ne-eqb code 0 z) refl
 -- ---- the refusals, in order
 
 module _ (l ss : List ℕ) where
-  ladder-short : length l < readingSize → outputShort ≡ slotsLadder l ss
+  ladder-short : length l < readingSize → outputShort ≡ slotsLadder (ltb (length l) readingSize) ss
   unfolding short
   ladder-short h = rw (lt-ltb (length l) readingSize h) (or-first outputShort _ (λ z. omega arith))
 
-  ladder-slots : readingSize ≤ length l → (length ss ≡ slotBytes → ⊥) → badSetting ≡ slotsLadder l ss
+  ladder-slots : readingSize ≤ length l → (length ss ≡ slotBytes → ⊥) → badSetting ≡ slotsLadder (ltb (length l) readingSize) ss
   unfolding short slotsRefusal
   ladder-slots h z = rw (le-ltb (length l) readingSize h, ne-eqb (length ss) slotBytes z) (or-next 0 badSetting refl)
 
-  ladder-none : IsSized l ss → 0 ≡ slotsLadder l ss
+  ladder-none : IsSized l ss → 0 ≡ slotsLadder (ltb (length l) readingSize) ss
   unfolding short slotsRefusal
   ladder-none z = rw (le-ltb (length l) readingSize (z .0), eq-eqb (length ss) slotBytes (z .1)) (or-next 0 0 refl)
 
 -- nothing changes
 module _ (l ss d : List ℕ) (r : ℕ) (z : r ≡ 0 → ⊥) where
-  feed-refused : (ws : List ℕ) → r ≡ orElse (slotsLadder l ss) (short (ltb (length ws) 2)) → FeedsReading r l l ss ss d ws ws
+  feed-refused : (ws : List ℕ) → r ≡ orElse (slotsLadder (ltb (length l) readingSize) ss) (short (ltb (length ws) 2)) → FeedsReading r l l ss ss d ws ws
   feed-refused ws e =
       record {
         answers = record { returns = e; words = no-success r _ ws z };
@@ -108,7 +109,7 @@ module _ (l ss d : List ℕ) (r : ℕ) (z : r ≡ 0 → ⊥) where
         slots = no-success r _ ss z;
       }
 
-  finish-refused : r ≡ slotsLadder l ss → FinishesReading r l l ss ss d
+  finish-refused : r ≡ slotsLadder (ltb (length l) readingSize) ss → FinishesReading r l l ss ss d
   finish-refused e =
       record {
         returns = e;
@@ -166,7 +167,7 @@ module _ (l ss d ws ws′ : List ℕ) (x : Reading) (k : Fed) (ls ss′ : List �
   unfolding short
   feed-none = t .returns ∙ rw (le-ltb (length ws) 2 w) (sym (or-next 0 0 refl))
 
-  answered : AnswersWith code ws ws′ (slotsLadder l ss) (fedWords (feedIn l ss d .fed))
+  answered : AnswersWith code ws ws′ (slotsLadder (ltb (length l) readingSize) ss) (fedWords (feedIn l ss d .fed))
   answered = rw (← ladder-none l ss z, ← fed-so, ← v, ← u) t
 
   slots-so : ss′ ≡ onSuccess code (feedIn l ss d .slots) ss

@@ -7,13 +7,13 @@ use mathlib.Core.Path.{_≡_}
 use lib.ListN.{length}
 use lib.Dec.{ltb, eqb}
 use Rattle.wire.specs.Choice.{if_then_else_}
-use Rattle.wire.specs.Refusals.{badSetting}
 use Rattle.early_holding.specs.Holding.{slotBytes}
 use Rattle.capture.specs.declared.reading.Fed.{Fed}
 use Rattle.capture.specs.Reading.{startReading, LentReading, LentFed, fedReading, feedOf, finishOf, isOver}
-use Rattle.host_answers.specs.Answers.{orElse, short, flag, onSuccess, AnswersWith}
+use Rattle.host_answers.specs.Answers.{short, flag, onSuccess, AnswersWith}
 use Rattle.host_states.specs.States.{onCode}
 use Rattle.host_early.specs.Early.{noLengths}
+use Rattle.host_early.specs.Slots.{slotsLadder}
 use Rattle.host_capture.specs.Reading.{readingSize, KeptReading, keptReading, lentReadingIn, KeepsReading}
 
 -- a fresh reading is laid, with no lengths
@@ -22,14 +22,6 @@ pub record StartsReading (r : ℕ) (l m : List ℕ) : Type 0 where
   pub keeps : KeepsReading (onCode r) l m (keptReading startReading noLengths)
 
 -- ---- the state's reading is fed or finished
-
--- 19 where the slots aren't of their size
-unfoldable pub slotsRefusal : List ℕ → ℕ
-slotsRefusal ss = if eqb (length ss) slotBytes then 0 else badSetting
-
--- first 41 where the state is too short, then 19
-abbrev pub slotsLadder : List ℕ → List ℕ → ℕ
-slotsLadder l ss = orElse (short (ltb (length l) readingSize)) (slotsRefusal ss)
 
 -- what is kept of a reading
 abbrev pub keptOf : LentReading → KeptReading
@@ -48,7 +40,7 @@ abbrev pub feedIn : List ℕ → List ℕ → List ℕ → LentFed
 feedIn l ss d = feedOf (lentReadingIn l ss) d
 
 pub record FeedsReading (r : ℕ) (l m ss ss′ d ws ws′ : List ℕ) : Type 0 where
-  pub answers : AnswersWith r ws ws′ (slotsLadder l ss) (fedWords (feedIn l ss d .fed))
+  pub answers : AnswersWith r ws ws′ (slotsLadder (ltb (length l) readingSize) ss) (fedWords (feedIn l ss d .fed))
   pub keeps : KeepsReading (onFeed r (feedIn l ss d .fed)) l m (keptOf (fedReading (feedIn l ss d)))
   pub slots : ss′ ≡ onSuccess r (feedIn l ss d .slots) ss
 
@@ -57,7 +49,7 @@ abbrev pub finishIn : List ℕ → List ℕ → List ℕ → LentReading
 finishIn l ss d = finishOf (lentReadingIn l ss) d
 
 pub record FinishesReading (r : ℕ) (l m ss ss′ d : List ℕ) : Type 0 where
-  pub returns : r ≡ slotsLadder l ss
+  pub returns : r ≡ slotsLadder (ltb (length l) readingSize) ss
   pub keeps : KeepsReading (onCode r) l m (keptOf (finishIn l ss d))
   pub slots : ss′ ≡ onSuccess r (finishIn l ss d .slots) ss
 

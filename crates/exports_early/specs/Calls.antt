@@ -2,18 +2,16 @@
 -- become ss′, and the lent words ws become ws′.
 use Prim.Native.Nat.{ℕ}
 use mathlib.Core.List.{List, [], _∷_}
-use mathlib.Core.Bool.{Bool, _||_}
+use mathlib.Core.Bool.{_||_}
 use mathlib.Core.Path.{_≡_}
 use lib.ListN.{length}
-use lib.Dec.{ltb, eqb}
+use lib.Dec.{ltb}
 use Rattle.wire.specs.Bounds.{sessionSize}
-use Rattle.wire.specs.Choice.{if_then_else_}
 use Rattle.wire.specs.Refusals.{badSetting}
 use Rattle.wire.specs.Parts.{firstBytes}
 use Rattle.wire.specs.Output.{put}
 use Rattle.moldudp64.specs.Downstream.{refusalOf}
 use Rattle.receiver.specs.Receiver.{receiverStartRefusal}
-use Rattle.early_holding.specs.Holding.{slotBytes}
 use Rattle.early_receiver.specs.declared.early.Taken.{Taken}
 use Rattle.early_receiver.specs.Answers.{earlyWords, requestWords}
 use Rattle.early_receiver.specs.Early.{startEarly, earlyRefusal, lentAfter, requestOf, earlyAnswer}
@@ -23,6 +21,7 @@ use Rattle.host_answers.specs.Answers.{orElse, short, unlessSized, stateLadder,
 use Rattle.host_states.specs.States.{onCode, onStep}
 use Rattle.host_early.specs.Early.{earlySize, Kept, kept, lentIn, noLengths, KeepsKept, LaysHead}
 use Rattle.host_early.specs.Replies.{saidWords, partWords}
+use Rattle.host_early.specs.Slots.{slotsLadder}
 use Rattle.host_early.specs.Walk.{walkSize, walkIn, KeepsWalk}
 
 -- a receiver is started on a session's name, or on a blank one; 19 where that isn't ten bytes too
@@ -46,14 +45,6 @@ pub record TakesLent (r : ℕ) (l m ss ss′ d ws ws′ : List ℕ) : Type 0 whe
   pub slots : ss′ ≡ onSuccess r (lentAfter (lentIn l ss) d .slots) ss
 
 -- ---- what a datagram d will deliver, before it is taken
-
--- 19 where the slots aren't of their size
-unfoldable pub slotsRefusal : List ℕ → ℕ
-slotsRefusal ss = if eqb (length ss) slotBytes then 0 else badSetting
-
--- first 41 where some bytes are too short, then 19
-abbrev pub slotsLadder : Bool → List ℕ → ℕ
-slotsLadder lacks ss = orElse (short lacks) (slotsRefusal ss)
 
 -- how many messages
 abbrev pub CountsMessages : ℕ → List ℕ → List ℕ → List ℕ → List ℕ → List ℕ → Type 0

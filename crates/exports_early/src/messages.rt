@@ -9,7 +9,8 @@ use wire::refusal::Refusal;
 ghost use mathlib.Core.Path.{_≡_};
 ghost use mathlib.Core.List.{[], _∷_};
 ghost use Rattle.host_answers.specs.Answers.{RefusesOnly};
-ghost use Rattle.exports_early.specs.Calls.{slotsRefusal, CountsMessages, LocatesMessage};
+ghost use Rattle.host_early.specs.Slots.{slotsRefusal};
+ghost use Rattle.exports_early.specs.Calls.{CountsMessages, LocatesMessage};
 
 // The refusal of slots of another size.
 pub(crate) fn slots_refusal(slots: &[u8]) -> Refusal

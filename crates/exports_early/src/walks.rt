@@ -13,7 +13,8 @@ ghost use Rattle.early_messages.specs.Walk.{walkPart};
 ghost use Rattle.host_answers.specs.Answers.{RefusesOnly, AnswersWith};
 ghost use Rattle.host_early.specs.Early.{earlySize, lentIn};
 ghost use Rattle.host_early.specs.Replies.{partWords};
-ghost use Rattle.exports_early.specs.Calls.{slotsRefusal, SetsWalk, NextPart};
+ghost use Rattle.host_early.specs.Slots.{slotsRefusal};
+ghost use Rattle.exports_early.specs.Calls.{SetsWalk, NextPart};
 
 // Sets a walk to the first message that a datagram will deliver.
 #[no_mangle]

@@ -1,3 +1,4 @@
 pub mod Early
 pub mod Replies
+pub mod Slots
 pub mod Walk
