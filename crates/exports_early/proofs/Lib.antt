@@ -1,4 +1,3 @@
 pub mod TakeLaws
-pub mod PartLaws
 pub mod RunLaws
 pub mod Rules

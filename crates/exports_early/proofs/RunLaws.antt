@@ -54,7 +54,8 @@ use Rattle.host_early.specs.Replies.{partWords}
 use Rattle.host_early.specs.Walk.{walkIn}
 use Rattle.host_early.proofs.EarlyLaws.{lengths-few}
 use Rattle.host_early.specs.Slots.{slotsRefusal}
-use Rattle.exports_early.specs.Calls.{StartsKeeper, NextPart, TakesLent}
+use Rattle.exports_early_messages.specs.Calls.{NextPart}
+use Rattle.exports_early.specs.Calls.{StartsKeeper, TakesLent}
 use Rattle.exports_early.specs.Run.{partIn, Walked, stop, next, Gets, Handed, none, one, Hands, HandsOn, StartCall, numberIn, endedIn, GetsTrue, NoWorse, HostGetsTrue}
 use Rattle.exports_early.proofs.TakeLaws.{length-said}
 

@@ -17,7 +17,8 @@ use Rattle.early_receiver.specs.Early.{earlyRefusal}
 use Rattle.early_condition_3.specs.Condition3.{keeper}
 use Rattle.host_early.specs.Early.{earlySize, lentIn}
 use Rattle.host_early.specs.Walk.{walkSize}
-use Rattle.exports_early.specs.Calls.{StartsKeeper, TakesLent, SetsWalk, NextPart}
+use Rattle.exports_early_messages.specs.Calls.{SetsWalk, NextPart}
+use Rattle.exports_early.specs.Calls.{StartsKeeper, TakesLent}
 
 -- the part that words name: of the slots where the second is 1, else of the datagram
 abbrev pub partIn : List ℕ → List ℕ → List ℕ → Message

@@ -1,8 +1,5 @@
-// The receiver that keeps early messages for hosts in other languages: started, given datagrams, and what each will
-// deliver. `include/eiderwagon.h` says what each function takes and answers.
-pub mod messages;
-pub mod walks;
-
+// The receiver that keeps early messages for hosts in other languages: started, and given datagrams.
+// `include/eiderwagon.h` says what each function takes and answers.
 use early_holding::holding::SLOT_BYTES;
 use early_receiver::early;
 use early_receiver::early::Taken;

@@ -3,8 +3,7 @@ use crate::receivers::FILLED;
 use crate::receivers::MOST_PLACES;
 use crate::receivers::WORD_SIZE;
 use crate::receivers::show;
-use exports_early::messages;
-use exports_early::walks;
+use exports_early_messages::walks;
 use vector_lines::NO_FUNCTION;
 use vector_lines::narrow::low16;
 use vector_lines::parse::least;
@@ -59,8 +58,8 @@ pub fn call(
     match function {
         160 => exports_early::eiderwagon_early_start(a, n, low16(m), lent),
         161 => exports_early::eiderwagon_early_take(lent, c, a, words),
-        162 => messages::eiderwagon_early_count(b, c, a, words),
-        163 => messages::eiderwagon_early_locate(b, c, a, low16(n), words),
+        162 => exports_early_messages::eiderwagon_early_count(b, c, a, words),
+        163 => exports_early_messages::eiderwagon_early_locate(b, c, a, low16(n), words),
         164 => walks::eiderwagon_early_walk(b, c, a, lent),
         165 => walks::eiderwagon_early_next(lent, b, c, a, words),
         166 => deliver_into(lent, c, a, words, &mut room, d),

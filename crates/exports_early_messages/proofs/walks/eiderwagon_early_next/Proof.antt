@@ -1,7 +1,7 @@
 -- Bytes that are too short, then 19, and then the walk.
-use Rattle.exports_early.proofs.Rules.{steps}
-use Rattle.exports_early.proofs.walks.eiderwagon_early_next.Statement.{statement}
-use Rattle.exports_early.proofs.walks.eiderwagon_early_next.Tie as tie
+use Rattle.exports_early_messages.proofs.Rules.{steps}
+use Rattle.exports_early_messages.proofs.walks.eiderwagon_early_next.Statement.{statement}
+use Rattle.exports_early_messages.proofs.walks.eiderwagon_early_next.Tie as tie
 
 pub eiderwagon-early-next-spec : {M : Type 1} → statement M
 eiderwagon-early-next-spec =

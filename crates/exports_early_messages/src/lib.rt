@@ -1,4 +1,8 @@
-// What a datagram will deliver, before it is taken: how many messages, and each by its place.
+// What a datagram will deliver, before the receiver that keeps early messages takes it: how many messages, each by its
+// place, and all in one walk, for hosts in other languages. `include/eiderwagon.h` says what each function takes and
+// answers.
+pub mod walks;
+
 use early_holding::holding::SLOT_BYTES;
 use early_messages::message;
 use host_early::LENGTHS_AT;
@@ -10,10 +14,10 @@ ghost use mathlib.Core.Path.{_≡_};
 ghost use mathlib.Core.List.{[], _∷_};
 ghost use Rattle.host_answers.specs.Answers.{RefusesOnly};
 ghost use Rattle.host_early.specs.Slots.{slotsRefusal};
-ghost use Rattle.exports_early.specs.Calls.{CountsMessages, LocatesMessage};
+ghost use Rattle.exports_early_messages.specs.Calls.{CountsMessages, LocatesMessage};
 
 // The refusal of slots of another size.
-pub(crate) fn slots_refusal(slots: &[u8]) -> Refusal
+fn slots_refusal(slots: &[u8]) -> Refusal
     ensures { λ r. ⌜ r .number ≡ slotsRefusal (now (slots .entry)) ⌝ }
 {
     if slots.len() == SLOT_BYTES {

@@ -1,5 +1,5 @@
 // All that a datagram will deliver, in one walk, before it is taken.
-use crate::messages;
+use crate::slots_refusal;
 use early_messages::message::Part;
 use early_messages::walk;
 use early_messages::walk::Walk;
@@ -14,7 +14,7 @@ ghost use Rattle.host_answers.specs.Answers.{RefusesOnly, AnswersWith};
 ghost use Rattle.host_early.specs.Early.{earlySize, lentIn};
 ghost use Rattle.host_early.specs.Replies.{partWords};
 ghost use Rattle.host_early.specs.Slots.{slotsRefusal};
-ghost use Rattle.exports_early.specs.Calls.{SetsWalk, NextPart};
+ghost use Rattle.exports_early_messages.specs.Calls.{SetsWalk, NextPart};
 
 // Sets a walk to the first message that a datagram will deliver.
 #[no_mangle]
@@ -34,7 +34,7 @@ pub extern "C" fn eiderwagon_early_walk(
     let from = LENGTHS_AT.0;
     let to = host_early::SIZE;
     let start = walk::start(host_early::read(state), &state[from..to], slots, datagram);
-    let refused = messages::slots_refusal(slots);
+    let refused = slots_refusal(slots);
     host_early::walk::write(cursor, refused.number as u32, start)
 }
 
@@ -59,11 +59,7 @@ fn answer_part(part: Part, slots: &[u8], words: &mut [u64]) -> u32
     ensures { λ r. ⌜ AnswersWith r (now (words .entry)) (now (words .exit)) (slotsRefusal (now (slots .entry)))
         (partWords part) ⌝ }
 {
-    host_answers::answer(
-        words,
-        messages::slots_refusal(slots),
-        &answers::part_words(part),
-    )
+    host_answers::answer(words, slots_refusal(slots), &answers::part_words(part))
 }
 
 // Answers the message at a walk, and moves the walk to the next one.

@@ -29,7 +29,7 @@ use Rattle.host_early.specs.Walk.{walkIn, KeepsWalk}
 use Rattle.host_early.proofs.EarlyLaws.{lengths-long}
 use Rattle.host_early.proofs.WalkLaws.{walk-not, walk-length}
 use Rattle.host_early.specs.Slots.{slotsRefusal, slotsLadder}
-use Rattle.exports_early.specs.Calls.{CountsMessages, LocatesMessage, SetsWalk, NextPart}
+use Rattle.exports_early_messages.specs.Calls.{CountsMessages, LocatesMessage, SetsWalk, NextPart}
 
 -- ---- 19
 
