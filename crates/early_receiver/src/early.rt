@@ -118,8 +118,8 @@ pub struct Settled {
     pub taken: Taken,
 }
 
-// Takes data or a heartbeat that isn't ahead, of the receiver's name: nothing is kept then, so nothing is lent. It is the
-// short way of nearly every datagram.
+// Takes data or a heartbeat that isn't ahead, of the receiver's name: nothing is kept then, so nothing is lent. It is
+// the short way of nearly every datagram.
 pub fn settle(receiver: EarlyReceiver, packet: Downstream, datagram: &[u8]) -> Settled
     ensures { λ r. ⌜ Settles r receiver (now (datagram .entry)) (downstreamWords packet) ⌝ }
 {

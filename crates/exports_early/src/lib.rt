@@ -128,7 +128,8 @@ fn take_lent(
 // The refusal of a datagram that was read, or 41 where nothing else is refused but the words.
 fn refuse(state: &[u8], slots: &[u8], packet: Downstream, datagram: &[u8]) -> u32
     requires { ⌜ (downstreamWords packet ≡ downstreamOf (now datagram)) × (earlySize ≤ length (now state)) ⌝ }
-    ensures { λ r. ⌜ r ≡ orElse (earlyRefusal (lentIn (now (state .entry)) (now (slots .entry))) (now (datagram .entry))) 41 ⌝ }
+    ensures { λ r. ⌜ r ≡ orElse
+        (earlyRefusal (lentIn (now (state .entry)) (now (slots .entry))) (now (datagram .entry))) 41 ⌝ }
 {
     let from = LENGTHS_AT.0;
     let to = host_early::SIZE;
@@ -145,7 +146,8 @@ fn refuse(state: &[u8], slots: &[u8], packet: Downstream, datagram: &[u8]) -> u3
 // Answers by words that have room, and lays the receiver, whose lengths stand there already.
 fn keep(state: &mut [u8], words: &mut [u64], taken: Taken) -> u32
     requires { ⌜ (earlySize ≤ length (now state)) × (7 ≤ length (now words)) ⌝ }
-    ensures { λ r. ⌜ Answered r (now (state .entry)) (now (state .exit)) (now (words .entry)) (now (words .exit)) taken ⌝ }
+    ensures { λ r. ⌜ Answered r (now (state .entry)) (now (state .exit)) (now (words .entry)) (now (words .exit))
+        taken ⌝ }
 {
     let answer = taken.answer;
     let request = taken.request;

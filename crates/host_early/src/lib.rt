@@ -1,6 +1,6 @@
 // A receiver that keeps early messages, as a host keeps it: the lengths of the messages in its slots stand behind its
-// other fields, and are lent from there. What it answers a host is in `answers`, a walk over what a datagram will deliver
-// in `walk`.
+// other fields, and are lent from there. What it answers a host is in `answers`, a walk over what a datagram will
+// deliver in `walk`.
 pub mod answers;
 pub mod walk;
 
@@ -84,7 +84,8 @@ fn put_fields(
     held: u64,
 )
     requires { ⌜ earlySize ≤ length (now state) ⌝ }
-    ensures { λ _. ⌜ LaysHead (now (state .entry)) (now (state .exit)) (early (receiver session next limit ended) held) ⌝ }
+    ensures { λ _. ⌜ LaysHead (now (state .entry)) (now (state .exit))
+        (early (receiver session next limit ended) held) ⌝ }
 {
     let first = host_states::open_byte(EARLY, !ended);
     host_states::put_front(state, first, session, next);

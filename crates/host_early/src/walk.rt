@@ -89,8 +89,8 @@ fn put_cursor(state: &mut [u8], at: usize, blocks: u16)
 // Lays the numbers of a walk where there is room for them.
 fn put_fields(state: &mut [u8], number: u64, left: u16, at: usize, blocks: u16)
     requires { ⌜ walkSize ≤ length (now state) ⌝ }
-    ensures { λ _. ⌜ Lays (now (state .entry)) (now (state .exit)) walkIn (walkBytes (walk number left (cursor at blocks)))
-        (walk number left (cursor at blocks)) ⌝ }
+    ensures { λ _. ⌜ Lays (now (state .entry)) (now (state .exit)) walkIn
+        (walkBytes (walk number left (cursor at blocks))) (walk number left (cursor at blocks)) ⌝ }
 {
     put_coming(state, number, left);
     put_cursor(state, at, blocks);

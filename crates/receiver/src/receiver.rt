@@ -200,8 +200,8 @@ impl Receiver {
         }
     }
 
-    // Whether it isn't ended and has the datagram's session for its name. A name that ends in a space may be no name yet,
-    // and doesn't count: a caller that wants a short way has one for nearly every name.
+    // Whether it isn't ended and has the datagram's session for its name. A name that ends in a space may be no name
+    // yet, and doesn't count: a caller that wants a short way has one for nearly every name.
     pub fn is_open_for(self, datagram: &[u8]) -> bool
         ensures { λ r. ⌜ r ≡ openFor self (now (datagram .entry)) ⌝ }
     {
