@@ -27,8 +27,9 @@
  *
  * States and cursors
  *   Their layout is given below (_AT and _SIZE), and any bytes are one: a state can be stored, copied, compared and
- *   made by hand. Numbers are little-endian. A state is open exactly when its first byte is its kind's code (_OPEN). No
- *   two kinds have the same code, and none is 0: a state that is lent to a function of another kind isn't open there.
+ *   made by hand. Numbers are little-endian, but for the lengths of held messages. A state is open exactly when its
+ *   first byte is its kind's code (_OPEN). No two kinds have the same code, and none is 0: a state that is lent to a
+ *   function of another kind isn't open there.
  *   (It may be laid over, though: a start, a walk, eiderwagon_server_set_last and a capture's feed lay their own.)
  *   With every other first byte, 0 too, a receiver of either kind is ended, a session is closed or ended, a reading is
  *   done or its settings are refused, a cursor and a walk have no messages left and a transmitter no packet. So bytes
@@ -517,8 +518,8 @@ enum {
 
 /* Takes one datagram as it came. After the step it asks exactly where something is held or the datagram's number is
  * above the expected one: from the expected number to just below the lowest held one, or, where nothing is held, the
- * datagram's, within the limit. Requests are paced by the host, as those of eiderwagon_receiver_take: while a message
- * is missing, each datagram asks for it again.
+ * datagram's, within the limit. Requests are paced by the host, as those of eiderwagon_receiver_take: each datagram
+ * that is ahead asks again for what is missing and, while something is held, so does every other one.
  *   state:     EIDERWAGON_EARLY_SIZE bytes, read and written
  *   slots:     EIDERWAGON_SLOTS_SIZE bytes, read, and written where a message is held: from the first byte of its slot
  *              on as many as it has, and no other

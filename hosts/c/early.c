@@ -35,7 +35,7 @@ static void deliver(const uint8_t *datagram, const uint64_t *answer) {
     }
 }
 
-/* Sends a request, once for each first number: while something is missing every datagram asks again. A real host also
+/* Sends a request, once for each first number: while something is held every datagram asks again. A real host also
  * sends it again after a while, since requests get lost too. */
 static void ask(uint64_t first, uint16_t count) {
     static uint64_t asked = 0;

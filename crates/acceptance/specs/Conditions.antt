@@ -131,7 +131,8 @@ pub record Condition2 : Type 0 where
   pub client-any-cutting : AnyStreamCutting Client clientStep
   -- the receiver answers, and moves its number, exactly as the table says
   pub follows-the-table : FollowsTheTable answerOf receiverAfter
-  -- an accepted datagram draws a request exactly when its number lies above the expected one
+  -- an accepted datagram draws a request exactly when its number lies above the expected one; of the receiver that
+  -- keeps early messages `Orders.antt` says when
   pub request-exactly-when : RequestExactlyWhen answerOf
   -- its limit stays; its name changes once, from blank, by an accepted datagram
   pub keeps-settings : KeepsSettings receiverAfter

@@ -4,11 +4,17 @@ use Rattle.early_receiver.specs.Statements.{EarlyPromises}
 use Rattle.early_messages.specs.Delivery.{delivery, PartsAreMessages, PlacesExist, PlacesAreDelivered}
 use Rattle.early_messages.specs.Walk.{WalksTheDelivery}
 use Rattle.early_condition_3.specs.Rule.{SoundThroughout, OneMessage, FollowsTheRule}
+use Rattle.early_condition_3.specs.Asks.{AsksWell}
 use Rattle.early_condition_3.specs.Condition3.{EarlyCondition3}
 use Rattle.early_condition_3.specs.Plain.{NeverLess}
 use Rattle.early_condition_3.specs.Swapped.{SwappedNeighbours}
 use Rattle.early_condition_3.specs.Witnesses.{NotVacuous, NotWeak, SwappedExample}
+use Rattle.capture_tally.specs.Sums.{Sums}
+use Rattle.capture.specs.Whole.{AnySlots}
+use Rattle.capture.specs.Example.{PrintedExample}
 use Rattle.exports_early.specs.Run.{HandsOn, HostGetsTrue}
+use Rattle.exports_early_deliver.specs.Places.{PlacesAreMessages, EnoughPlaces, StillThere}
+use Rattle.exports_early_deliver.specs.Run as one-call
 
 -- Order 6: keep early messages
 pub record Order6 : Type 0 where
@@ -20,6 +26,8 @@ pub record Order6 : Type 0 where
   -- a refusal changes nothing, no slot byte changes but those of a message that is held, it asks exactly when, and what
   -- bytes the slots had doesn't matter
   pub at-one-datagram : EarlyPromises
+  -- what it asks for can be sent, its limit stays, and its number never falls
+  pub asks-well : AsksWell
   -- what will be delivered, by place before the step: a part each, there, its message's bytes, and all in one walk
   pub parts : PartsAreMessages
   pub places-exist : PlacesExist
@@ -28,9 +36,18 @@ pub record Order6 : Type 0 where
   -- condition 3, with slots of any bytes at first; and no less than the plain receiver delivers
   pub condition-3 : EarlyCondition3
   pub never-less : NeverLess
+  -- the report counts answers and requests; document 01's example, now with old=2; slots of any bytes print the same
+  pub report : Sums
+  pub printed-example : PrintedExample
+  pub any-slots : AnySlots
   -- over calls of the exported functions, state and slots handed on, and condition 3 of what a host gets by them
   pub hands-on : HandsOn
   pub for-hosts : HostGetsTrue
+  -- the same where one call takes a datagram and lays the places: the delivered messages, there after the step too
+  pub places-are-messages : PlacesAreMessages
+  pub enough-places : EnoughPlaces
+  pub still-there : StillThere
+  pub by-one-call : one-call.HandsOn
   -- it speaks of something, and wrong receivers break it
   pub not-vacuous : NotVacuous
   pub not-weak : NotWeak

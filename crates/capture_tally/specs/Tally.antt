@@ -40,7 +40,7 @@ partsOf w request =
 abbrev pub cutParts : Tally
 cutParts = tally 0 0 0 0 1
 
--- a sum, capped at the largestNumber count
+-- a sum, capped at the largest number
 unfoldable pub upTo : ℕ → ℕ → ℕ
 upTo a b = if ltb largestNumber (a + b) then largestNumber else a + b
 

@@ -8,6 +8,7 @@ pub mod DatagramLaws
 pub mod StepLaws
 pub mod PlaceLaws
 pub mod RuleLaws
+pub mod AskLaws
 pub mod NamedLaws
 pub mod ConditionLaws
 pub mod PlainLaws

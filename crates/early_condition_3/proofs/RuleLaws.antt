@@ -74,6 +74,7 @@ module _ (s : Lent) (m : Message) (g : Sound s) (h : nextOf (s .receiver) < 1844
         gap = run-gap;
         gives = gives;
         stay-held = stay-held;
+        settings = record { name = refl; limit = refl; ended = refl };
         lengths = refl;
         slots = refl;
       }
@@ -116,6 +117,7 @@ module _ (s : Lent) (j : ℕ) (m : Message) (b : MayBeHeld s j m) where
     kept-so =
         record {
           number = refl;
+          settings = record { name = refl; limit = refl; ended = refl };
           held = its-held j ∙ rw (eq-eqb j j refl);
           others = λ i z. its-held i ∙ rw (ne-eqb _ _ z);
           message = keep-own s j m g (b .short);
@@ -172,8 +174,9 @@ module _ (s : Lent) (l : Datagram) where
         → lentAfter s l ≡ lent (endedNow (namedLent s l .receiver)) (s .lengths) (s .slots)
     ends k e = after-open s l z ∙ take-end (namedLent s l) l k e
 
-    ends-here : EndsHere s (lent (endedNow (namedLent s l .receiver)) (s .lengths) (s .slots))
-    ends-here = record { ended = refl; number = refl; nothing-held = none-held _; lengths = refl; slots = refl }
+    ends-here : EndsHere (namedLent s l) (lent (endedNow (namedLent s l .receiver)) (s .lengths) (s .slots))
+    ends-here =
+        record { ended = refl; name = refl; limit = refl; number = refl; nothing-held = none-held _; lengths = refl; slots = refl }
 
     end-ahead : kindOf l ≡ end-of-session → nextOf (s .receiver) < numberOf l → lentAfter s l ≡ namedLent s l
     end-ahead k h = after-open s l z ∙ take-end-ahead (namedLent s l) l k (λ e. omega arith)

@@ -31,6 +31,12 @@ pub record SoundThroughout : Type 0 where
       → Sound (lent (startEarly name n limit) lengths slots)
   pub stays : (s : Lent) (l : Datagram) → Sound s → Sound (lentAfter s l)
 
+-- the name, the limit, and whether it has ended stay
+pub record SameSettings (s t : Lent) : Type 0 where
+  pub name : t .receiver .base .session ≡ s .receiver .base .session
+  pub limit : t .receiver .base .limit ≡ s .receiver .base .limit
+  pub ended : t .receiver .base .ended ≡ s .receiver .base .ended
+
 -- ---- one message
 
 -- number n is delivered, and then every held message that follows without a gap: s becomes t and gives ms
@@ -40,6 +46,7 @@ pub record DeliversOn (s t : Lent) (m : Message) (ms : List Message) : Type 0 wh
   pub gap : isHeld (s .receiver) (nextOf (t .receiver)) ≡ false
   pub gives : ms ≡ m ∷ heldFrom s (nextOf (s .receiver) + 1) (nextOf (t .receiver) - nextOf (s .receiver) - 1)
   pub stay-held : (j : ℕ) → nextOf (t .receiver) < j → isHeld (t .receiver) j ≡ isHeld (s .receiver) j
+  pub settings : SameSettings s t
   pub lengths : t .lengths ≡ s .lengths
   pub slots : t .slots ≡ s .slots
 
@@ -53,6 +60,7 @@ pub record MayBeHeld (s : Lent) (j : ℕ) (m : Message) : Type 0 where
 -- it is held, from the first byte of its slot, and no other slot byte changes
 pub record Holds (s t : Lent) (j : ℕ) (m : Message) : Type 0 where
   pub number : nextOf (t .receiver) ≡ nextOf (s .receiver)
+  pub settings : SameSettings s t
   pub held : isHeld (t .receiver) j ≡ true
   pub others : (i : ℕ) → (i ≡ j → ⊥) → isHeld (t .receiver) i ≡ isHeld (s .receiver) i
   pub message : heldMessage t j ≡ m
@@ -77,14 +85,16 @@ pub record OneMessage : Type 0 where
 -- the session has ended: the receiver holds nothing, and no lent byte changes
 pub record EndsHere (s t : Lent) : Type 0 where
   pub ended : t .receiver .base .ended ≡ true
+  pub name : t .receiver .base .session ≡ s .receiver .base .session
+  pub limit : t .receiver .base .limit ≡ s .receiver .base .limit
   pub number : nextOf (t .receiver) ≡ nextOf (s .receiver)
   pub nothing-held : (j : ℕ) → isHeld (t .receiver) j ≡ false
   pub lengths : t .lengths ≡ s .lengths
   pub slots : t .slots ≡ s .slots
 
 -- a receiver, by how it goes on and what a datagram delivers, takes a datagram's messages one at a time in rising
--- number; a heartbeat, and an end of session ahead of n, only name it; an end of session at n ends it; a refusal
--- changes nothing
+-- number; a heartbeat, and an end of session ahead of n, only name it; an end of session at n names and ends it; a
+-- refusal changes nothing
 pub record FollowsTheRule (step : StepRule) (gives : GivesRule) : Type 0 where
   pub refused : (s : Lent) (l : Datagram) → (earlyRefusal s l ≡ 0 → ⊥) → (step s l ≡ s) × (gives s l ≡ [])
   pub data-taken : (s : Lent) (l : Datagram) → earlyRefusal s l ≡ 0 → kindOf l ≡ data-packet
@@ -96,7 +106,7 @@ pub record FollowsTheRule (step : StepRule) (gives : GivesRule) : Type 0 where
       → (step s l ≡ namedLent s l) × (gives s l ≡ [])
   pub end-ends : (s : Lent) (l : Datagram) → earlyRefusal s l ≡ 0 → kindOf l ≡ end-of-session
       → numberOf l ≡ nextOf (s .receiver)
-      → EndsHere s (step s l) × (gives s l ≡ [])
+      → EndsHere (namedLent s l) (step s l) × (gives s l ≡ [])
   pub end-ahead-names : (s : Lent) (l : Datagram) → earlyRefusal s l ≡ 0 → kindOf l ≡ end-of-session
       → nextOf (s .receiver) < numberOf l
       → (step s l ≡ namedLent s l) × (gives s l ≡ [])

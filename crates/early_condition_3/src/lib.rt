@@ -12,6 +12,7 @@ ghost use Rattle.early_messages.specs.Delivery.{delivery};
 ghost use Rattle.early_condition_3.specs.Start.{StartsEarly};
 ghost use Rattle.early_condition_3.specs.Condition3.{EarlyCondition3};
 ghost use Rattle.early_condition_3.specs.Plain.{NeverLess};
+ghost use Rattle.early_condition_3.specs.Asks.{AsksWell};
 ghost use Rattle.early_condition_3.specs.Rule.{SoundThroughout, OneMessage, FollowsTheRule};
 ghost use Rattle.early_condition_3.specs.Swapped.{SwappedNeighbours};
 ghost use Rattle.early_condition_3.specs.Witnesses.{NotVacuous, NotWeak, SwappedExample};
@@ -31,6 +32,7 @@ pub fn start(session: [u8; SESSION_SIZE], next: SequenceNumber, limit: MessageCo
     ensures sound { λ _. ⌜ SoundThroughout ⌝ }
     ensures one_message { λ _. ⌜ OneMessage ⌝ }
     ensures rule { λ _. ⌜ FollowsTheRule lentAfter delivery ⌝ }
+    ensures asks_well { λ _. ⌜ AsksWell ⌝ }
     ensures not_vacuous { λ _. ⌜ NotVacuous ⌝ }
     ensures not_weak { λ _. ⌜ NotWeak ⌝ }
     ensures swapped_example { λ _. ⌜ SwappedExample ⌝ }

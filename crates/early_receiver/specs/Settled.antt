@@ -1,5 +1,5 @@
 -- What a datagram comes to where that can be told without what is lent: data or a heartbeat that isn't ahead, of the
--- receiver's name. Nothing is kept then.
+-- receiver's name, which doesn't end in a space. Nothing is kept then.
 use Prim.Native.Nat.{ℕ}
 use mathlib.Core.List.{List}
 use mathlib.Core.Bool.{Bool, true, false}

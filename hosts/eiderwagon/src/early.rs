@@ -34,7 +34,7 @@
 //! A request stands beside the answer: one that delivers, or is old or quiet, may draw one too, as
 //! long as something is held behind a gap. It reaches to just below the lowest held number, so that
 //! nothing is asked for that is here already. Like the plain receiver it asks again with each
-//! datagram while something is missing, and keeps no time:
+//! datagram ahead, and while something is held with every other one, and keeps no time:
 //! [`Requests`](crate::receiver::Requests) says which requests to send.
 //!
 //! ```

@@ -2,6 +2,7 @@
 use Rattle.early_condition_3.proofs.ConditionLaws.{early-condition-3}
 use Rattle.early_condition_3.proofs.PlainLaws.{never-less}
 use Rattle.early_condition_3.proofs.RuleLaws.{sound-throughout, one-message, follows-the-rule}
+use Rattle.early_condition_3.proofs.AskLaws.{asks-well}
 use Rattle.early_condition_3.proofs.SwappedLaws.{swapped-neighbours}
 use Rattle.early_condition_3.proofs.ExampleLaws.{not-vacuous, swapped-example}
 use Rattle.early_condition_3.proofs.WitnessLaws.{not-weak}
@@ -14,5 +15,5 @@ start-spec =
     tie.close
     (tie.spec
     (λ c κs. search starts)  -- new-requires
-    (λ c. ((search starts, search starts), (early-condition-3, (swapped-neighbours, (never-less, (sound-throughout, (one-message, (follows-the-rule, (not-vacuous, (not-weak, swapped-example))))))))))  -- returns
+    (λ c. ((search starts, search starts), (early-condition-3, (swapped-neighbours, (never-less, (sound-throughout, (one-message, (follows-the-rule, (asks-well, (not-vacuous, (not-weak, swapped-example)))))))))))  -- returns
     )
