@@ -8,7 +8,7 @@ use native.Mathlib.Omega.{arith}
 use lib.ListN.{length, drop, getD}
 use lib.Seq.{drop-append-seam}
 use Rattle.wire.specs.Text.{readroom}
-use Rattle.wire.specs.Bounds.{blank}
+use Rattle.wire.specs.Bounds.{blank, upTo}
 use Rattle.wire.specs.Bytes.{number, bytes, sameBytes}
 use Rattle.moldudp64.specs.Header.{numberOf, countOf, header}
 use Rattle.moldudp64.specs.Blocks.{blockLength, fits, allFit, afterBlocks, messages, blocksRefusal, blocksOf}
@@ -28,7 +28,7 @@ use Rattle.capture_settings.proofs.TextLaws.{settings-promises}
 use Rattle.capture_records.specs.Records.{mostRecords, isWhole, recordsOf, restOf, isCut, recordsBytes, largestLength, AllHeld}
 use Rattle.capture_records.proofs.RecordLaws.{record-promises}
 use Rattle.capture_tally.specs.declared.report.Report.{Report}
-use Rattle.capture_tally.specs.Tally.{tally, partsIn, asksOf, upTo}
+use Rattle.capture_tally.specs.Tally.{tally, partsIn, asksOf}
 use Rattle.capture_tally.specs.Report.{report, freshOf}
 use Rattle.capture_text.specs.Text.{numberLine, sessionLine, endedLine, receiverText, tallyText, reportText}
 use Rattle.capture.specs.declared.reading.Stage.the-variants.{Done}

@@ -7,7 +7,7 @@ use native.Mathlib.Omega.{arith}
 use native.Mathlib.Nat.{zero-add, add-zero}
 use lib.ListN.{length, length-append}
 use borrow.Author.Tests.{le-ltb, ne-eqb}
-use Rattle.wire.specs.Bounds.{largestNumber}
+use Rattle.wire.specs.Bounds.{largestNumber, upTo}
 use Rattle.wire.specs.Words.{Words, Case, answer, refused, refuses}
 use Rattle.wire.proofs.Words.{which-of}
 use Rattle.wire.proofs.Cases.{zero-or-not}
@@ -28,7 +28,7 @@ use Rattle.early_condition_3.specs.Condition3.{keeper}
 use Rattle.early_condition_3.proofs.PlaceLaws.{places-length}
 use Rattle.capture_records.specs.Records.{mostRecords}
 use Rattle.capture_tally.specs.declared.tally.Tally.{Tally}
-use Rattle.capture_tally.specs.Tally.{tally, partsIn, answerParts, asksOf, partsOf, cutParts, upTo, plusOf}
+use Rattle.capture_tally.specs.Tally.{tally, partsIn, answerParts, asksOf, partsOf, cutParts, plusOf}
 use Rattle.capture_tally.specs.Report.{report, LentReport, lentReport, lentOf, freshLent, stepOf, cutLent, over}
 use Rattle.capture_tally.specs.Sums.{answersOf, requestsOf, sumOf, askedIn, summed, summedCut, Sums}
 use Rattle.capture_tally.proofs.ReportLaws.{step-more, cut-more}

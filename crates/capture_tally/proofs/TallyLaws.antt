@@ -1,12 +1,8 @@
 -- The parts of an answer and of the request beside it, and two tallies together, as the code has them.
 use mathlib.Core.Path.{_≡_, _∙_}
 use mathlib.Core.List.{List}
-use Prim.Native.Nat.{ℕ, _+_, _-_, _≤_, _<_}
-use native.Mathlib.Omega.{arith}
-use borrow.Author.Tests.{lt-ltb, le-ltb}
-use mir.Val.{Fits}
-use mir.Syntax.{w64}
-use Rattle.wire.specs.Bounds.{largestNumber}
+use Prim.Native.Nat.{ℕ}
+use Rattle.wire.specs.Bounds.{upTo}
 use Rattle.wire.specs.declared.kinds.SequenceNumber.{SequenceNumber}
 use Rattle.wire.specs.declared.kinds.MessageCount.{MessageCount}
 use Rattle.wire.specs.declared.kinds.MessagePlace.{MessagePlace}
@@ -17,15 +13,7 @@ use Rattle.early_receiver.specs.declared.early.Request.{Request}
 use Rattle.early_receiver.specs.declared.early.Request.the-variants.{Nothing, Ask}
 use Rattle.early_receiver.specs.Answers.{earlyWords, requestWords}
 use Rattle.capture_tally.specs.declared.tally.Tally.{Tally}
-use Rattle.capture_tally.specs.Tally.{tally, partsIn, asksOf, partsOf, upTo, plusOf}
-
-pub sum-most : (a b : ℕ) → largestNumber - a < b → largestNumber ≡ upTo a b
-unfolding upTo
-sum-most a b h = let g : largestNumber < a + b = omega arith in simp (lt-ltb _ _ g)
-
-pub sum-fits : (a b : ℕ) → Fits w64 a → b ≤ largestNumber - a → a + b ≡ upTo a b
-unfolding upTo
-sum-fits a b f h = let g : a + b ≤ largestNumber = omega arith in simp (le-ltb _ _ g)
+use Rattle.capture_tally.specs.Tally.{tally, partsIn, asksOf, partsOf, plusOf}
 
 pub asks-nothing : (q : Request) → q ≡ Nothing → 0 ≡ asksOf (requestWords q)
 unfolding requestWords asksOf

@@ -1,10 +1,8 @@
 -- The five counts of a report.
-use Prim.Native.Nat.{ℕ, _+_}
+use Prim.Native.Nat.{ℕ}
 use mathlib.Core.List.{List, [], _∷_}
 use lib.ListN.{getD}
-use lib.Dec.{ltb}
-use Rattle.wire.specs.Bounds.{largestNumber}
-use Rattle.wire.specs.Choice.{if_then_else_}
+use Rattle.wire.specs.Bounds.{upTo}
 use Rattle.wire.specs.Words.{Words, Case, answer, refused}
 use Rattle.receiver.specs.Table.{AnswerKind, deliver, old, quiet, ask, ended}
 use Rattle.capture_tally.specs.declared.tally.Tally.{Tally}
@@ -39,10 +37,6 @@ partsOf w request =
 -- what a record that is cut short adds: one refusal
 abbrev pub cutParts : Tally
 cutParts = tally 0 0 0 0 1
-
--- a sum, capped at the largest number
-unfoldable pub upTo : ℕ → ℕ → ℕ
-upTo a b = if ltb largestNumber (a + b) then largestNumber else a + b
 
 -- two tallies together
 abbrev pub plusOf : Tally → Tally → Tally

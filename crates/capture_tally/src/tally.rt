@@ -1,12 +1,10 @@
 // The five counts of a report, and the parts that one answer, and the request beside it, add to them.
 use early_receiver::early::Answer;
 use early_receiver::early::Request;
+use wire::counts::sum;
 ghost use mathlib.Core.Path.{_≡_};
 ghost use Rattle.early_receiver.specs.Answers.{earlyWords, requestWords};
-ghost use Rattle.capture_tally.specs.Tally.{tally, asksOf, partsOf, plusOf, upTo};
-
-// The largest count.
-const LARGEST: u64 = u64::MAX;
+ghost use Rattle.capture_tally.specs.Tally.{tally, asksOf, partsOf, plusOf};
 
 // Messages delivered, and datagrams that are old, quiet, draw a request, or are refused.
 pub struct Tally {
@@ -15,16 +13,6 @@ pub struct Tally {
     pub quiet: u64,
     pub asked: u64,
     pub refused: u64,
-}
-
-// A sum, capped at the largest count: any two counts may be given.
-fn sum(a: u64, b: u64) -> u64
-    ensures { λ r. ⌜ r ≡ upTo a b ⌝ }
-{
-    if LARGEST - a < b {
-        return LARGEST;
-    }
-    a + b
 }
 
 fn counts(delivered: u64, old: u64, quiet: u64, asked: u64, refused: u64) -> Tally

@@ -1,7 +1,9 @@
 -- Bounds that more than one crate names.
-use Prim.Native.Nat.{ℕ, _-_, _^_}
+use Prim.Native.Nat.{ℕ, _+_, _-_, _^_}
 use mathlib.Core.List.{List}
 use lib.ListN.{replicate}
+use lib.Dec.{ltb}
+use Rattle.wire.specs.Choice.{if_then_else_}
 use Rattle.wire.specs.Text.{letter}
 
 -- the smallest number that a message has
@@ -42,3 +44,7 @@ leastLimit = 1
 
 abbrev pub largestLimit : ℕ
 largestLimit = largestCount - 1
+
+-- a sum of counts, capped at the largest number
+unfoldable pub upTo : ℕ → ℕ → ℕ
+upTo a b = if ltb largestNumber (a + b) then largestNumber else a + b

@@ -1,0 +1,5 @@
+pub mod Edges
+pub mod Notes
+pub mod Listing
+pub mod Meaning
+pub mod Promises
