@@ -1,10 +1,11 @@
 // The missing ranges, from one datagram's numbers to the next.
 use crate::edges;
 use wire::kinds::SequenceNumber;
+ghost use mathlib.Core.Bool.{true};
 ghost use mathlib.Core.Path.{_≡_};
 ghost use Prim.Native.Nat.{_+_, _-_, _%_, _≤_};
 ghost use lib.ListN.{length};
-ghost use Rattle.missing_ranges.specs.Notes.{lent, isUsable, later, startIn, noteOf};
+ghost use Rattle.missing_ranges.specs.Notes.{missing, lent, isUsable, later, startIn, noteOf};
 ghost use Rattle.missing_ranges.specs.Notes.{tooMany, lastAfter, Ready, Plans};
 ghost use Rattle.missing_ranges.specs.Promises.{MissingPromises};
 
@@ -122,7 +123,7 @@ impl Missing {
 
     // More ranges than are kept.
     fn refuse(self) -> Missing
-        ensures { λ r. ⌜ (r .refused ≡ true) × (r .closed ≡ self .closed) × (r .highest ≡ self .highest) ⌝ }
+        ensures { λ r. ⌜ r ≡ missing true (self .closed) (self .highest .0) ⌝ }
     {
         Missing {
             refused: true,
