@@ -49,10 +49,10 @@ tooManyText = line rangesKey refusedWord
 unfoldable pub missingText : List ℕ → Lent → List ℕ
 missingText name x = if isUsable x then listText name (rangesIn x) else tooManyText
 
--- the bytes that are room enough for any text: a line of 19 bytes, two lines of at most 26 and 24 for each range, and a
--- line of at most 29
+-- the bytes that are room enough for any text: a line of 19 bytes, two lines of at most 26 and 24 for each range, of
+-- which words that a caller made up may hold one more than are kept, and a line of at most 29
 abbrev pub room : ℕ
-room = 19 + 50 * mostRanges + 29
+room = 19 + 50 * (mostRanges + 1) + 29
 
 -- an output with less room is refused, whatever the text
 unfoldable pub roomGround : List ℕ → ℕ

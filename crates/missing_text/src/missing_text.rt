@@ -9,7 +9,7 @@ ghost use Rattle.missing_ranges.specs.Notes.{lent};
 ghost use Rattle.missing_text.specs.Text.{missingText, roomGround};
 
 // The bytes that are room enough for any text.
-pub const ROOM: usize = 204848;
+pub const ROOM: usize = 204898;
 
 // Writes the missing ranges of a session, into an output with room for any text.
 pub fn write(out: &mut [u8], name: [u8; SESSION_SIZE], edges: &[u64], missing: Missing) -> Written
