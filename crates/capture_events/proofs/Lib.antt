@@ -1,3 +1,4 @@
 pub mod EventLaws
 pub mod TurnLaws
+pub mod NextLaws
 pub mod Rules

@@ -1,2 +1,3 @@
 pub mod Events
 pub mod Turns
+pub mod Next

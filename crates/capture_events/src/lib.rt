@@ -1,4 +1,7 @@
-// A capture as events, and the turns of a program that reads one over a lent buffer, whatever it makes of them.
+// A capture as events, one by one, and the turns of a program that reads one over a lent buffer, whatever it makes of
+// them.
+pub mod place;
+
 ghost use mathlib.Core.Path.{_≡_};
 ghost use Prim.Native.Nat.{_+_, min};
 ghost use Rattle.capture_events.specs.Turns.{TurnPromises};
