@@ -1,0 +1,87 @@
+-- A datagram taken, as the code has it.
+use mathlib.Core.Path.{_≡_, refl, ap, sym, _∙_}
+use mathlib.Core.List.{List, [], _∷_}
+use mathlib.Core.Bool.{Bool, true, false}
+use Prim.Native.Nat.{ℕ, _+_, _≤_, min}
+use native.Mathlib.Omega.{arith}
+use lib.ListN.{length, take}
+use lib.Dec.{eqb}
+use borrow.Author.Tests.{ne-eqb, eq-eqb}
+use Rattle.wire.specs.Choice.{if_then_else_}
+use Rattle.wire.specs.Bounds.{largestNumber}
+use Rattle.wire.specs.Bytes.{sameBytes}
+use Rattle.wire.specs.declared.refusal.Refusal.{Refusal}
+use Rattle.wire.specs.declared.kinds.SequenceNumber.{SequenceNumber}
+use Rattle.wire.specs.declared.kinds.MessageCount.{MessageCount}
+use Rattle.moldudp64.specs.Header.{numberOf}
+use Rattle.moldudp64.specs.declared.downstream.Downstream.{Downstream}
+use Rattle.moldudp64.specs.declared.downstream.Downstream.the-variants.{Data, Heartbeat, EndOfSession, Refused}
+use Rattle.moldudp64.specs.Downstream.{heartbeat, end-of-session, blockCount, refusalOf, downstreamWords, downstreamOf}
+use Rattle.moldudp64.proofs.DownstreamLaws.{sound, data-read, kind-read, refusal-read, number-read, no-blocks}
+use Rattle.missing_ranges.specs.declared.ranges.Missing.{Missing}
+use Rattle.missing_ranges.specs.Notes.{Lent, lent, startIn, noteOf}
+use Rattle.missing_records.specs.declared.Notes.{Notes}
+use Rattle.missing_records.specs.Records.{accepted, nextIn, LentNotes, lentNotes, lentIn, notesWith, startNotes, takeOf, notedIf}
+
+abbrev notes : List ℕ → Missing → Notes
+notes name m = record { session = name; missing = m }
+
+-- ---- the start, and a step where the datagram is ours or not
+
+pub start-noted : (name l m : List ℕ) (s : Missing) (n : ℕ) → lent s m ≡ startIn l n → lentNotes (notes name s) m ≡ startNotes name l n
+start-noted name l m s n e = ap (notesWith name) e
+
+module _ (x : Notes) (l m : List ℕ) (ours : Bool) (f e : ℕ) where
+  pub ours-noted : (s : Missing) → ours ≡ true → lent s m ≡ noteOf (lent (x .missing) l) f e
+      → lentNotes (notes (x .session) s) m ≡ notedIf ours (lentNotes x l) f e
+  unfolding notedIf
+  ours-noted s p g = rw p (ap (notesWith (x .session)) g)
+
+  pub not-ours : ours ≡ false → lentNotes x l ≡ notedIf ours (lentNotes x l) f e
+  unfolding notedIf
+  not-ours p = rw p
+
+-- ---- by what was read
+
+-- the numbers of a datagram that was read
+noted-so : (y x : LentNotes) (d : List ℕ) (f e : ℕ) → refusalOf d ≡ 0 → f ≡ numberOf d → e ≡ nextIn d
+    → y ≡ notedIf (sameBytes (take 10 d) (x .notes .session)) x f e → y ≡ takeOf x d
+unfolding takeOf accepted notedIf
+noted-so y x d f e z p q g = g ∙ rw (eq-eqb _ _ z, p, q)
+
+module _ (y x : Notes) (l m d : List ℕ) (p : Downstream) (q : downstreamWords p ≡ downstreamOf d) where
+  pub take-data : (n : SequenceNumber) (c : MessageCount) (e : ℕ) → p ≡ Data n c → e ≡ min largestNumber (n .0 + c .0)
+      → lentNotes y m ≡ notedIf (sameBytes (take 10 d) (x .session)) (lentNotes x l) (n .0) e → lentNotes y m ≡ takeOf (lentNotes x l) d
+  unfolding downstreamWords
+  take-data n c e g h w =
+      let k = data-read d (n .0) (c .0) (sym (rw g at q)) in
+      let s = sound d (k .well) .numbers-fit in
+      let i : e ≡ nextIn d = omega (arith, k .first, k .blocks) in
+      noted-so (lentNotes y m) (lentNotes x l) d (n .0) e (k .well) (k .first) i w
+
+  pub take-heartbeat : (n : SequenceNumber) → p ≡ Heartbeat n
+      → lentNotes y m ≡ notedIf (sameBytes (take 10 d) (x .session)) (lentNotes x l) (n .0) (n .0) → lentNotes y m ≡ takeOf (lentNotes x l) d
+  unfolding downstreamWords
+  take-heartbeat n g w =
+      let h = sym (rw g at q) in
+      let k = kind-read d heartbeat (n .0 ∷ []) h in
+      let v = number-read d heartbeat (n .0) [] h in
+      let z = no-blocks d heartbeat (k .1) refl in
+      noted-so (lentNotes y m) (lentNotes x l) d (n .0) (n .0) (k .0) (sym v) (omega arith) w
+
+  pub take-end : (n : SequenceNumber) → p ≡ EndOfSession n
+      → lentNotes y m ≡ notedIf (sameBytes (take 10 d) (x .session)) (lentNotes x l) (n .0) (n .0) → lentNotes y m ≡ takeOf (lentNotes x l) d
+  unfolding downstreamWords
+  take-end n g w =
+      let h = sym (rw g at q) in
+      let k = kind-read d end-of-session (n .0 ∷ []) h in
+      let v = number-read d end-of-session (n .0) [] h in
+      let z = no-blocks d end-of-session (k .1) refl in
+      noted-so (lentNotes y m) (lentNotes x l) d (n .0) (n .0) (k .0) (sym v) (omega arith) w
+
+pub take-refused : (x : Notes) (l d : List ℕ) (p : Downstream) (r : Refusal) → downstreamWords p ≡ downstreamOf d → p ≡ Refused r
+    → lentNotes x l ≡ takeOf (lentNotes x l) d
+unfolding downstreamWords takeOf accepted
+take-refused x l d p r q g =
+    let z = refusal-read d (r .number) (sym (rw g at q)) in
+    rw (ne-eqb _ _ z)
