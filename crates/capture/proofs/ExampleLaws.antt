@@ -30,7 +30,8 @@ use Rattle.capture_records.proofs.RecordLaws.{record-promises}
 use Rattle.capture_tally.specs.declared.report.Report.{Report}
 use Rattle.capture_tally.specs.Tally.{tally, partsIn, asksOf}
 use Rattle.capture_tally.specs.Report.{report, freshOf}
-use Rattle.capture_text.specs.Text.{numberLine, sessionLine, endedLine, receiverText, tallyText, reportText}
+use Rattle.capture_lines.specs.Lines.{numberLine, sessionLine}
+use Rattle.capture_text.specs.Text.{endedLine, receiverText, tallyText, reportText}
 use Rattle.capture.specs.declared.reading.Stage.the-variants.{Done}
 use Rattle.capture.specs.Reading.{reading, textAt}
 use Rattle.capture.specs.Example.{exampleDatagrams, exampleCapture, printed, PrintedExample}

@@ -3,7 +3,6 @@ use Prim.Native.Nat.{ℕ, _+_, _≤_}
 use mathlib.Core.List.{List}
 use mathlib.Core.Path.{_≡_}
 use lib.ListN.{length}
-use lib.Dec.{ltb}
 use Rattle.wire.specs.Bounds.{upTo}
 use Rattle.wire.specs.Output.{put}
 use Rattle.wire.specs.declared.output.Written.{Written}

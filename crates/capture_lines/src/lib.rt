@@ -1,5 +1,4 @@
 // Lines of text laid into a lent output, each at a place: where one has no room it is refused and nothing is laid.
-use decimal::writing;
 use wire::counts;
 use wire::kinds::ByteOffset;
 use wire::kinds::SESSION_SIZE;

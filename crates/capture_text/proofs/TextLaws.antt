@@ -1,7 +1,8 @@
 -- Laws of the report's text: its parts laid one after the other, and that it is the front of what they were laid in.
 use mathlib.Core.Path.{_≡_, ap, _∙_}
+use mathlib.Core.Bool.{Bool, true, false}
 use mathlib.Core.List.{List, _++_}
-use Prim.Native.Nat.{ℕ, _+_, _≤_}
+use Prim.Native.Nat.{ℕ, _+_, _*_, _^_, _≤_, _<_}
 use native.Mathlib.Omega.{arith}
 use lib.ListN.{length, take, drop, length-append}
 use lib.Seq.{take-at}
@@ -13,18 +14,43 @@ use Rattle.capture_tally.specs.declared.tally.Tally.{Tally}
 use Rattle.capture_tally.specs.declared.report.Report.{Report}
 use Rattle.capture_settings.specs.Settings.{nextKey}
 use Rattle.capture_settings.specs.Statements.{line}
-use Rattle.capture_text.specs.Text.{numberLine, sessionLine, endedLine, deliveredKey, oldKey, quietKey, askedKey, refusedKey, receiverText, tallyText, reportText, settingsKey, refusedWord, refusedText, room, LaysLine}
-use Rattle.capture_text.proofs.LineLaws.{then-laid, laid-within, number-length, session-length, ended-length}
+use Rattle.capture_lines.specs.Lines.{numberLine, sessionLine, behindOf, LaysLine}
+use Rattle.capture_lines.proofs.LineLaws.{number-length, session-length, wrote-laid, then-laid, then-wrote, laid-within}
+use Rattle.capture_text.specs.Text.{endedKey, yes, no, endedLine, deliveredKey, oldKey, quietKey, askedKey, refusedKey, receiverText, tallyText, reportText, settingsKey, refusedWord, refusedText, room}
+
+-- ---- the lines
+
+pub name-laid : (l m : List ℕ) (w : Written) (a : ℕ) (name : List ℕ) → length name ≡ 10 → Writes w l m 0 0 (sessionLine name) → a ≡ behindOf 0 w
+    → room ≤ length l → length l * 1 < 2 ^ 63 → LaysLine a l m 0 (sessionLine name) 19
+name-laid l m w a name n x p h f = wrote-laid w 19 x p (omega (arith, session-length name n)) (omega arith) f
+
+pub count-laid : (l m : List ℕ) (w : Written) (at a : ℕ) (key : List ℕ) (n : ℕ) → Writes w l m 0 at (numberLine key n) → a ≡ behindOf at w
+    → at + length key + 21 ≤ length l → length l * 1 < 2 ^ 63 → LaysLine a l m at (numberLine key n) (length key + 21)
+count-laid l m w at a key n x p h f = wrote-laid w (length key + 21) x p (number-length key n) (omega arith) f
+
+module _ (e : Bool) (w : Written) (l m : List ℕ) (at : ℕ) where
+  pub ended-written : e ≡ true → Writes w l m 0 at (line endedKey yes) → Writes w l m 0 at (endedLine e)
+  unfolding endedLine
+  ended-written f x = rw f x
+
+  pub not-ended-written : e ≡ false → Writes w l m 0 at (line endedKey no) → Writes w l m 0 at (endedLine e)
+  unfolding endedLine
+  not-ended-written f x = rw f x
+
+ended-length : (e : Bool) → length (endedLine e) ≤ 10
+unfolding endedLine
+ended-length true = omega arith
+ended-length false = omega arith
 
 -- ---- the parts
 
-pub receiver-laid : (x : Receiver) (l m o p : List ℕ) (a b c : ℕ) → LaysLine a l m 0 (sessionLine (x .session)) 19
-    → LaysLine b m o a (numberLine nextKey (x .next .0)) 26 → LaysLine c o p b (endedLine (x .ended)) 10 → room ≤ length l
-    → LaysLine c l p 0 (receiverText x) 60
+pub receiver-laid : (x : Receiver) (l m o p : List ℕ) (w : Written) (a b c : ℕ) → LaysLine a l m 0 (sessionLine (x .session)) 19
+    → LaysLine b m o a (numberLine nextKey (x .next .0)) 26 → Writes w o p 0 b (endedLine (x .ended)) → c ≡ behindOf b w
+    → room ≤ length l → length l * 1 < 2 ^ 63 → LaysLine c l p 0 (receiverText x) 60
 unfolding receiverText
-receiver-laid x l m o p a b c u v w h =
-    let s = then-laid u v (omega arith) in
-    laid-within 60 (then-laid s w (omega arith)) (omega arith)
+receiver-laid x l m o p w a b c s t z g h f =
+    let y = then-laid s t (omega arith) in
+    laid-within 60 (then-wrote w 10 y z g (ended-length (x .ended)) (omega arith) f) (omega arith)
 
 pub tally-laid : (t : Tally) (l m o p q r : List ℕ) (at a b c d e : ℕ) → LaysLine a l m at (numberLine deliveredKey (t .delivered)) 31
     → LaysLine b m o a (numberLine oldKey (t .old)) 25 → LaysLine c o p b (numberLine quietKey (t .quiet)) 27

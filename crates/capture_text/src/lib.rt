@@ -1,3 +1,2 @@
 // The report of a capture as text, laid at the front of a lent output.
-mod lines;
 pub mod report_text;

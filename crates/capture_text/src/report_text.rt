@@ -1,19 +1,47 @@
 // What a capture prints: the lines of its report, or that its settings are refused.
-use crate::lines;
 use capture_tally::report::Report;
 use capture_tally::tally::Tally;
 use early_holding::holding::EarlyReceiver;
 use receiver::receiver::Receiver;
 use wire::kinds::ByteOffset;
+use wire::kinds::SESSION_SIZE;
 use wire::output;
 use wire::output::Written;
 ghost use Prim.Native.Nat.{_+_, _≤_};
 ghost use lib.ListN.{length};
 ghost use Rattle.wire.specs.Output.{Writes};
-ghost use Rattle.capture_text.specs.Text.{room, LaysLine, receiverText, tallyText, reportText, refusedText};
+ghost use Rattle.capture_lines.specs.Lines.{LaysLine, numberLine, sessionLine};
+ghost use Rattle.capture_text.specs.Text.{room, endedLine, receiverText, tallyText, reportText, refusedText};
 
 // The bytes that are room enough for any report.
 pub const ROOM: usize = 256;
+
+// The line with the name of the session, at the front.
+fn put_name(out: &mut [u8], name: [u8; SESSION_SIZE]) -> ByteOffset
+    requires { ⌜ room ≤ length (now out) ⌝ }
+    ensures { λ r. ⌜ LaysLine (r .0) (now (out .entry)) (now (out .exit)) 0 (sessionLine name) 19 ⌝ }
+{
+    capture_lines::behind(ByteOffset(0), capture_lines::put_session_line(out, ByteOffset(0), name))
+}
+
+// A line with a number.
+fn put_count(out: &mut [u8], at: ByteOffset, key: &[u8], n: u64) -> ByteOffset
+    requires { ⌜ at .0 + length (now key) + 21 ≤ length (now out) ⌝ }
+    ensures { λ r. ⌜ LaysLine (r .0) (now (out .entry)) (now (out .exit)) (at .0)
+        (numberLine (now (key .entry)) n) (length (now (key .entry)) + 21) ⌝ }
+{
+    capture_lines::behind(at, capture_lines::put_number_line(out, at, key, n))
+}
+
+// The line that says whether the session has ended.
+fn put_ended(out: &mut [u8], at: ByteOffset, ended: bool) -> Written
+    ensures { λ r. ⌜ Writes r (now (out .entry)) (now (out .exit)) 0 (at .0) (endedLine ended) ⌝ }
+{
+    if ended {
+        return capture_lines::put_line(out, at, b"ended=", b"yes");
+    }
+    capture_lines::put_line(out, at, b"ended=", b"no")
+}
 
 // The lines of the receiver, at the front.
 fn put_receiver(out: &mut [u8], receiver: Receiver) -> ByteOffset
@@ -21,9 +49,9 @@ fn put_receiver(out: &mut [u8], receiver: Receiver) -> ByteOffset
     ensures { λ r. ⌜ LaysLine (r .0) (now (out .entry)) (now (out .exit)) 0 (receiverText receiver) 60 ⌝ }
 {
     let name = receiver.session;
-    let a = lines::put_session_line(out, ByteOffset(0), name);
-    let b = lines::put_number_line(out, a, b"next=", receiver.next.0);
-    lines::put_ended_line(out, b, receiver.ended)
+    let a = put_name(out, name);
+    let b = put_count(out, a, b"next=", receiver.next.0);
+    capture_lines::behind(b, put_ended(out, b, receiver.ended))
 }
 
 // The lines of the counts.
@@ -31,11 +59,11 @@ fn put_tally(out: &mut [u8], at: ByteOffset, tally: Tally) -> ByteOffset
     requires { ⌜ at .0 + 140 ≤ length (now out) ⌝ }
     ensures { λ r. ⌜ LaysLine (r .0) (now (out .entry)) (now (out .exit)) (at .0) (tallyText tally) 140 ⌝ }
 {
-    let a = lines::put_number_line(out, at, b"delivered=", tally.delivered);
-    let b = lines::put_number_line(out, a, b"old=", tally.old);
-    let c = lines::put_number_line(out, b, b"quiet=", tally.quiet);
-    let d = lines::put_number_line(out, c, b"asked=", tally.asked);
-    lines::put_number_line(out, d, b"refused=", tally.refused)
+    let a = put_count(out, at, b"delivered=", tally.delivered);
+    let b = put_count(out, a, b"old=", tally.old);
+    let c = put_count(out, b, b"quiet=", tally.quiet);
+    let d = put_count(out, c, b"asked=", tally.asked);
+    put_count(out, d, b"refused=", tally.refused)
 }
 
 // All lines, at the front.
@@ -64,5 +92,5 @@ pub fn write_report(out: &mut [u8], report: Report) -> Written
 pub fn write_refused(out: &mut [u8]) -> Written
     ensures { λ r. ⌜ Writes r (now (out .entry)) (now (out .exit)) 0 0 refusedText ⌝ }
 {
-    output::put_bytes(out, ByteOffset(0), b"settings=refused\n")
+    capture_lines::put_line(out, ByteOffset(0), b"settings=", b"refused")
 }

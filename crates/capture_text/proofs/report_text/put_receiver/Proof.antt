@@ -7,10 +7,11 @@ pub put-receiver-spec : {M : Type 1} → statement M
 put-receiver-spec =
     tie.close
     (tie.spec
-    (λ c κs. search reporting)  -- put-session-line-requires
-    (λ c. search reporting)  -- slice-aggregate-put-number-line
-    (λ c κs. search reporting)  -- put-number-line-requires
-    (λ c κs. search reporting)  -- put-ended-line-requires
+    (λ c κs. search reporting)  -- put-name-requires
+    (λ c. search reporting)  -- slice-aggregate-put-count
+    (λ c κs. search reporting)  -- put-count-requires
+    (λ c κs. search reporting)  -- put-ended-requires
+    (λ c κs. search reporting)  -- behind-requires
     (λ c. search reporting)  -- same-length
     (λ c. search reporting)  -- returns
     )

@@ -7,8 +7,9 @@ pub write-refused-spec : {M : Type 1} → statement M
 write-refused-spec =
     tie.close
     (tie.spec
-    (λ c. search reporting)  -- slice-aggregate-put-bytes
-    (λ c κs. search reporting)  -- put-bytes-requires
+    (λ c. search reporting)  -- slice-aggregate-put-line
+    (λ c. search reporting)  -- slice-aggregate-put-line-2
+    (λ c κs. search reporting)  -- put-line-requires
     (λ c. search reporting)  -- same-length
     (λ c. search reporting)  -- returns
     )
