@@ -1,1 +1,9 @@
+pub mod EdgeLaws
+pub mod PlaceLaws
+pub mod MoveLaws
+pub mod ReplaceLaws
+pub mod ShapeLaws
+pub mod NoteLaws
+pub mod SetLaws
+pub mod MeaningLaws
 pub mod Rules
