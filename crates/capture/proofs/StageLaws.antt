@@ -24,7 +24,8 @@ use Rattle.capture_events.specs.Events.{fold, At, settings, records, done, refu
 use Rattle.capture_events.proofs.EventLaws.{fold-joins, size-within, settings-so, settings-bad, records-used, on-used}
 use Rattle.capture_tally.specs.declared.report.Report.{Report}
 use Rattle.capture_tally.specs.Report.{freshOf, cutOf, LentReport, lentReport}
-use Rattle.capture_text.specs.Text.{reportText, refusedText}
+use Rattle.capture_lines.specs.Lines.{settingsRefused}
+use Rattle.capture_text.specs.Text.{reportText}
 use Rattle.capture.specs.declared.reading.Stage.{Stage}
 use Rattle.capture.specs.declared.reading.Stage.the-variants.{Settings, Records, Done, Refused}
 use Rattle.capture.specs.declared.reading.Reading.{Reading}
@@ -226,7 +227,7 @@ module _ (s : Reading) (ls ss ls₁ ss₁ l : List ℕ) (f : Fed) (e : lentFed f
 -- ---- writing
 
 module _ (s : Reading) (w : Written) (a b : List ℕ) where
-  pub write-settings : s .stage ≡ Settings → Writes w a b 0 0 refusedText → Writes w a b 0 0 (textOf s)
+  pub write-settings : s .stage ≡ Settings → Writes w a b 0 0 settingsRefused → Writes w a b 0 0 (textOf s)
   unfolding textAt
   write-settings e h = rw e h
 
@@ -238,6 +239,6 @@ module _ (s : Reading) (w : Written) (a b : List ℕ) where
   unfolding textAt
   write-done e h = rw e h
 
-  pub write-refused : s .stage ≡ Refused → Writes w a b 0 0 refusedText → Writes w a b 0 0 (textOf s)
+  pub write-refused : s .stage ≡ Refused → Writes w a b 0 0 settingsRefused → Writes w a b 0 0 (textOf s)
   unfolding textAt
   write-refused e h = rw e h

@@ -36,7 +36,8 @@ use Rattle.capture_tally.specs.Report.{freshOf, LentReport, lentReport, freshLe
 use Rattle.capture_tally.specs.Sums.{summed, summedCut}
 use Rattle.capture_tally.proofs.SumLaws.{sums}
 use Rattle.capture_text.specs.Text.{room}
-use Rattle.capture_text.proofs.TextLaws.{report-fits, refused-fits}
+use Rattle.capture_lines.proofs.LineLaws.{refused-fits}
+use Rattle.capture_text.proofs.TextLaws.{report-fits}
 use Rattle.capture.specs.declared.reading.Stage.{Stage}
 use Rattle.capture.specs.declared.reading.Stage.the-variants.{Settings, Records, Done, Refused}
 use Rattle.capture.specs.declared.reading.Reading.{Reading}

@@ -16,7 +16,8 @@ use Rattle.capture_events.specs.Events.{Event, opened, bad-settings, datagram, 
 use Rattle.capture_events.specs.Events.{At, settings, records, done, refused, Read, readPiece, End, readLast}
 use Rattle.capture_tally.specs.declared.report.Report.{Report}
 use Rattle.capture_tally.specs.Report.{freshOf, cutOf, LentReport, lentReport, stepOf, cutLent}
-use Rattle.capture_text.specs.Text.{reportText, refusedText, room}
+use Rattle.capture_lines.specs.Lines.{settingsRefused}
+use Rattle.capture_text.specs.Text.{reportText, room}
 use Rattle.capture.specs.declared.reading.Stage.{Stage}
 use Rattle.capture.specs.declared.reading.Stage.the-variants.{Settings, Records, Done, Refused}
 use Rattle.capture.specs.declared.reading.Reading.{Reading}
@@ -132,10 +133,10 @@ finishOf s l = endedBy (reportIn s) (readLast (atOf (s .reading)) l)
 
 -- what it prints: while no settings were read, that they are refused
 unfoldable pub textAt : Stage → Report → List ℕ
-textAt Settings x = refusedText
+textAt Settings x = settingsRefused
 textAt Records x = reportText x
 textAt Done x = reportText x
-textAt Refused x = refusedText
+textAt Refused x = settingsRefused
 
 abbrev pub textOf : Reading → List ℕ
 textOf s = textAt (s .stage) (s .report)

@@ -1,5 +1,6 @@
 // A capture that comes in pieces. What is there is fed; the bytes that were not used are kept, and fed again in front
 // of the next piece. The receiver's lengths and slots are lent to every call, as the one before left them.
+use capture_lines;
 use capture_records::records;
 use capture_records::records::Front;
 use capture_settings::settings;
@@ -243,10 +244,10 @@ impl Reading {
         let stage = self.stage;
         let report = self.report;
         match stage {
-            Stage::Settings => report_text::write_refused(out),
+            Stage::Settings => capture_lines::put_refused(out, b"settings="),
             Stage::Records => report_text::write_report(out, report),
             Stage::Done => report_text::write_report(out, report),
-            Stage::Refused => report_text::write_refused(out),
+            Stage::Refused => capture_lines::put_refused(out, b"settings="),
         }
     }
 

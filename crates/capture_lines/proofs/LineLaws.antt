@@ -15,7 +15,7 @@ use Rattle.decimal.specs.Decimal.{digits}
 use Rattle.decimal.proofs.SpellLaws.{length-digits}
 use Rattle.capture_settings.specs.Settings.{sessionKey, lineFeed}
 use Rattle.capture_settings.specs.Statements.{line}
-use Rattle.capture_lines.specs.Lines.{numberLine, sessionLine, behindOf, LaysLine}
+use Rattle.capture_lines.specs.Lines.{numberLine, sessionLine, refusedLine, settingsRefused, behindOf, LaysLine}
 
 -- ---- how long a line is
 
@@ -29,6 +29,10 @@ number-length key n = omega (arith, line-length key (digits n), length-digits n)
 pub session-length : (name : List ℕ) → length name ≡ 10 → length (sessionLine name) ≡ 19
 unfolding sessionLine
 session-length name h = omega (arith, line-length sessionKey name)
+
+pub refused-fits : length settingsRefused ≤ 200
+unfolding refusedLine
+refused-fits = omega arith
 
 -- ---- one part, and two
 

@@ -17,7 +17,7 @@ use Rattle.wire.proofs.Outputs.{put-put, writes-short, writes-done}
 use Rattle.decimal.proofs.SpellLaws.{decimal-digits}
 use Rattle.capture_settings.specs.Settings.{sessionKey, lineFeed}
 use Rattle.capture_settings.specs.Statements.{line}
-use Rattle.capture_lines.specs.Lines.{numberLine, sessionLine, behindOf}
+use Rattle.capture_lines.specs.Lines.{numberLine, sessionLine, refusedWord, refusedLine, behindOf}
 use Rattle.capture_lines.proofs.LineLaws.{line-length}
 
 -- ---- a line
@@ -50,6 +50,10 @@ number-line-done r l m key at k n ds f w e p = rw (e ∙ decimal-digits k n (f .
 pub session-line-done : (r : Written) (l m : List ℕ) (at : ℕ) (name : List ℕ) → Writes r l m 0 at (line sessionKey name) → Writes r l m 0 at (sessionLine name)
 unfolding sessionLine
 session-line-done r l m at name p = p
+
+pub refused-line-done : (r : Written) (l m key : List ℕ) → Writes r l m 0 0 (line key refusedWord) → Writes r l m 0 0 (refusedLine key)
+unfolding refusedLine
+refused-line-done r l m key p = p
 
 -- ---- the place behind it
 

@@ -4,6 +4,7 @@ use mathlib.Core.List.{List}
 use mathlib.Core.Path.{_≡_}
 use lib.ListN.{length}
 use Rattle.wire.specs.Bounds.{upTo}
+use Rattle.wire.specs.Text.{ascii}
 use Rattle.wire.specs.Output.{put}
 use Rattle.wire.specs.declared.output.Written.{Written}
 use Rattle.wire.specs.declared.output.Written.the-variants.{Wrote, Refused}
@@ -18,6 +19,20 @@ numberLine key n = line key (digits n)
 -- the line with the name of the session
 unfoldable pub sessionLine : List ℕ → List ℕ
 sessionLine name = line sessionKey name
+
+-- the line that says that what a key names is refused: the settings, or the ranges
+abbrev pub settingsKey : List ℕ
+settingsKey = ascii "settings="
+
+abbrev pub refusedWord : List ℕ
+refusedWord = ascii "refused"
+
+unfoldable pub refusedLine : List ℕ → List ℕ
+refusedLine key = line key refusedWord
+
+-- `settings=refused`
+abbrev pub settingsRefused : List ℕ
+settingsRefused = refusedLine settingsKey
 
 -- the place behind what was written at one; a refusal wrote nothing
 unfoldable pub behindOf : ℕ → Written → ℕ

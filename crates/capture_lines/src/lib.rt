@@ -8,7 +8,7 @@ use wire::refusal;
 ghost use mathlib.Core.Path.{_≡_};
 ghost use Rattle.wire.specs.Output.{Writes};
 ghost use Rattle.capture_settings.specs.Statements.{line};
-ghost use Rattle.capture_lines.specs.Lines.{numberLine, sessionLine, behindOf};
+ghost use Rattle.capture_lines.specs.Lines.{numberLine, sessionLine, refusedLine, behindOf};
 
 // Lays a line: its key, its value and a line feed.
 pub fn put_line(out: &mut [u8], at: ByteOffset, key: &[u8], value: &[u8]) -> Written
@@ -44,6 +44,13 @@ pub fn put_session_line(out: &mut [u8], at: ByteOffset, name: [u8; SESSION_SIZE]
     ensures { λ r. ⌜ Writes r (now (out .entry)) (now (out .exit)) 0 (at .0) (sessionLine name) ⌝ }
 {
     put_line(out, at, b"session=", &name)
+}
+
+// Writes that what a key names is refused, and nothing else.
+pub fn put_refused(out: &mut [u8], key: &[u8]) -> Written
+    ensures { λ r. ⌜ Writes r (now (out .entry)) (now (out .exit)) 0 0 (refusedLine (now (key .entry))) ⌝ }
+{
+    put_line(out, ByteOffset(0), key, b"refused")
 }
 
 // The place behind what was written at one; a refusal wrote nothing.

@@ -16,7 +16,7 @@ use Rattle.capture_settings.specs.Settings.{nextKey}
 use Rattle.capture_settings.specs.Statements.{line}
 use Rattle.capture_lines.specs.Lines.{numberLine, sessionLine, behindOf, LaysLine}
 use Rattle.capture_lines.proofs.LineLaws.{number-length, session-length, wrote-laid, then-laid, then-wrote, laid-within}
-use Rattle.capture_text.specs.Text.{endedKey, yes, no, endedLine, deliveredKey, oldKey, quietKey, askedKey, refusedKey, receiverText, tallyText, reportText, settingsKey, refusedWord, refusedText, room}
+use Rattle.capture_text.specs.Text.{endedKey, yes, no, endedLine, deliveredKey, oldKey, quietKey, askedKey, refusedKey, receiverText, tallyText, reportText, room}
 
 -- ---- the lines
 
@@ -84,10 +84,6 @@ module _ (x : Report) (z t : List ℕ) (n : ℕ) (p : LaysLine n z t 0 (reportTe
   pub report-written : (r : Written) (l m : List ℕ) → Writes r l m 0 0 (take n t) → Writes r l m 0 0 (reportText x)
   report-written r l m w = rw report-front at w
 
-pub refused-written : (r : Written) (l m : List ℕ) → Writes r l m 0 0 (line settingsKey refusedWord) → Writes r l m 0 0 refusedText
-unfolding refusedText
-refused-written r l m w = w
-
 -- ---- how long the texts are
 
 receiver-length : (x : Receiver) → length (x .session) ≡ 10 → length (receiverText x) ≤ 60
@@ -118,7 +114,3 @@ report-fits x h =
       receiver-length (x .receiver .base) h,
       tally-length (x .tally),
     )
-
-pub refused-fits : length refusedText ≤ 200
-unfolding refusedText
-refused-fits = omega arith

@@ -58,16 +58,6 @@ tallyText t =
 unfoldable pub reportText : Report → List ℕ
 reportText x = receiverText (x .receiver .base) ++ tallyText (x .tally)
 
--- `settings=refused`
-abbrev pub settingsKey : List ℕ
-settingsKey = ascii "settings="
-
-abbrev pub refusedWord : List ℕ
-refusedWord = ascii "refused"
-
-unfoldable pub refusedText : List ℕ
-refusedText = line settingsKey refusedWord
-
 -- the bytes that are room enough for any report
 abbrev pub room : ℕ
 room = 256

@@ -1,4 +1,4 @@
-// What a capture prints: the lines of its report, or that its settings are refused.
+// The lines of a report.
 use capture_tally::report::Report;
 use capture_tally::tally::Tally;
 use early_holding::holding::EarlyReceiver;
@@ -11,7 +11,7 @@ ghost use Prim.Native.Nat.{_+_, _≤_};
 ghost use lib.ListN.{length};
 ghost use Rattle.wire.specs.Output.{Writes};
 ghost use Rattle.capture_lines.specs.Lines.{LaysLine, numberLine, sessionLine};
-ghost use Rattle.capture_text.specs.Text.{room, endedLine, receiverText, tallyText, reportText, refusedText};
+ghost use Rattle.capture_text.specs.Text.{room, endedLine, receiverText, tallyText, reportText};
 
 // The bytes that are room enough for any report.
 pub const ROOM: usize = 256;
@@ -21,7 +21,10 @@ fn put_name(out: &mut [u8], name: [u8; SESSION_SIZE]) -> ByteOffset
     requires { ⌜ room ≤ length (now out) ⌝ }
     ensures { λ r. ⌜ LaysLine (r .0) (now (out .entry)) (now (out .exit)) 0 (sessionLine name) 19 ⌝ }
 {
-    capture_lines::behind(ByteOffset(0), capture_lines::put_session_line(out, ByteOffset(0), name))
+    capture_lines::behind(
+        ByteOffset(0),
+        capture_lines::put_session_line(out, ByteOffset(0), name),
+    )
 }
 
 // A line with a number.
@@ -86,11 +89,4 @@ pub fn write_report(out: &mut [u8], report: Report) -> Written
     let end = put_report(&mut text, report);
     let size = end.0;
     output::put_bytes(out, ByteOffset(0), &text[..size])
-}
-
-// Writes that the settings are refused.
-pub fn write_refused(out: &mut [u8]) -> Written
-    ensures { λ r. ⌜ Writes r (now (out .entry)) (now (out .exit)) 0 0 refusedText ⌝ }
-{
-    capture_lines::put_line(out, ByteOffset(0), b"settings=", b"refused")
 }

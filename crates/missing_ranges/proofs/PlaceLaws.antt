@@ -12,7 +12,6 @@ use Rattle.wire.specs.Choice.{if_then_else_}
 use Rattle.wire.proofs.Cases.{below-or-not}
 use Rattle.missing_ranges.specs.Edges.{halved, placePast, placeOf}
 
-
 -- ---- steps enough give the same
 
 pub fuel : (k m e : ℕ) (l : List ℕ) (lo hi : ℕ) → hi - lo ≤ k → hi - lo ≤ m → halved k e l lo hi ≡ halved m e l lo hi
