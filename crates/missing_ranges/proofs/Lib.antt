@@ -6,4 +6,8 @@ pub mod ShapeLaws
 pub mod NoteLaws
 pub mod SetLaws
 pub mod MeaningLaws
+pub mod HoldLaws
+pub mod TotalLaws
+pub mod ListingLaws
+pub mod PromiseLaws
 pub mod Rules

@@ -33,7 +33,7 @@ without-none f e bs h = rw (le-ltb _ _ h)
 
 -- ---- how many ranges
 
-pub one : Bool → ℕ
+unfoldable pub one : Bool → ℕ
 one true = 1
 one false = 0
 
