@@ -21,7 +21,10 @@ fn put_name(out: &mut [u8], name: [u8; SESSION_SIZE]) -> ByteOffset
     requires { ⌜ room ≤ length (now out) ⌝ }
     ensures { λ r. ⌜ LaysLine (r .0) (now (out .entry)) (now (out .exit)) 0 (sessionLine name) 19 ⌝ }
 {
-    capture_lines::behind(ByteOffset(0), capture_lines::put_session_line(out, ByteOffset(0), name))
+    capture_lines::behind(
+        ByteOffset(0),
+        capture_lines::put_session_line(out, ByteOffset(0), name),
+    )
 }
 
 // A line with a number.

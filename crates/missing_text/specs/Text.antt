@@ -1,17 +1,15 @@
 -- The missing ranges as text: every line ends with a line feed.
-use Prim.Native.Nat.{ℕ, _+_, _*_, _≤_}
-use mathlib.Core.Path.{_≡_}
+use Prim.Native.Nat.{ℕ, _+_, _*_}
 use mathlib.Core.List.{List, [], _∷_, _++_}
 use lib.ListN.{length}
 use lib.Dec.{ltb}
 use Rattle.wire.specs.Choice.{if_then_else_}
 use Rattle.wire.specs.Refusals.{outputShort}
 use Rattle.wire.specs.Text.{ascii}
-use Rattle.wire.specs.Output.{put}
 use Rattle.capture_settings.specs.Statements.{line}
 use Rattle.capture_lines.specs.Lines.{numberLine, sessionLine}
 use Rattle.missing_ranges.specs.Edges.{Range, mostRanges, totalFrom}
-use Rattle.missing_ranges.specs.Notes.{Lent, isUsable, rangesIn, totalIn}
+use Rattle.missing_ranges.specs.Notes.{Lent, isUsable, rangesIn}
 
 abbrev pub fromKey : List ℕ
 fromKey = ascii "from="
