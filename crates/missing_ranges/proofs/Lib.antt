@@ -1,1 +1,13 @@
+pub mod EdgeLaws
+pub mod PlaceLaws
+pub mod MoveLaws
+pub mod ReplaceLaws
+pub mod ShapeLaws
+pub mod NoteLaws
+pub mod SetLaws
+pub mod MeaningLaws
+pub mod HoldLaws
+pub mod TotalLaws
+pub mod ListingLaws
+pub mod PromiseLaws
 pub mod Rules

@@ -125,10 +125,11 @@ impl Missing {
     fn refuse(self) -> Missing
         ensures { λ r. ⌜ r ≡ missing true (self .closed) (self .highest .0) ⌝ }
     {
+        let highest = self.highest;
         Missing {
             refused: true,
             closed: self.closed,
-            highest: self.highest,
+            highest,
         }
     }
 
