@@ -1,6 +1,6 @@
 -- Parity, and the edges laid between two places, as the code has them.
 use mathlib.Core.Path.{_≡_, refl, ap, sym, _∙_}
-use mathlib.Core.List.{List, [], _∷_, _++_}
+use mathlib.Core.List.{List, [], _∷_}
 use mathlib.Core.Bool.{Bool, true, false, not}
 use Prim.Native.Nat.{ℕ, zero, suc, _+_, _%_, _≤_, _<_}
 use native.Mathlib.Omega.{arith}
@@ -9,7 +9,7 @@ use lib.Seq.{sets-eq}
 use lib.Dec.{eqb}
 use Rattle.wire.specs.Output.{put}
 use Rattle.wire.proofs.Outputs.{put-room, put-empty, put-put}
-use Rattle.missing_ranges.specs.Edges.{isOdd, middle, edgeIf}
+use Rattle.missing_ranges.specs.Edges.{isOdd, middle}
 
 -- ---- parity
 

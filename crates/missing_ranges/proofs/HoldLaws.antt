@@ -1,22 +1,21 @@
 -- Lent words with room enough hold the edges of all that is missing, unless it is refused.
 use mathlib.Core.Path.{_≡_, refl, ap, sym, _∙_}
 use mathlib.Core.List.{List, [], _∷_, _++_}
-use mathlib.Core.Bool.{Bool, true, false, not, _&&_}
-use Prim.Native.Nat.{ℕ, zero, suc, _+_, _-_, _/_, _%_, _≤_, _<_}
+use mathlib.Core.Bool.{Bool, true, false, _&&_}
+use Prim.Native.Nat.{ℕ, suc, _+_, _-_, _/_, _%_, _≤_, _<_}
 use native.Mathlib.Omega.{arith}
 use lib.ListN.{length, take, drop}
 use lib.Seq.{take-at}
-use lib.Dec.{ltb, leb, eqb}
+use lib.Dec.{leb}
 use borrow.Author.Tests.{le-ltb, le-leb, lt-leb, leb-true, leb-false, ne-eqb}
-use Rattle.wire.specs.Choice.{if_then_else_}
 use Rattle.wire.specs.Output.{put}
 use Rattle.wire.proofs.Cases.{below-or-not}
 use Rattle.wire.proofs.Outputs.{put-room, length-put}
-use Rattle.missing_ranges.specs.Edges.{placePast, placeOf, without, range, rangesOf, mostRanges}
-use Rattle.missing_ranges.specs.Notes.{missing, room, Lent, lent, edgesIn, isUsable, rangesIn, startIn, later, edgesAfter, topAfter, isKept, noteOf}
+use Rattle.missing_ranges.specs.Edges.{placePast, placeOf, without, rangesOf, mostRanges}
+use Rattle.missing_ranges.specs.Notes.{missing, room, Lent, lent, edgesIn, isUsable, rangesIn, startIn, later, edgesAfter, isKept, noteOf}
 use Rattle.missing_ranges.specs.Meaning.{Said, over, noted, highestOf, Exactly, NeedsMore, RefusesTooMany}
 use Rattle.missing_ranges.proofs.PlaceLaws.{past-le, place-le}
-use Rattle.missing_ranges.proofs.ShapeLaws.{without-as, without-none, one, count-ranges, shape-same, shape-replaced}
+use Rattle.missing_ranges.proofs.ShapeLaws.{without-as, without-none, count-ranges, shape-same, shape-replaced}
 use Rattle.missing_ranges.proofs.NoteLaws.{Usable, usable-so, usable-yes}
 use Rattle.missing_ranges.proofs.MeaningLaws.{edgesOver, allEdges, allRanges, lists-all}
 

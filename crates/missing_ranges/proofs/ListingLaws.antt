@@ -6,20 +6,19 @@ use Prim.Native.Nat.{ℕ, zero, suc, _+_, _-_, _/_, _≤_, _<_}
 use native.Mathlib.Omega.{arith}
 use lib.ListN.{length, getD, take, drop}
 use lib.Seq.{length-take-le, getD-take}
-use lib.Dec.{ltb, leb, eqb}
+use lib.Dec.{ltb}
 use mir.Syntax.{w64}
 use mir.Val.{Fits}
 use borrow.Author.Tests.{lt-ltb, le-ltb, ltb-true, ne-eqb, not-true, not-false}
-use Rattle.wire.specs.Choice.{if_then_else_}
 use Rattle.wire.specs.Bounds.{upTo}
 use Rattle.wire.proofs.Numbers.{part-to-end}
-use Rattle.missing_ranges.specs.Edges.{Range, range, rangesOf, totalFrom, mostRanges}
+use Rattle.missing_ranges.specs.Edges.{Range, range, rangesOf, totalFrom}
 use Rattle.missing_ranges.specs.declared.ranges.Missing.{Missing}
 use Rattle.missing_ranges.specs.declared.listing.Listed.{Listed}
-use Rattle.missing_ranges.specs.Notes.{lent, edgesIn, isUsable, rangesIn, totalIn, rangeAt}
+use Rattle.missing_ranges.specs.Notes.{lent, isUsable, rangesIn, totalIn, rangeAt}
 use Rattle.missing_ranges.specs.Listing.{IsRange}
 use Rattle.missing_ranges.proofs.ShapeLaws.{one, shape-same, shape-count}
-use Rattle.missing_ranges.proofs.NoteLaws.{Usable, usable-so}
+use Rattle.missing_ranges.proofs.NoteLaws.{usable-so}
 
 -- ---- how many numbers: what is still to be counted makes the whole
 

@@ -1,18 +1,17 @@
 -- A number is listed exactly when it is missing.
-use mathlib.Core.Path.{_≡_, refl, ap, sym, _∙_}
+use mathlib.Core.Path.{_≡_, refl, sym, _∙_}
 use mathlib.Core.List.{List, [], _∷_}
 use mathlib.Core.Bool.{Bool, true, false, not, _&&_, and-true, and-false, Bool·not-not}
-use Prim.Native.Nat.{ℕ, zero, suc, _+_, _-_, _≤_, _<_}
+use Prim.Native.Nat.{ℕ, _+_, _-_, _≤_, _<_}
 use native.Mathlib.Omega.{arith}
-use lib.ListN.{length}
 use lib.Dec.{ltb, leb}
-use borrow.Author.Tests.{lt-ltb, le-ltb, le-leb, lt-leb, ltb-true, ltb-false, leb-true, leb-false}
+use borrow.Author.Tests.{lt-ltb, le-ltb, le-leb, lt-leb, ltb-true, ltb-false}
 use Rattle.wire.specs.Choice.{if_then_else_}
 use Rattle.wire.proofs.Cases.{below-or-not}
 use Rattle.missing_ranges.specs.Edges.{startPlace, endPlace, replaced, without, Range, range, rangesOf, isListed, risesFrom}
 use Rattle.missing_ranges.specs.Notes.{later}
-use Rattle.missing_ranges.specs.Meaning.{Said, said, highestOf, carries, isCarried, ListsExactly}
-use Rattle.missing_ranges.proofs.SetLaws.{isMissing, Up, Below, From, from-less, up-from, below-more, none-above, up-out, below-out, out-before, out-inside, out-after}
+use Rattle.missing_ranges.specs.Meaning.{Said, highestOf, carries, isCarried, ListsExactly}
+use Rattle.missing_ranges.proofs.SetLaws.{isMissing, Up, Below, from-less, up-from, below-more, none-above, up-out, below-out, out-before, out-inside, out-after}
 
 -- ---- numbers taken out
 

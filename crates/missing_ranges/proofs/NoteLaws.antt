@@ -1,20 +1,19 @@
 -- What `note` answers and leaves, as the code has it: s is the state, l the lent words at entry.
-use mathlib.Core.Path.{_≡_, refl, ap, sym, _∙_}
+use mathlib.Core.Path.{_≡_, refl, sym, _∙_}
 use mathlib.Core.List.{List, [], _∷_}
 use mathlib.Core.Bool.{Bool, true, false, not, _&&_}
-use Prim.Native.Nat.{ℕ, zero, suc, _+_, _-_, _/_, _≤_, _<_}
+use Prim.Native.Nat.{ℕ, _+_, _-_, _/_, _≤_, _<_}
 use native.Mathlib.Omega.{arith}
 use native.Mathlib.Nat.{zero-add}
-use lib.ListN.{length, getD, take, drop, set, take-append-drop}
+use lib.ListN.{length, getD, take, set, take-append-drop}
 use lib.Seq.{length-take-le}
-use lib.Dec.{ltb, leb, eqb}
+use lib.Dec.{ltb, leb}
 use mir.Syntax.{w64}
 use mir.Val.{Fits}
 use borrow.Author.Tests.{le-leb, lt-leb, leb-true, eq-eqb, ne-eqb, not-true, not-false}
-use Rattle.wire.specs.Choice.{if_then_else_}
 use Rattle.wire.specs.Output.{put}
 use Rattle.wire.proofs.Outputs.{put-room, put-none}
-use Rattle.missing_ranges.specs.Edges.{replaced, without, rangesOf, mostRanges}
+use Rattle.missing_ranges.specs.Edges.{replaced, rangesOf, mostRanges}
 use Rattle.missing_ranges.specs.declared.ranges.Missing.{Missing}
 use Rattle.missing_ranges.specs.declared.ranges.Plan.{Plan}
 use Rattle.missing_ranges.specs.Notes.{missing, Lent, lent, edgesIn, isUsable, startIn, edgesAfter, topAfter, isKept, noteOf, tooMany, Fitting, Ready, Plans}

@@ -1,13 +1,13 @@
 -- What `Missing::start` cites: the promises together, with an example and what breaks them.
 use mathlib.Core.Path.{_≡_, refl, subst}
-use mathlib.Core.List.{List, [], _∷_}
-use mathlib.Core.Bool.{Bool, true, false}
+use mathlib.Core.List.{[], _∷_}
+use mathlib.Core.Bool.{true, false}
 use Prim.Native.Nat.{ℕ}
 use native.Mathlib.Omega.{arith}
-use Rattle.missing_ranges.specs.Edges.{Range, range, rangesOf, isListed, risesFrom, isOdd, halved, placePast, placeOf, middle, replaced, without}
+use Rattle.missing_ranges.specs.Edges.{range, rangesOf, isListed, risesFrom, isOdd, halved, placePast, placeOf, middle, replaced, without}
 use Rattle.missing_ranges.specs.Notes.{later}
-use Rattle.missing_ranges.specs.Meaning.{Said, said, highestOf, isCarried, ListsExactly}
-use Rattle.missing_ranges.specs.Promises.{example, NotVacuous, NotWeak, MissingPromises}
+use Rattle.missing_ranges.specs.Meaning.{said, highestOf, isCarried, ListsExactly}
+use Rattle.missing_ranges.specs.Promises.{example, NotVacuous, MissingPromises}
 use Rattle.missing_ranges.proofs.MeaningLaws.{edgesOver, allRanges, lists-all}
 use Rattle.missing_ranges.proofs.HoldLaws.{exactly, refuses-too-many}
 use Rattle.missing_ranges.proofs.TotalLaws.{total-is-exact}

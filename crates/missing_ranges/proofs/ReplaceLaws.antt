@@ -1,15 +1,14 @@
 -- What `replace` leaves, as the code has it: l is the memory at entry, n its edges, i and j two places.
 use mathlib.Core.Path.{_≡_, refl, ap, sym, _∙_}
-use mathlib.Core.List.{List, [], _∷_, _++_, append-assoc, append-nil}
-use mathlib.Core.Bool.{Bool, true, false, not}
-use Prim.Native.Nat.{ℕ, zero, suc, _+_, _-_, _%_, _≤_, _<_}
+use mathlib.Core.List.{List, [], _++_, append-assoc}
+use mathlib.Core.Bool.{Bool, true, false}
+use Prim.Native.Nat.{ℕ, _+_, _-_, _%_, _≤_}
 use native.Mathlib.Omega.{arith}
-use lib.ListN.{length, getD, take, drop, length-append, length-take, length-drop, take-append-drop}
+use lib.ListN.{length, take, drop, length-append, length-drop, take-append-drop}
 use lib.Seq.{length-take-le, take-take, take-add, drop-at, drop-append-add, drop-drop}
-use lib.Dec.{eqb}
 use borrow.Author.Tests.{eqb-true, eqb-false}
 use Rattle.wire.specs.Output.{put}
-use Rattle.wire.proofs.Outputs.{put-room, put-empty, put-put, put-before, length-put}
+use Rattle.wire.proofs.Outputs.{put-room, put-put, put-before, length-put}
 use Rattle.missing_ranges.specs.Edges.{isOdd, middle, replaced}
 use Rattle.missing_ranges.specs.Notes.{Fitting}
 use Rattle.missing_ranges.proofs.EdgeLaws.{odd-code, middle-both, middle-first, middle-second, middle-none}

@@ -5,13 +5,12 @@ use mathlib.Core.Bool.{Bool, true, false, not, _&&_, Bool·not-not}
 use Prim.Native.Nat.{ℕ, zero, suc, _+_, _-_, _/_, _≤_, _<_}
 use native.Mathlib.Omega.{arith}
 use native.Mathlib.Numerals.{add-one}
-use lib.ListN.{length, getD, take, drop, take-append-drop, length-take}
-use lib.Seq.{drop-cons, drop-length, length-take-le}
+use lib.ListN.{length, getD, take, drop, take-append-drop}
+use lib.Seq.{drop-length, length-take-le}
 use lib.Dec.{ltb, leb, eqb}
-use borrow.Author.Tests.{lt-ltb, le-ltb, le-leb, lt-leb, ltb-true, ltb-false, leb-true, leb-false, eqb-true, eqb-false}
+use borrow.Author.Tests.{le-leb, lt-leb, ltb-true, ltb-false, leb-true, leb-false, eqb-true, eqb-false}
 use Rattle.wire.specs.Choice.{if_then_else_}
-use Rattle.wire.proofs.Cases.{below-or-not}
-use Rattle.missing_ranges.specs.Edges.{isOdd, halved, placePast, placeOf, startPlace, endPlace, edgeIf, middle, replaced, without}
+use Rattle.missing_ranges.specs.Edges.{isOdd, halved, placePast, placeOf, startPlace, endPlace, edgeIf, middle, replaced}
 use Rattle.missing_ranges.proofs.PlaceLaws.{middle-below, past-le, place-le}
 
 -- ---- what edges mean

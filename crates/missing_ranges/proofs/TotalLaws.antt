@@ -1,21 +1,20 @@
 -- The sum of the ranges' sizes is never capped, and it is how many numbers they list.
-use mathlib.Core.Path.{_≡_, refl, ap, sym, _∙_}
+use mathlib.Core.Path.{_≡_, refl, sym, _∙_}
 use mathlib.Core.List.{List, [], _∷_}
-use mathlib.Core.Bool.{Bool, true, false, not, _&&_}
+use mathlib.Core.Bool.{Bool, true, false, _&&_}
 use Prim.Native.Nat.{ℕ, zero, suc, _+_, _-_, _≤_, _<_}
 use native.Mathlib.Omega.{arith}
 use native.Mathlib.Nat.{zero-add}
-use lib.ListN.{length}
 use lib.Dec.{ltb, leb}
-use borrow.Author.Tests.{lt-ltb, le-ltb, le-leb, lt-leb, ltb-true, ltb-false}
+use borrow.Author.Tests.{lt-ltb, le-ltb, le-leb, lt-leb}
 use Rattle.wire.specs.Choice.{if_then_else_}
 use Rattle.wire.specs.Bounds.{largestNumber, upTo}
 use Rattle.wire.proofs.Cases.{below-or-not}
 use Rattle.missing_ranges.specs.Edges.{Range, range, rangesOf, isListed, totalFrom, listedBelow}
 use Rattle.missing_ranges.specs.Notes.{later}
 use Rattle.missing_ranges.specs.Meaning.{Said, highestOf, AllNumbers, TotalIsExact}
-use Rattle.missing_ranges.proofs.SetLaws.{Up, Below, isMissing, from-less, up-from, none-above}
-use Rattle.missing_ranges.proofs.MeaningLaws.{Good, listed-means, allEdges, allRanges, all-folded}
+use Rattle.missing_ranges.proofs.SetLaws.{Up, Below, from-less, up-from, none-above}
+use Rattle.missing_ranges.proofs.MeaningLaws.{listed-means, allEdges, allRanges, all-folded}
 use Rattle.missing_ranges.proofs.HoldLaws.{noted-ranges}
 
 -- ---- never capped

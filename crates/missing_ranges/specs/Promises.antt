@@ -1,11 +1,6 @@
 -- What is promised of noting numbers in lent words.
-use Prim.Native.Nat.{ℕ, _≤_}
 use mathlib.Core.List.{List, [], _∷_}
-use mathlib.Core.Bool.{Bool, true, false}
-use mathlib.Core.Path.{_≡_}
-use lib.ListN.{length, replicate}
-use Rattle.missing_ranges.specs.Edges.{Range, range, rangesOf}
-use Rattle.missing_ranges.specs.Notes.{Lent, rangesIn}
+use Rattle.missing_ranges.specs.Edges.{range}
 use Rattle.missing_ranges.specs.Meaning.{Said, said, ListsExactly, Exactly, TotalIsExact, RefusesTooMany}
 
 -- ---- an example: from 1; data 1 and 2, data 5, heartbeat 9, data 2 to 5, data 7

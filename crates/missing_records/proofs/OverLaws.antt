@@ -1,24 +1,25 @@
 -- What a list of datagrams comes to is what the accepted ones of them say.
 use mathlib.Core.Path.{_≡_, refl, ap, sym, _∙_}
-use mathlib.Core.List.{List, [], _∷_, _++_}
+use mathlib.Core.List.{List, [], _∷_, _++_, append-assoc, append-nil}
 use mathlib.Core.Bool.{Bool, true, false, not, _&&_}
 use Prim.Native.Nat.{ℕ, _+_, _≤_}
 use native.Mathlib.Omega.{arith}
-use lib.ListN.{length}
+use lib.ListN.{length, take}
+use lib.Seq.{take-at}
 use lib.Dec.{eqb, ltb, leb}
-use borrow.Author.Tests.{eqb-true}
+use borrow.Author.Tests.{eqb-true, ne-eqb}
 use Rattle.wire.specs.Choice.{if_then_else_}
-use Rattle.wire.specs.Bounds.{largestNumber}
+use Rattle.wire.specs.Bounds.{largestNumber, sessionSize}
+use Rattle.wire.specs.Bytes.{sameBytes}
 use Rattle.moldudp64.specs.Header.{numberOf}
 use Rattle.moldudp64.specs.Downstream.{refusalOf}
 use Rattle.moldudp64.proofs.DownstreamLaws.{sound}
-use Rattle.missing_ranges.specs.Edges.{Range}
+use Rattle.missing_ranges.specs.Edges.{Range, totalFrom, listedBelow, mostRanges}
 use Rattle.missing_ranges.specs.Notes.{Lent, lent, rangesIn, room, later, startIn, noteOf}
 use Rattle.missing_ranges.specs.Meaning as said
-use Rattle.missing_ranges.specs.Promises.{MissingPromises}
 use Rattle.missing_ranges.proofs.PromiseLaws.{missing-promises}
 use Rattle.missing_records.specs.Records.{accepted, nextIn, LentNotes, lentNotes, lentIn, notesWith, startNotes, takeOf, over}
-use Rattle.missing_records.specs.Promises.{carries, isCarried, highestOf, ListsMissing, ListsWhatIsMissing, TotalIsExact, NeedsMore, RefusesTooMany, RecordPromises}
+use Rattle.missing_records.specs.Promises.{carries, isCarried, highestOf, ListsMissing, ListsWhatIsMissing, TotalIsExact, NeedsMore, NeedsMoreWithin, RecordPromises}
 
 -- ---- what the accepted ones of a list say
 
@@ -34,17 +35,47 @@ saidsOf name [] = []
 saidsOf name (d ∷ ds) = saidsIf (accepted name d) d (saidsOf name ds)
 
 -- the missing ranges after a list are those of what it says, and the name stays
-over-so : (x : LentNotes) (ds : List (List ℕ)) → over x ds ≡ notesWith (x .notes .session) (said.over (lentIn x) (saidsOf (x .notes .session) ds))
+taken-yes : (x : LentNotes) (d : List ℕ) → accepted (x .notes .session) d ≡ true → takeOf x d ≡ notesWith (x .notes .session) (noteOf (lentIn x) (numberOf d) (nextIn d))
+unfolding takeOf
+taken-yes x d e = rw e
+
+taken-no : (x : LentNotes) (d : List ℕ) → accepted (x .notes .session) d ≡ false → takeOf x d ≡ x
+unfolding takeOf
+taken-no x d e = rw e
+
+by-accepted : (P : Type 0) (name d : List ℕ) → (accepted name d ≡ true → P) → (accepted name d ≡ false → P) → P
+by-accepted P name d f g = go (accepted name d) refl
+  where
+    go : (b : Bool) → accepted name d ≡ b → P
+    go true e = f e
+    go false e = g e
+
+abbrev notedBy : LentNotes → List said.Said → LentNotes
+notedBy x ss = notesWith (x .notes .session) (said.over (lentIn x) ss)
+
+saids-yes : (name d : List ℕ) (ds : List (List ℕ)) → accepted name d ≡ true → saidsOf name (d ∷ ds) ≡ saidIn d ∷ saidsOf name ds
+unfolding saidsOf saidsIf
+saids-yes name d ds e = rw e
+
+saids-no : (name d : List ℕ) (ds : List (List ℕ)) → accepted name d ≡ false → saidsOf name (d ∷ ds) ≡ saidsOf name ds
+unfolding saidsOf saidsIf
+saids-no name d ds e = rw e
+
+over-one : (x : Lent) (d : said.Said) (ds : List said.Said) → said.over (noteOf x (d .first) (d .next)) ds ≡ said.over x (d ∷ ds)
+unfolding said.over
+over-one x d ds = refl
+
+over-so : (x : LentNotes) (ds : List (List ℕ)) → over x ds ≡ notedBy x (saidsOf (x .notes .session) ds)
 unfolding over said.over saidsOf
 over-so x [] = refl
-over-so x (d ∷ ds) = go (accepted (x .notes .session) d) refl
-  where
-    name : List ℕ
-    name = x .notes .session
-
-    go : (b : Bool) → accepted (x .notes .session) d ≡ b
-        → over (takeOf x d) ds ≡ notesWith (x .notes .session) (said.over (lentIn x) (saidsIf (accepted (x .notes .session) d) d (saidsOf (x .notes .session) ds)))
-    go b e = ?
+over-so x (d ∷ ds) =
+    let name = x .notes .session in
+    let y = notesWith name (noteOf (lentIn x) (numberOf d) (nextIn d)) in
+    let i = over-so y ds in
+    let k = over-so x ds in
+    by-accepted _ name d
+    (λ e. ap (λ (z : LentNotes). over z ds) (taken-yes x d e) ∙ i ∙ ap (notedBy x) (sym (saids-yes name d ds e)))
+    (λ e. ap (λ (z : LentNotes). over z ds) (taken-no x d e) ∙ k ∙ ap (notedBy x) (sym (saids-no name d ds e)))
 
 carried-so : (name : List ℕ) (x : ℕ) (ds : List (List ℕ)) → isCarried name x ds ≡ said.isCarried x (saidsOf name ds)
 unfolding isCarried said.isCarried saidsOf saidsIf carries
@@ -69,11 +100,11 @@ highest-so name n (d ∷ ds) = go (accepted name d) (highest-so name (later n (n
 -- the numbers of an accepted datagram are numbers
 accepted-well : (name d : List ℕ) → accepted name d ≡ true → refusalOf d ≡ 0
 unfolding accepted
-accepted-well name d e = eqb-true _ _ (first (eqb (refusalOf d) 0) e)
+accepted-well name d e = eqb-true _ _ (first (eqb (refusalOf d) 0) (sameBytes (take sessionSize d) name) e)
   where
-    first : {c : Bool} (b : Bool) → (if b then c else false) ≡ true → b ≡ true
-    first true f = refl
-    first false f = f
+    first : (b c : Bool) → (if b then c else false) ≡ true → b ≡ true
+    first true c f = refl
+    first false c f = f
 
 all-numbers : (name : List ℕ) (ds : List (List ℕ)) → said.AllNumbers (saidsOf name ds)
 unfolding said.AllNumbers saidsOf saidsIf
@@ -108,3 +139,110 @@ module _ (name l : List ℕ) (n : ℕ) (ds : List (List ℕ)) where
 
   refused-so : (b : Bool) → over (startNotes name l n) ds .notes .missing .refused ≡ b → said.noted l n saids .missing .refused ≡ b
   refused-so b e = sym (ap (λ (x : Lent). x .missing .refused) noted-so) ∙ e
+
+  lists : room ≤ length l → over (startNotes name l n) ds .notes .missing .refused ≡ false → ListsMissing name n ds (rangesIn (lentIn (over (startNotes name l n) ds)))
+  unfolding said.Exactly
+  lists h r = rw noted-so (lists-so name n ds (rangesIn (said.noted l n saids)) (missing-promises .exactly l n saids h (refused-so false r)))
+
+  total : room ≤ length l → n ≤ largestNumber → over (startNotes name l n) ds .notes .missing .refused ≡ false
+      → totalFrom 0 (rangesIn (lentIn (over (startNotes name l n) ds))) ≡ listedBelow (highestOf name n ds) (rangesIn (lentIn (over (startNotes name l n) ds)))
+  unfolding said.TotalIsExact
+  total h k r = rw (noted-so, highest-so name n ds) (missing-promises .total-is-exact l n saids h k (all-numbers name ds) (refused-so false r))
+
+  few : room ≤ length l → over (startNotes name l n) ds .notes .missing .refused ≡ false → length (rangesIn (lentIn (over (startNotes name l n) ds))) ≤ mostRanges
+  few h r = rw noted-so (missing-promises .refuses-too-many .keeps-few l n saids h (refused-so false r))
+
+lists-what-is-missing : ListsWhatIsMissing
+unfolding ListsWhatIsMissing
+lists-what-is-missing = lists
+
+total-is-exact : TotalIsExact
+unfolding TotalIsExact
+total-is-exact = total
+
+-- ---- what is refused
+
+pub stays : (x : LentNotes) (d : List ℕ) → x .notes .missing .refused ≡ true → takeOf x d ≡ x
+stays x d r =
+    by-accepted _ (x .notes .session) d
+    (λ e. taken-yes x d e ∙ ap (notesWith (x .notes .session)) (missing-promises .refuses-too-many .stays (lentIn x) (saidIn d) r))
+    (taken-no x d)
+
+over-more : (x : LentNotes) (ps : List (List ℕ)) (d : List ℕ) → over x (ps ++ (d ∷ [])) ≡ takeOf (over x ps) d
+unfolding over
+over-more x [] d = refl
+over-more x (p ∷ ps) d = over-more (takeOf x p) ps d
+
+session-stays : (x : LentNotes) (ds : List (List ℕ)) → over x ds .notes .session ≡ x .notes .session
+session-stays x ds = ap (λ (y : LentNotes). y .notes .session) (over-so x ds)
+
+never : {A : Type 0} → false ≡ true → A
+never e = let z : _≡_ {A = ℕ} 0 1 = cc in absurd (omega arith)
+
+module _ (name l : List ℕ) (n : ℕ) (h : room ≤ length l) where
+  abbrev after : List (List ℕ) → LentNotes
+  after ds = over (startNotes name l n) ds
+
+  -- a datagram after which it is refused needs more
+  module _ (ps : List (List ℕ)) (d : List ℕ) (r : after ps .notes .missing .refused ≡ false) (q : after (ps ++ (d ∷ [])) .notes .missing .refused ≡ true) where
+    now : takeOf (after ps) d .notes .missing .refused ≡ true
+    now = sym (ap (λ (y : LentNotes). y .notes .missing .refused) (over-more (startNotes name l n) ps d)) ∙ q
+
+    needs : accepted name d ≡ true → NeedsMore name n (ps ++ (d ∷ []))
+    needs e =
+        let f : accepted (after ps .notes .session) d ≡ true = rw (session-stays (startNotes name l n) ps) e in
+        let t : noteOf (lentIn (after ps)) (numberOf d) (nextIn d) .missing .refused ≡ true =
+        sym (ap (λ (y : LentNotes). y .notes .missing .refused) (taken-yes (after ps) d f)) ∙ now in
+        let u : noteOf (said.noted l n (saidsOf name ps)) (numberOf d) (nextIn d) .missing .refused ≡ true =
+        sym (ap (λ (y : Lent). noteOf y (numberOf d) (nextIn d) .missing .refused) (noted-so name l n ps)) ∙ t in
+        let m = missing-promises .refuses-too-many .refuses-many l n (saidsOf name ps) (saidIn d) h (refused-so name l n ps false r) u in
+        record {
+          ranges = m .ranges;
+          lists = lists-so name n (ps ++ (d ∷ [])) (m .ranges) (rw (saids-join name ps d e) (m .lists));
+          many = m .many;
+        }
+
+    cannot : accepted name d ≡ false → NeedsMore name n (ps ++ (d ∷ []))
+    cannot e =
+        let f : accepted (after ps .notes .session) d ≡ false = rw (session-stays (startNotes name l n) ps) e in
+        never (sym r ∙ sym (ap (λ (y : LentNotes). y .notes .missing .refused) (taken-no (after ps) d f)) ∙ now)
+
+    needs-more : NeedsMore name n (ps ++ (d ∷ []))
+    needs-more = by-accepted _ name d needs cannot
+
+  within : (ps ds : List (List ℕ)) → after ps .notes .missing .refused ≡ false → after (ps ++ ds) .notes .missing .refused ≡ true
+      → NeedsMoreWithin name n (ps ++ ds)
+  within ps [] r q = never (sym r ∙ rw (append-nil ps) at q)
+  within ps (d ∷ ds) r q = go (after (ps ++ (d ∷ [])) .notes .missing .refused) refl (within (ps ++ (d ∷ [])) ds)
+    where
+      joined : (ps ++ (d ∷ [])) ++ ds ≡ ps ++ (d ∷ ds)
+      joined = append-assoc ps (d ∷ []) ds
+
+      go : (b : Bool) → after (ps ++ (d ∷ [])) .notes .missing .refused ≡ b
+          → (after (ps ++ (d ∷ [])) .notes .missing .refused ≡ false → after ((ps ++ (d ∷ [])) ++ ds) .notes .missing .refused ≡ true → NeedsMoreWithin name n ((ps ++ (d ∷ [])) ++ ds))
+          → NeedsMoreWithin name n (ps ++ (d ∷ ds))
+      go true e i =
+          record {
+            first = length (ps ++ (d ∷ []));
+            more = rw (← joined, take-at (ps ++ (d ∷ [])) ds (length (ps ++ (d ∷ []))) refl) (needs-more ps d r e);
+          }
+      go false e i = rw joined at (i e (rw joined q))
+
+  at-first : after [] .notes .missing .refused ≡ false
+  unfolding over startIn
+  at-first = let z : length l ≡ 0 → ⊥ = λ (e : length l ≡ 0). omega arith in ne-eqb _ _ z
+
+  refuses-many : (ds : List (List ℕ)) → after ds .notes .missing .refused ≡ true → NeedsMoreWithin name n ds
+  refuses-many ds q = within [] ds at-first q
+
+pub record-promises : RecordPromises
+record-promises =
+    record {
+      lists-what-is-missing = lists-what-is-missing;
+      total-is-exact = total-is-exact;
+      refuses-too-many = record {
+        keeps-few = few;
+        refuses-many = λ name l n ds h q. refuses-many name l n h ds q;
+        stays = stays;
+      };
+    }

@@ -31,15 +31,16 @@ notes name m = record { session = name; missing = m }
 pub start-noted : (name l m : List ℕ) (s : Missing) (n : ℕ) → lent s m ≡ startIn l n → lentNotes (notes name s) m ≡ startNotes name l n
 start-noted name l m s n e = ap (notesWith name) e
 
-module _ (x : Notes) (l m : List ℕ) (ours : Bool) (f e : ℕ) where
-  pub ours-noted : (s : Missing) → ours ≡ true → lent s m ≡ noteOf (lent (x .missing) l) f e
+-- b is what `has_session` answers
+module _ (x : Notes) (l : List ℕ) (ours b : Bool) (f e : ℕ) (p : b ≡ ours) where
+  pub ours-noted : (m : List ℕ) (s : Missing) → b ≡ true → lent s m ≡ noteOf (lent (x .missing) l) f e
       → lentNotes (notes (x .session) s) m ≡ notedIf ours (lentNotes x l) f e
   unfolding notedIf
-  ours-noted s p g = rw p (ap (notesWith (x .session)) g)
+  ours-noted m s q g = rw (← p, q) (ap (notesWith (x .session)) g)
 
-  pub not-ours : ours ≡ false → lentNotes x l ≡ notedIf ours (lentNotes x l) f e
+  pub not-ours : b ≡ false → lentNotes x l ≡ notedIf ours (lentNotes x l) f e
   unfolding notedIf
-  not-ours p = rw p
+  not-ours q = rw (← p, q)
 
 -- ---- by what was read
 

@@ -1,9 +1,9 @@
 -- What is promised of the missing ranges of every list of datagrams.
 use Prim.Native.Nat.{ℕ, _≤_, _<_}
-use mathlib.Core.List.{List, [], _∷_, _++_}
+use mathlib.Core.List.{List, [], _∷_}
 use mathlib.Core.Bool.{Bool, true, false, not, _&&_}
 use mathlib.Core.Path.{_≡_}
-use lib.ListN.{length}
+use lib.ListN.{length, take}
 use lib.Dec.{ltb, leb}
 use Rattle.wire.specs.Choice.{if_then_else_}
 use Rattle.wire.specs.Bounds.{largestNumber}
@@ -58,15 +58,18 @@ pub record NeedsMore (name : List ℕ) (n : ℕ) (ds : List (List ℕ)) : Type 0
   pub lists : ListsMissing name n ds ranges
   pub many : mostRanges < length ranges
 
--- what is kept are never more than that; a datagram is refused where more are needed after it; and what was refused
+-- after the first of them, so many
+pub record NeedsMoreWithin (name : List ℕ) (n : ℕ) (ds : List (List ℕ)) : Type 0 where
+  pub first : ℕ
+  pub more : NeedsMore name n (take first ds)
+
+-- what is kept are never more than that; a list is refused only where more are needed within it; and what was refused
 -- stays so
 pub record RefusesTooMany : Type 0 where
   pub keeps-few : (name l : List ℕ) (n : ℕ) (ds : List (List ℕ)) → room ≤ length l → isRefused name l n ds ≡ false
       → length (rangesAfter name l n ds) ≤ mostRanges
-  pub refuses-many : (name l : List ℕ) (n : ℕ) (ds : List (List ℕ)) (d : List ℕ) → room ≤ length l
-      → isRefused name l n ds ≡ false
-      → takeOf (over (startNotes name l n) ds) d .notes .missing .refused ≡ true
-      → NeedsMore name n (ds ++ (d ∷ []))
+  pub refuses-many : (name l : List ℕ) (n : ℕ) (ds : List (List ℕ)) → room ≤ length l → isRefused name l n ds ≡ true
+      → NeedsMoreWithin name n ds
   pub stays : (x : LentNotes) (d : List ℕ) → x .notes .missing .refused ≡ true → takeOf x d ≡ x
 
 pub record RecordPromises : Type 0 where

@@ -1,17 +1,14 @@
 -- The missing ranges as text: every line ends with a line feed.
-use Prim.Native.Nat.{ℕ, _+_, _*_, _≤_}
-use mathlib.Core.Path.{_≡_}
+use Prim.Native.Nat.{ℕ, _+_, _*_}
 use mathlib.Core.List.{List, [], _∷_, _++_}
 use lib.ListN.{length}
 use lib.Dec.{ltb}
 use Rattle.wire.specs.Choice.{if_then_else_}
 use Rattle.wire.specs.Refusals.{outputShort}
 use Rattle.wire.specs.Text.{ascii}
-use Rattle.wire.specs.Output.{put}
-use Rattle.capture_settings.specs.Statements.{line}
-use Rattle.capture_lines.specs.Lines.{numberLine, sessionLine}
+use Rattle.capture_lines.specs.Lines.{numberLine, sessionLine, refusedLine}
 use Rattle.missing_ranges.specs.Edges.{Range, mostRanges, totalFrom}
-use Rattle.missing_ranges.specs.Notes.{Lent, isUsable, rangesIn, totalIn}
+use Rattle.missing_ranges.specs.Notes.{Lent, isUsable, rangesIn}
 
 abbrev pub fromKey : List ℕ
 fromKey = ascii "from="
@@ -24,9 +21,6 @@ missingKey = ascii "missing="
 
 abbrev pub rangesKey : List ℕ
 rangesKey = ascii "ranges="
-
-abbrev pub refusedWord : List ℕ
-refusedWord = ascii "refused"
 
 -- a range, both numbers missing themselves
 unfoldable pub rangeText : Range → List ℕ
@@ -43,7 +37,7 @@ listText name rs = sessionLine name ++ rangesText rs ++ numberLine missingKey (t
 
 -- more ranges than are kept
 unfoldable pub tooManyText : List ℕ
-tooManyText = line rangesKey refusedWord
+tooManyText = refusedLine rangesKey
 
 -- what is written of the missing ranges: too many, and those that the lent words don't hold, are refused alone
 unfoldable pub missingText : List ℕ → Lent → List ℕ

@@ -20,7 +20,7 @@ pub fn write(out: &mut [u8], name: [u8; SESSION_SIZE], edges: &[u64], missing: M
         return Written::Refused(refusal::OUTPUT_SHORT);
     }
     if !missing.is_usable(edges) {
-        return lines::put_too_many(out);
+        return capture_lines::put_refused(out, b"ranges=");
     }
     lines::put_list(out, name, edges, missing)
 }

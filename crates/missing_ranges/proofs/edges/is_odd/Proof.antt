@@ -3,8 +3,9 @@ use Rattle.missing_ranges.proofs.Rules.{places}
 use Rattle.missing_ranges.proofs.edges.is_odd.Statement.{statement}
 use Rattle.missing_ranges.proofs.edges.is_odd.Tie as tie
 
-returns : tie.Need-returns
-returns c = search places
-
 pub is-odd-spec : {M : Type 1} → statement M
-is-odd-spec = tie.close (tie.spec returns)
+is-odd-spec =
+    tie.close
+    (tie.spec
+    (λ c. search places)  -- returns
+    )

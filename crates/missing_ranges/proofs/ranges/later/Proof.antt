@@ -3,11 +3,10 @@ use Rattle.missing_ranges.proofs.Rules.{smalls}
 use Rattle.missing_ranges.proofs.ranges.later.Statement.{statement}
 use Rattle.missing_ranges.proofs.ranges.later.Tie as tie
 
-returns : tie.Need-returns
-returns c = search smalls
-
-returns-2 : tie.Need-returns-2
-returns-2 c = search smalls
-
 pub later-spec : {M : Type 1} → statement M
-later-spec = tie.close (tie.spec returns returns-2)
+later-spec =
+    tie.close
+    (tie.spec
+    (λ c. search smalls)  -- returns
+    (λ c. search smalls)  -- returns-2
+    )
