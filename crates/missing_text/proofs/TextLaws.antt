@@ -1,15 +1,14 @@
 -- The whole text: its parts laid one after the other, what `write` makes of it, and that any text fits the room.
 use mathlib.Core.Path.{_≡_, refl, ap, sym, _∙_}
-use mathlib.Core.Bool.{Bool, true, false, not, _&&_}
+use mathlib.Core.Bool.{Bool, true, false}
 use mathlib.Core.List.{List, _++_}
 use Prim.Native.Nat.{ℕ, _+_, _*_, _^_, _≤_, _<_}
 use native.Mathlib.Omega.{arith}
 use lib.ListN.{length, take, length-append}
 use lib.Seq.{length-take-le}
-use lib.Dec.{leb}
 use mir.Val.{Fits}
 use mir.Syntax.{w64}
-use borrow.Author.Tests.{lt-ltb, le-ltb, leb-true}
+use borrow.Author.Tests.{lt-ltb, le-ltb}
 use Rattle.wire.specs.Output.{Writes}
 use Rattle.wire.specs.declared.output.Written.{Written}
 use Rattle.wire.specs.declared.output.Written.the-variants.{Wrote, Refused}
@@ -19,33 +18,18 @@ use Rattle.capture_lines.proofs.LineLaws.{number-length, session-length, wrote-
 use Rattle.missing_ranges.specs.declared.ranges.Missing.{Missing}
 use Rattle.missing_ranges.specs.Edges.{mostRanges, rangesOf, totalFrom}
 use Rattle.missing_ranges.specs.Notes.{Lent, lent, isUsable, rangesIn, totalIn}
+use Rattle.missing_ranges.proofs.NoteLaws.{usable-so}
 use Rattle.missing_text.specs.Text.{missingKey, rangesKey, listText, tooManyText, missingText, room, roomGround}
 use Rattle.missing_text.proofs.RangeLaws.{edgesText, text-length}
 
 -- ---- a state that is usable
 
-both : (x y : Bool) → (x && y) ≡ true → (x ≡ true) × (y ≡ true)
-both true y e = (refl, e)
-both false y e = let z : _≡_ {A = ℕ} 0 1 = cc in absurd (omega arith)
-
--- the words hold its edges
-record Usable (s : Missing) (es : List ℕ) : Type 0 where
-  few : s .closed ≤ mostRanges
-  there : s .closed + s .closed + 1 ≤ length es
-
-usable-so : (s : Missing) (es : List ℕ) → isUsable (lent s es) ≡ true → Usable s es
-unfolding isUsable
-usable-so s es h =
-    let p = both (not (s .refused) && leb (s .closed) mostRanges) (leb (s .closed + s .closed + 1) (length es)) h in
-    let q = both (not (s .refused)) (leb (s .closed) mostRanges) (p .0) in
-    record { few = leb-true _ _ (q .1); there = leb-true _ _ (p .1) }
-
 module _ (s : Missing) (es : List ℕ) (u : isUsable (lent s es) ≡ true) where
   pub edges-few : s .closed ≤ mostRanges
-  edges-few = usable-so s es u .few
+  edges-few = usable-so (lent s es) u .few
 
   pub edges-there : s .closed + s .closed + 1 ≤ length es
-  edges-there = usable-so s es u .there
+  edges-there = usable-so (lent s es) u .there
 
   pub edges-double : Fits w64 (s .closed + s .closed)
   edges-double = record { fits = omega (arith, edges-few) }
