@@ -14,6 +14,8 @@ use wire::kinds::SequenceNumber;
 use wire::output::Written;
 use wire::refusal;
 ghost use mathlib.Core.Path.{_≡_};
+ghost use lib.ListN.{drop};
+ghost use Rattle.wire.specs.Bounds.{lengthSize};
 ghost use Rattle.wire.specs.Output.{Writes};
 ghost use Rattle.capture_events.specs.Events.{fold, isOverAt, readOn};
 ghost use Rattle.capture_events.specs.Next.{atOf, eventsIn};
@@ -155,10 +157,10 @@ impl Reading {
         let name = notes.session;
         let missing = notes.missing;
         match place {
-            Place::Settings => capture_lines::put_settings_refused(out),
+            Place::Settings => capture_lines::put_refused(out, b"settings="),
             Place::Records { left: _ } => missing_text::write(out, name, edges, missing),
             Place::Done => missing_text::write(out, name, edges, missing),
-            Place::Refused => capture_lines::put_settings_refused(out),
+            Place::Refused => capture_lines::put_refused(out, b"settings="),
         }
     }
 }

@@ -1,0 +1,3 @@
+use borrow.Author.Needs.{needs}
+
+pub ruleset laws = (needs)
