@@ -30,7 +30,8 @@ odd-code (suc (suc n)) = odd-two n ∙ odd-code n ∙ sym (not-not (isOdd n))
 -- ---- the edges between two places
 
 pub set-put : (l : List ℕ) (k x : ℕ) → k < length l → set l k x ≡ put l k (x ∷ [])
-set-put l k x h = let f : k + length (x ∷ []) ≤ length l = omega arith in sets-eq (x ∷ []) l k f ∙ sym (put-room l k (x ∷ []) f)
+set-put l k x h =
+    let f : k + length (x ∷ []) ≤ length l = omega arith in sets-eq (x ∷ []) l k f ∙ sym (put-room l k (x ∷ []) f)
 
 module _ (i j f e : ℕ) where
   pub middle-both : isOdd i ≡ true → isOdd j ≡ true → middle i j f e ≡ f ∷ e ∷ []
@@ -62,7 +63,8 @@ module _ (i j f e : ℕ) where
       after-second x y = rw (middle-second (sym p ∙ x) (sym q ∙ y))
 
       pub after-none : a ≡ false → b ≡ false → i ≡ i + length (middle i j f e)
-      after-none x y = let k : length (middle i j f e) ≡ 0 = ap length (middle-none (sym p ∙ x) (sym q ∙ y)) in omega arith
+      after-none x y = let k : length (middle i j f e)
+          ≡ 0 = ap length (middle-none (sym p ∙ x) (sym q ∙ y)) in omega arith
 
     module _ (l : List ℕ) (room : i + length (middle i j f e) ≤ length l) where
       pub room-first : a ≡ true → i < length l
@@ -74,7 +76,10 @@ module _ (i j f e : ℕ) where
 
       module _ (b : Bool) (q : b ≡ isOdd j) where
         pub room-next : a ≡ true → b ≡ true → i + 1 < length (set l i f)
-        room-next x y = let h : i + 2 ≤ length l = rw (middle-both (sym p ∙ x) (sym q ∙ y)) at room in let n = length-set l i f in omega arith
+        room-next x y =
+            let h : i + 2 ≤ length l = rw (middle-both (sym p ∙ x) (sym q ∙ y)) at room in
+            let n = length-set l i f in
+            omega arith
 
         pub room-second : a ≡ false → b ≡ true → i < length l
         room-second x y = let h : i + 1 ≤ length l = rw (middle-second (sym p ∙ x) (sym q ∙ y)) at room in omega arith

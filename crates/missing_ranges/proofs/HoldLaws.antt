@@ -22,7 +22,8 @@ use Rattle.missing_ranges.proofs.MeaningLaws.{edgesOver, allEdges, allR
 -- ---- edges laid at the front of lent words
 
 -- edges of an odd number are what the words then hold
-laid : (l bs : List ℕ) → length bs ≤ length l → length bs % 2 ≡ 1 → take (length bs / 2 + length bs / 2 + 1) (put l 0 bs) ≡ bs
+laid : (l bs : List ℕ) → length bs ≤ length l → length bs % 2 ≡ 1
+    → take (length bs / 2 + length bs / 2 + 1) (put l 0 bs) ≡ bs
 laid l bs h o =
     let e : length bs / 2 + length bs / 2 + 1 ≡ length bs = omega arith in
     rw (e, put-room l 0 bs (omega arith)) (take-at bs (drop (0 + length bs) l) (length bs) refl)
@@ -80,7 +81,8 @@ after-odd x f e u = below-or-not _ f e some none
         rw (w, z .long) (z .odd)
 
     none : e ≤ f → length (edgesAfter x f e) % 2 ≡ 1
-    none g = let z = shape-same (x .edges) (x .missing .closed) (u .there) in rw (without-none f e (edgesIn x) g, z .long) (z .odd)
+    none g =
+        let z = shape-same (x .edges) (x .missing .closed) (u .there) in rw (without-none f e (edgesIn x) g, z .long) (z .odd)
 
 -- half of the edges are ranges
 half-ranges : (top : ℕ) (bs : List ℕ) → length bs % 2 ≡ 1 → length bs / 2 ≤ length (rangesOf top bs)
@@ -94,13 +96,15 @@ room-is : (n top : ℕ) (bs : List ℕ) → room ≤ n → length bs % 2 ≡ 1
     → leb (length bs) n && leb (length (rangesOf top bs)) mostRanges ≡ leb (length (rangesOf top bs)) mostRanges
 room-is n top bs h o = below-or-not _ n (length bs) beyond within
   where
-    beyond : n < length bs → leb (length bs) n && leb (length (rangesOf top bs)) mostRanges ≡ leb (length (rangesOf top bs)) mostRanges
+    beyond : n < length bs
+        → leb (length bs) n && leb (length (rangesOf top bs)) mostRanges ≡ leb (length (rangesOf top bs)) mostRanges
     beyond g =
         let k = half-ranges top bs o in
         let z : mostRanges < length (rangesOf top bs) = omega arith in
         rw (lt-leb _ _ g, lt-leb _ _ z)
 
-    within : length bs ≤ n → leb (length bs) n && leb (length (rangesOf top bs)) mostRanges ≡ leb (length (rangesOf top bs)) mostRanges
+    within : length bs ≤ n
+        → leb (length bs) n && leb (length (rangesOf top bs)) mostRanges ≡ leb (length (rangesOf top bs)) mostRanges
     within g = rw (le-leb _ _ g)
 
 module _ (x : Lent) (bs : List ℕ) (top : ℕ) (h : Holding x bs top) (f e : ℕ) where
@@ -112,7 +116,8 @@ module _ (x : Lent) (bs : List ℕ) (top : ℕ) (h : Holding x bs top) (f e : �
 
   kept-is : isKept x f e ≡ leb (length (rangesOf (later top e) (without f e bs))) mostRanges
   unfolding isKept
-  kept-is = rw (h .usable, after-is, h .top-is) (room-is (length (x .edges)) (later top e) (without f e bs) (h .enough) odd-then)
+  kept-is =
+      rw (h .usable, after-is, h .top-is) (room-is (length (x .edges)) (later top e) (without f e bs) (h .enough) odd-then)
 
   -- what is kept
   yes-is : isKept x f e ≡ true
@@ -178,7 +183,8 @@ stays-over x (d ∷ ds) h = ap (λ (y : Lent). over y ds) (stays x d h) ∙ stay
 
 -- ---- one after the other
 
-pub over-holds : (ds : List Said) (x : Lent) (bs : List ℕ) (top : ℕ) → Holding x bs top → over x ds .missing .refused ≡ false
+pub over-holds : (ds : List Said) (x : Lent) (bs : List ℕ) (top : ℕ) → Holding x bs top
+    → over x ds .missing .refused ≡ false
     → Holding (over x ds) (edgesOver bs ds) (highestOf top ds)
 unfolding over edgesOver highestOf
 over-holds [] x bs top h r = h
@@ -212,7 +218,8 @@ exactly l n ds h r = rw (noted-ranges l n ds h r) (lists-all n ds)
 
 -- ---- one more
 
-edges-more : (bs : List ℕ) (ds : List Said) (d : Said) → edgesOver bs (ds ++ (d ∷ [])) ≡ without (d .first) (d .next) (edgesOver bs ds)
+edges-more : (bs : List ℕ) (ds : List Said) (d : Said)
+    → edgesOver bs (ds ++ (d ∷ [])) ≡ without (d .first) (d .next) (edgesOver bs ds)
 unfolding edgesOver
 edges-more bs [] d = refl
 edges-more bs (c ∷ ds) d = edges-more (without (c .first) (c .next) bs) ds d
@@ -226,7 +233,8 @@ keeps-few : (l : List ℕ) (n : ℕ) (ds : List Said) → room ≤ length l → 
     → length (rangesIn (noted l n ds)) ≤ mostRanges
 keeps-few l n ds h r = rw (noted-ranges l n ds h r) (noted-holds l n ds h r .few)
 
-refuses-many : (l : List ℕ) (n : ℕ) (ds : List Said) (d : Said) → room ≤ length l → noted l n ds .missing .refused ≡ false
+refuses-many : (l : List ℕ) (n : ℕ) (ds : List Said) (d : Said) → room ≤ length l
+    → noted l n ds .missing .refused ≡ false
     → noteOf (noted l n ds) (d .first) (d .next) .missing .refused ≡ true → NeedsMore n (ds ++ (d ∷ []))
 refuses-many l n ds d h r q =
     record {

@@ -12,7 +12,7 @@ use mir.Val.{Fits}
 use borrow.Author.Tests.{lt-ltb, le-ltb, ltb-true, ne-eqb, not-true, not-false}
 use Rattle.wire.specs.Bounds.{upTo}
 use Rattle.wire.proofs.Numbers.{part-to-end}
-use Rattle.missing_ranges.specs.Edges.{Range, range, rangesOf, totalFrom}
+use Rattle.missing_ranges.specs.Edges.{Range, range, rangesOf, totalFrom, mostRanges}
 use Rattle.missing_ranges.specs.declared.ranges.Missing.{Missing}
 use Rattle.missing_ranges.specs.declared.listing.Listed.{Listed}
 use Rattle.missing_ranges.specs.Notes.{lent, isUsable, rangesIn, totalIn, rangeAt}
@@ -77,7 +77,8 @@ module _ (s : Missing) (l : List ℕ) where
   unfolding rangesIn
   ranges-none h = rw h
 
-  ranges-are : isUsable (lent s l) ≡ true → rangesIn (lent s l) ≡ rangesOf (s .highest .0) (take (s .closed + s .closed + 1) l)
+  ranges-are : isUsable (lent s l) ≡ true
+      → rangesIn (lent s l) ≡ rangesOf (s .highest .0) (take (s .closed + s .closed + 1) l)
   unfolding rangesIn
   ranges-are h = rw h
 
@@ -128,7 +129,8 @@ module _ (s : Missing) (l : List ℕ) where
       unfolding one
       list-shut h = sym (count-are usable ∙ rw (le-ltb _ _ h) (omega arith))
 
-      pub sum-all : (r : ℕ) → r ≡ totalFrom 0 (rangesOf (s .highest .0) (take (s .closed + s .closed + 1) l)) → r ≡ totalIn (lent s l)
+      pub sum-all : (r : ℕ) → r ≡ totalFrom 0 (rangesOf (s .highest .0) (take (s .closed + s .closed + 1) l))
+          → r ≡ totalIn (lent s l)
       sum-all r h = h ∙ rw (ranges-are usable)
 
 -- ---- the range at a place
@@ -139,6 +141,10 @@ at-next p r rs =
     let z : suc p ≡ 0 → ⊥ = λ e. absurd (omega arith) in
     let q : suc p - 1 ≡ p = omega arith in
     rw (ne-eqb _ _ z, q)
+
+at-first : (r : Range) (rs : List Range) → r ∷ rs ≡ rangeAt 0 (r ∷ rs) ∷ rs
+unfolding rangeAt
+at-first r rs = refl
 
 at-none : (p : ℕ) (rs : List Range) → length rs ≤ p → rangeAt p rs ≡ range 0 0
 unfolding rangeAt
@@ -205,7 +211,10 @@ module _ (s : Missing) (l : List ℕ) (n place : ℕ) (en : n ≡ length (ranges
         go false p = let z : length (rangesIn (lent s l)) ≡ 0 = ap length (ranges-none s l p) in absurd (omega arith)
 
     place-most : place ≤ s .closed
-    place-most = let c = count-are s l is-usable in let o = one-most (ltb (getD l (s .closed + s .closed) 0) (s .highest .0)) in omega arith
+    place-most =
+        let c = count-are s l is-usable in
+        let o = one-most (ltb (getD l (s .closed + s .closed) 0) (s .highest .0)) in
+        omega arith
 
     pub range-twice : Fits w64 (place + place)
     range-twice = let u = usable-so (lent s l) is-usable .few in let p = place-most in record { fits = omega arith }
@@ -229,7 +238,8 @@ module _ (s : Missing) (l : List ℕ) (n place : ℕ) (en : n ≡ length (ranges
         let top = s .highest .0 in
         let u = usable-so (lent s l) is-usable .there in
         let len : length (take (k + k + 1) l) ≡ k + k + 1 = length-take-le (k + k + 1) l u in
-        let e : rangeAt place (rangesIn (lent s l)) ≡ range (getD l (place + place) 0) (getD l (place + place + 1) 0 - 1) =
+        let e : rangeAt place (rangesIn (lent s l))
+        ≡ range (getD l (place + place) 0) (getD l (place + place + 1) 0 - 1) =
         ap (rangeAt place) (ranges-are s l is-usable)
         ∙ at-closed top (take (k + k + 1) l) place (place + place) refl (omega arith)
         ∙ rw (getD-take (k + k + 1) l (place + place) 0 (omega arith), getD-take (k + k + 1) l (place + place + 1) 0 (omega arith)) in
@@ -250,3 +260,25 @@ module _ (s : Missing) (l : List ℕ) (n place : ℕ) (en : n ≡ length (ranges
         (rw (getD-take (k + k + 1) l (place + place) 0 (omega arith)) (rw q o))
         ∙ rw (getD-take (k + k + 1) l (place + place) 0 (omega arith)) in
         record { there = there; first = sym (ap (λ (r : Range). r .from) e); last = et ∙ sym (ap (λ (r : Range). r .to) e) }
+
+-- ---- for those who read them all out
+
+-- words that a caller made up may hold one range more than are kept
+pub ranges-few : (s : Missing) (l : List ℕ) → length (rangesIn (lent s l)) ≤ mostRanges + 1
+ranges-few s l = go (isUsable (lent s l)) refl
+  where
+    go : (b : Bool) → isUsable (lent s l) ≡ b → length (rangesIn (lent s l)) ≤ mostRanges + 1
+    go true p =
+        let c = count-are s l p in
+        let o = one-most (ltb (getD l (s .closed + s .closed) 0) (s .highest .0)) in
+        let u = usable-so (lent s l) p .few in
+        omega arith
+    go false p = let z : length (rangesIn (lent s l)) ≡ 0 = ap length (ranges-none s l p) in omega arith
+
+-- from a place on there are the range at it and those from the next
+pub ranges-from : (rs : List Range) (p : ℕ) → p < length rs → drop p rs ≡ rangeAt p rs ∷ drop (p + 1) rs
+ranges-from [] p h = absurd (omega arith)
+ranges-from (r ∷ rs) zero h = at-first r rs
+ranges-from (r ∷ rs) (suc p) h =
+    let k : suc p + 1 ≡ suc (p + 1) = omega arith in
+    rw (k, at-next p r rs) (ranges-from rs p (omega arith))

@@ -16,17 +16,23 @@ use Rattle.missing_ranges.proofs.SetLaws.{isMissing, Up, Below, from-le
 -- ---- numbers taken out
 
 module _ (f e : ℕ) (bs : List ℕ) (u : Up 0 bs) (x : ℕ) where
-  taken : f < e → isMissing x (replaced (startPlace f e bs) (endPlace e bs) f e bs) ≡ isMissing x bs && not (leb f x && ltb x e)
+  taken : f < e → isMissing x (replaced (startPlace f e bs) (endPlace e bs) f e bs)
+      ≡ isMissing x bs && not (leb f x && ltb x e)
   taken h = below-or-not _ x f left (λ g. below-or-not _ x e (inside g) right)
     where
-      left : x < f → isMissing x (replaced (startPlace f e bs) (endPlace e bs) f e bs) ≡ isMissing x bs && not (leb f x && ltb x e)
+      left : x < f → isMissing x (replaced (startPlace f e bs) (endPlace e bs) f e bs)
+          ≡ isMissing x bs && not (leb f x && ltb x e)
       left g = out-before f e h bs u x g ∙ rw (lt-leb _ _ g) (sym (and-true (isMissing x bs)))
 
-      inside : f ≤ x → x < e → isMissing x (replaced (startPlace f e bs) (endPlace e bs) f e bs) ≡ isMissing x bs && not (leb f x && ltb x e)
+      inside : f ≤ x → x < e
+          → isMissing x (replaced (startPlace f e bs) (endPlace e bs) f e bs)
+          ≡ isMissing x bs && not (leb f x && ltb x e)
       inside g k = out-inside f e h bs u x g k ∙ rw (le-leb _ _ g, lt-ltb _ _ k) (sym (and-false (isMissing x bs)))
 
-      right : e ≤ x → isMissing x (replaced (startPlace f e bs) (endPlace e bs) f e bs) ≡ isMissing x bs && not (leb f x && ltb x e)
-      right k = let g : f ≤ x = omega arith in out-after f e h bs u x k ∙ rw (le-leb _ _ g, le-ltb _ _ k) (sym (and-true (isMissing x bs)))
+      right : e ≤ x → isMissing x (replaced (startPlace f e bs) (endPlace e bs) f e bs)
+          ≡ isMissing x bs && not (leb f x && ltb x e)
+      right k =
+          let g : f ≤ x = omega arith in out-after f e h bs u x k ∙ rw (le-leb _ _ g, le-ltb _ _ k) (sym (and-true (isMissing x bs)))
 
   nothing : e ≤ f → isMissing x bs ≡ isMissing x bs && not (leb f x && ltb x e)
   nothing h = below-or-not _ x f (λ g. rw (lt-leb _ _ g) (sym (and-true (isMissing x bs)))) right
@@ -38,7 +44,9 @@ module _ (f e : ℕ) (bs : List ℕ) (u : Up 0 bs) (x : ℕ) where
   unfolding without
   without-means = go (ltb f e) refl
     where
-      go : (t : Bool) → ltb f e ≡ t → isMissing x (if t then replaced (startPlace f e bs) (endPlace e bs) f e bs else bs) ≡ isMissing x bs && not (leb f x && ltb x e)
+      go : (t : Bool) → ltb f e ≡ t
+          → isMissing x (if t then replaced (startPlace f e bs) (endPlace e bs) f e bs else bs)
+          ≡ isMissing x bs && not (leb f x && ltb x e)
       go true p = taken (ltb-true _ _ p)
       go false p = nothing (ltb-false _ _ p)
 
@@ -67,20 +75,24 @@ pub good-step : (f e top : ℕ) (bs : List ℕ) → Good bs top → Good (withou
 unfolding without
 good-step f e top bs g = go (ltb f e) refl
   where
-    go : (t : Bool) → ltb f e ≡ t → Good (if t then replaced (startPlace f e bs) (endPlace e bs) f e bs else bs) (later top e)
+    go : (t : Bool) → ltb f e ≡ t
+        → Good (if t then replaced (startPlace f e bs) (endPlace e bs) f e bs else bs) (later top e)
     go true p =
         let h = ltb-true f e p in
         let a = later-left top e in
         let b = later-right top e in
         record {
           up = up-out f e h bs (g .up);
-          below = below-out f e h bs (g .up) (later top e + 1) (omega arith) (below-more (top + 1) (later top e + 1) bs (omega arith) (g .below));
+          below =
+              below-out f e h bs (g .up) (later top e + 1) (omega arith) (below-more (top + 1) (later top e + 1) bs (omega arith) (g .below));
         }
-    go false p = let a = later-left top e in record { up = g .up; below = below-more (top + 1) (later top e + 1) bs (omega arith) (g .below) }
+    go false p =
+        let a = later-left top e in record { up = g .up; below = below-more (top + 1) (later top e + 1) bs (omega arith) (g .below) }
 
 -- ---- the ranges that edges bound
 
-last-listed : (a top x : ℕ) → a ≤ top → isListed x (if ltb a top then range a (top - 1) ∷ [] else []) ≡ (leb a x && not false) && ltb x top
+last-listed : (a top x : ℕ) → a ≤ top
+    → isListed x (if ltb a top then range a (top - 1) ∷ [] else []) ≡ (leb a x && not false) && ltb x top
 unfolding isListed
 last-listed a top x h = below-or-not _ a top some none
   where
@@ -104,8 +116,12 @@ both-listed a c top x m r h g z e = below-or-not _ x a left (λ k. below-or-not 
     left : x < a → if leb a x && leb x (c - 1) then true else r ≡ (leb a x && not (leb c x && not m)) && ltb x top
     left k = let q : m ≡ false = z (omega arith) in rw (lt-leb _ _ k, e, q)
 
-    inside : a ≤ x → x < c → if leb a x && leb x (c - 1) then true else r ≡ (leb a x && not (leb c x && not m)) && ltb x top
-    inside k n = let q : x ≤ c - 1 = omega arith in let y : x < top = omega arith in rw (le-leb _ _ k, le-leb _ _ q, lt-leb _ _ n, lt-ltb _ _ y)
+    inside : a ≤ x → x < c
+        → if leb a x && leb x (c - 1) then true else r ≡ (leb a x && not (leb c x && not m)) && ltb x top
+    inside k n =
+        let q : x ≤ c - 1 = omega arith in
+        let y : x < top = omega arith in
+        rw (le-leb _ _ k, le-leb _ _ q, lt-leb _ _ n, lt-ltb _ _ y)
 
     right : c ≤ x → if leb a x && leb x (c - 1) then true else r ≡ (leb a x && not (leb c x && not m)) && ltb x top
     right k =
@@ -113,7 +129,8 @@ both-listed a c top x m r h g z e = below-or-not _ x a left (λ k. below-or-not 
         let y : a ≤ x = omega arith in
         rw (le-leb _ _ y, lt-leb _ _ q, le-leb _ _ k, Bool·not-not m) e
 
-pub listed-means : (low top : ℕ) (bs : List ℕ) → Up low bs → Below (top + 1) bs → (x : ℕ) → isListed x (rangesOf top bs) ≡ isMissing x bs && ltb x top
+pub listed-means : (low top : ℕ) (bs : List ℕ) → Up low bs → Below (top + 1) bs → (x : ℕ)
+    → isListed x (rangesOf top bs) ≡ isMissing x bs && ltb x top
 unfolding isListed rangesOf isMissing Up Below
 listed-means low top [] u b x = refl
 listed-means low top (a ∷ []) u b x = let h = b .0 in last-listed a top x (omega arith)
@@ -161,7 +178,8 @@ folded (d ∷ ds) bs top g =
       means = λ x. r .means x ∙ rw (without-means (d .first) (d .next) bs (g .up) x) (joined x (carries x d));
     }
   where
-    joined : (x : ℕ) (a : Bool) → (isMissing x bs && not a) && not (isCarried x ds) ≡ isMissing x bs && not (if a then true else isCarried x ds)
+    joined : (x : ℕ) (a : Bool)
+        → (isMissing x bs && not a) && not (isCarried x ds) ≡ isMissing x bs && not (if a then true else isCarried x ds)
     joined x true = rw (and-false (isMissing x bs))
     joined x false = rw (and-true (isMissing x bs))
 

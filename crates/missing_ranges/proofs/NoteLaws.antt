@@ -46,7 +46,8 @@ pub record Usable (x : Lent) : Type 0 where
 
 pub usable-so : (x : Lent) → isUsable x ≡ true → Usable x
 unfolding isUsable
-usable-so x = go (x .missing .refused) (leb (x .missing .closed) mostRanges) (leb (x .missing .closed + x .missing .closed + 1) (length (x .edges))) refl refl refl
+usable-so x =
+    go (x .missing .refused) (leb (x .missing .closed) mostRanges) (leb (x .missing .closed + x .missing .closed + 1) (length (x .edges))) refl refl refl
   where
     go : (r a b : Bool) → x .missing .refused ≡ r → leb (x .missing .closed) mostRanges ≡ a
         → leb (x .missing .closed + x .missing .closed + 1) (length (x .edges)) ≡ b → not r && a && b ≡ true → Usable x
@@ -96,7 +97,8 @@ start-room l h = omega arith
 -- ---- the answer
 
 module _ (s : Missing) (l : List ℕ) (f e : ℕ) where
-  no-answer : (r : Missing) → r ≡ missing true (s .closed) (s .highest .0) → isKept (lent s l) f e ≡ false → lent r l ≡ noteOf (lent s l) f e
+  no-answer : (r : Missing) → r ≡ missing true (s .closed) (s .highest .0) → isKept (lent s l) f e ≡ false
+      → lent r l ≡ noteOf (lent s l) f e
   unfolding noteOf
   no-answer r er x = rw (x, er)
 
@@ -110,7 +112,8 @@ module _ (s : Missing) (l : List ℕ) (f e : ℕ) where
   unfolding isKept
   kept-no h = rw h
 
-  pub note-not : (u : Bool) → u ≡ isUsable (lent s l) → not u ≡ true → (r : Missing) → r ≡ missing true (s .closed) (s .highest .0)
+  pub note-not : (u : Bool) → u ≡ isUsable (lent s l) → not u ≡ true → (r : Missing)
+      → r ≡ missing true (s .closed) (s .highest .0)
       → lent r l ≡ noteOf (lent s l) f e
   note-not u p q r er = no-answer r er (kept-no (sym p ∙ not-true u q))
 
@@ -118,7 +121,8 @@ module _ (s : Missing) (l : List ℕ) (f e : ℕ) where
     module _ (size last : ℕ) (shape : Shape (edgesAfter (lent s l) f e) size last) where
       kept-room : length l < size → isKept (lent s l) f e ≡ false
       unfolding isKept
-      kept-room x = let y : length l < length (edgesAfter (lent s l) f e) = omega (arith, shape .long) in rw (h, lt-leb _ _ y)
+      kept-room x =
+          let y : length l < length (edgesAfter (lent s l) f e) = omega (arith, shape .long) in rw (h, lt-leb _ _ y)
 
       ranges-are : length (rangesOf (topAfter (lent s l) e) (edgesAfter (lent s l) f e)) ≡ size / 2 + one (ltb last t)
       ranges-are = shape-count (topAfter (lent s l) e) (edgesAfter (lent s l) f e) size last shape ∙ rw et
@@ -162,13 +166,15 @@ module _ (s : Missing) (l : List ℕ) (f e : ℕ) where
           let n = s .closed + s .closed + 1 in
           let len : length (take n l) ≡ n = length-take-le n l g in
           let there = g in
-          let same : put l 0 (take n l) ≡ l = put-room l 0 (take n l) (omega arith) ∙ rw (len, zero-add n) (take-append-drop n l) in
+          let same : put l 0 (take n l)
+          ≡ l = put-room l 0 (take n l) (omega arith) ∙ rw (len, zero-add n) (take-append-drop n l) in
           yes-answer (s .closed) t l (kept-all _ _ same-shape g (rw half z)) (rw (same-edges, len) (sym half)) et (rw same-edges (sym same))
 
   -- u is what `is_usable` answers, b what `too_many`
   module _ (u : Bool) (p : u ≡ isUsable (lent s l)) (q : not u ≡ false) (t : ℕ) (et : t ≡ topAfter (lent s l) e) (none : e ≤ f)
       (b : Bool) (eb : b ≡ tooMany (s .closed) (getD l (s .closed + s .closed + 1 - 1) 0) t) where
-    pub none-many : b ≡ true → (r : Missing) → r ≡ missing true (s .closed) (s .highest .0) → lent r l ≡ noteOf (lent s l) f e
+    pub none-many : b ≡ true → (r : Missing) → r ≡ missing true (s .closed) (s .highest .0)
+        → lent r l ≡ noteOf (lent s l) f e
     none-many z r er = none-full (is-usable s l u p q) t et none r er (sym eb ∙ z)
 
     pub none-kept : b ≡ false → lent (missing false (s .closed) t) l ≡ noteOf (lent s l) f e
@@ -200,14 +206,16 @@ module _ (s : Missing) (l : List ℕ) (f e t : ℕ) (ready : Ready (lent s l) f 
     first-fits = let w = place-le f l (p .j) in omega (arith, plans .first)
 
     cut-edges : edgesAfter (lent s l) f e ≡ replaced (p .i) (p .j) f e (take (s .closed + s .closed + 1) l)
-    cut-edges = without-as f e l (s .closed + s .closed + 1) (p .i) (p .j) ready-there (ready .carried) (plans .second) (plans .first)
+    cut-edges =
+        without-as f e l (s .closed + s .closed + 1) (p .i) (p .j) ready-there (ready .carried) (plans .second) (plans .first)
 
     shape : Shape (edgesAfter (lent s l) f e) (p .size) (p .last)
     shape =
         rw (plans .many, plans .last-is, cut-edges)
         (shape-replaced l (s .closed) (s .closed + s .closed + 1) (p .i) (p .j) f e refl ready-there first-fits place-fits)
 
-    pub cut-room : length l < p .size → (r : Missing) → r ≡ missing true (s .closed) (s .highest .0) → lent r l ≡ noteOf (lent s l) f e
+    pub cut-room : length l < p .size → (r : Missing) → r ≡ missing true (s .closed) (s .highest .0)
+        → lent r l ≡ noteOf (lent s l) f e
     cut-room x r er = no-answer s l f e r er (kept-room s l f e (ready .usable) t (ready .highest-is) _ _ shape x)
 
     pub cut-fitting : p .size ≤ length l → Fitting l (s .closed + s .closed + 1) (p .i) (p .j) f e
@@ -220,10 +228,13 @@ module _ (s : Missing) (l : List ℕ) (f e t : ℕ) (ready : Ready (lent s l) f 
         }
 
     module _ (x : p .size ≤ length l) (b : Bool) (eb : b ≡ tooMany (p .size / 2) (p .last) t) where
-      pub cut-many : b ≡ true → (r : Missing) → r ≡ missing true (s .closed) (s .highest .0) → lent r l ≡ noteOf (lent s l) f e
-      cut-many z r er = no-answer s l f e r er (kept-full s l f e (ready .usable) t (ready .highest-is) _ _ shape x (sym eb ∙ z))
+      pub cut-many : b ≡ true → (r : Missing) → r ≡ missing true (s .closed) (s .highest .0)
+          → lent r l ≡ noteOf (lent s l) f e
+      cut-many z r er =
+          no-answer s l f e r er (kept-full s l f e (ready .usable) t (ready .highest-is) _ _ shape x (sym eb ∙ z))
 
-      pub cut-kept : b ≡ false → (out : List ℕ) → out ≡ put l 0 (replaced (p .i) (p .j) f e (take (s .closed + s .closed + 1) l))
+      pub cut-kept : b ≡ false → (out : List ℕ)
+          → out ≡ put l 0 (replaced (p .i) (p .j) f e (take (s .closed + s .closed + 1) l))
           → lent (missing false (p .size / 2) t) out ≡ noteOf (lent s l) f e
       cut-kept z out eo =
           yes-answer s l f e _ t out (kept-all s l f e (ready .usable) t (ready .highest-is) _ _ shape x (sym eb ∙ z)) (rw (shape .long))

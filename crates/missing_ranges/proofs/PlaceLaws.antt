@@ -59,7 +59,8 @@ pub record Halving (e : ℕ) (l : List ℕ) (n lo hi : ℕ) : Type 0 where
 
 pub halving-start : (e : ℕ) (l : List ℕ) (n : ℕ) → Halving e l n 0 n
 unfolding placePast
-halving-start e l n = record { rising = omega arith; within = omega arith; same = fuel (n - 0) n e l 0 n (omega arith) (omega arith) }
+halving-start e l n =
+    record { rising = omega arith; within = omega arith; same = fuel (n - 0) n e l 0 n (omega arith) (omega arith) }
 
 pub middle-below : (lo hi : ℕ) → lo < hi → lo + (hi - lo) / 2 < hi
 middle-below lo hi h = omega arith

@@ -47,5 +47,6 @@ missing-promises =
       total-is-exact = total-is-exact;
       refuses-too-many = refuses-too-many;
       not-vacuous = not-vacuous;
-      not-weak = record { lists-nothing = nothing-listed; ranges-touch = ranges-touch; forgets-a-half = forgets-a-half };
+      not-weak =
+          record { lists-nothing = nothing-listed; ranges-touch = ranges-touch; forgets-a-half = forgets-a-half };
     }

@@ -25,10 +25,26 @@ pub middle-size : (i j f e : ℕ) → length (middle i j f e) ≡ i % 2 + j % 2
 middle-size i j f e = go (isOdd i) (isOdd j) refl refl
   where
     go : (a b : Bool) → isOdd i ≡ a → isOdd j ≡ b → length (middle i j f e) ≡ i % 2 + j % 2
-    go true true p q = let h = odd-mod i p in let k = odd-mod j q in let m : length (middle i j f e) ≡ 2 = ap length (middle-both i j f e p q) in omega arith
-    go true false p q = let h = odd-mod i p in let k = even-mod j q in let m : length (middle i j f e) ≡ 1 = ap length (middle-first i j f e p q) in omega arith
-    go false true p q = let h = even-mod i p in let k = odd-mod j q in let m : length (middle i j f e) ≡ 1 = ap length (middle-second i j f e p q) in omega arith
-    go false false p q = let h = even-mod i p in let k = even-mod j q in let m : length (middle i j f e) ≡ 0 = ap length (middle-none i j f e p q) in omega arith
+    go true true p q =
+        let h = odd-mod i p in
+        let k = odd-mod j q in
+        let m : length (middle i j f e) ≡ 2 = ap length (middle-both i j f e p q) in
+        omega arith
+    go true false p q =
+        let h = odd-mod i p in
+        let k = even-mod j q in
+        let m : length (middle i j f e) ≡ 1 = ap length (middle-first i j f e p q) in
+        omega arith
+    go false true p q =
+        let h = even-mod i p in
+        let k = odd-mod j q in
+        let m : length (middle i j f e) ≡ 1 = ap length (middle-second i j f e p q) in
+        omega arith
+    go false false p q =
+        let h = even-mod i p in
+        let k = even-mod j q in
+        let m : length (middle i j f e) ≡ 0 = ap length (middle-none i j f e p q) in
+        omega arith
 
 -- ---- lists
 
@@ -72,7 +88,8 @@ module _ (l : List ℕ) (n i j f e : ℕ) (fit : Fitting l n i j f e) where
       let assoc : take i l ++ (M ++ B) ≡ take i l ++ M ++ B = sym (append-assoc (take i l) M B) in
       rw (e₁, e₂, p₁, p₂, k, assoc)
 
-  pub up-end : (m out : List ℕ) (a : Bool) → i ≡ j → a ≡ isOdd i → a ≡ true → m ≡ put l (i + 2) (take (n - j) (drop j l)) → out ≡ put m i (middle i j f e)
+  pub up-end : (m out : List ℕ) (a : Bool) → i ≡ j → a ≡ isOdd i → a ≡ true
+      → m ≡ put l (i + 2) (take (n - j) (drop j l)) → out ≡ put m i (middle i j f e)
       → out ≡ put l 0 (replaced i j f e (take n l))
   up-end m out a ij p x em eo =
       let M = middle i j f e in
@@ -116,7 +133,8 @@ module _ (l : List ℕ) (n i j f e : ℕ) (fit : Fitting l n i j f e) where
       ne-le : (i ≡ j → ⊥) → i ≤ j → length (middle i j f e) ≡ i % 2 + j % 2 → i + length (middle i j f e) ≤ j
       ne-le z r s = omega arith
 
-  pub down-end : (m out : List ℕ) (at : ℕ) → (i ≡ j → ⊥) → at ≡ i + length (middle i j f e) → m ≡ put l i (middle i j f e) → out ≡ put m at (take (n - j) (drop j m))
+  pub down-end : (m out : List ℕ) (at : ℕ) → (i ≡ j → ⊥) → at ≡ i + length (middle i j f e)
+      → m ≡ put l i (middle i j f e) → out ≡ put m at (take (n - j) (drop j m))
       → out ≡ put l 0 (replaced i j f e (take n l))
   down-end m out at z ea em eo =
       let M = middle i j f e in
@@ -147,7 +165,8 @@ module _ (l : List ℕ) (n i j f e : ℕ) (fit : Fitting l n i j f e) where
   down-place at z ea = let h = below z in omega arith
 
   pub down-room : (m : List ℕ) → m ≡ put l i (middle i j f e) → j + (n - j) ≤ length m
-  down-room m em = let s : length m ≡ length l = ap length em ∙ length-put l i (middle i j f e) in omega (arith, fit .there, fit .among)
+  down-room m em = let s : length m
+      ≡ length l = ap length em ∙ length-put l i (middle i j f e) in omega (arith, fit .there, fit .among)
 
   pub up-place : i ≡ j → j ≤ i + 2
   up-place ij = omega arith
@@ -163,7 +182,8 @@ module _ (l : List ℕ) (n i j f e : ℕ) (fit : Fitting l n i j f e) where
   lay-room = omega (arith, fit .room)
 
   pub lay-room-up : (m : List ℕ) → m ≡ put l (i + 2) (take (n - j) (drop j l)) → i + length (middle i j f e) ≤ length m
-  lay-room-up m em = let s : length m ≡ length l = ap length em ∙ length-put l (i + 2) (take (n - j) (drop j l)) in omega (arith, fit .room)
+  lay-room-up m em = let s : length m
+      ≡ length l = ap length em ∙ length-put l (i + 2) (take (n - j) (drop j l)) in omega (arith, fit .room)
 
   pub fit-sub : j ≤ n
   fit-sub = fit .among

@@ -104,7 +104,8 @@ up-at low [] n u h = absurd (omega arith)
 up-at low (b ∷ bs) zero u h = u .0
 up-at low (b ∷ bs) (suc n) u h = let k = u .0 in let i = up-at (b + 1) bs n (u .1) (omega arith) in omega arith
 
-below-place : (f low : ℕ) (bs : List ℕ) (n : ℕ) → Up low bs → n < length bs → getD bs n 0 < f → Below f (take (suc n) bs)
+below-place : (f low : ℕ) (bs : List ℕ) (n : ℕ) → Up low bs → n < length bs → getD bs n 0 < f
+    → Below f (take (suc n) bs)
 unfolding Up Below
 below-place f low [] n u h g = absurd (omega arith)
 below-place f low (b ∷ bs) zero u h g = (g, tt)
@@ -115,7 +116,8 @@ below-place f low (b ∷ bs) (suc n) u h g =
 from-place : (e low : ℕ) (bs : List ℕ) (n : ℕ) → Up low bs → n < length bs → e < getD bs n 0 → From (e + 1) (drop n bs)
 unfolding Up From
 from-place e low [] n u h g = absurd (omega arith)
-from-place e low (b ∷ bs) zero u h g = (omega arith, from-less (e + 1) (b + 1) bs (omega arith) (up-from (b + 1) bs (u .1)))
+from-place e low (b ∷ bs) zero u h g =
+    (omega arith, from-less (e + 1) (b + 1) bs (omega arith) (up-from (b + 1) bs (u .1)))
 from-place e low (b ∷ bs) (suc n) u h g = from-place e (b + 1) bs n (u .1) (omega arith) g
 
 -- what stands before the place lies at e or below, and what stands behind it above
@@ -191,10 +193,12 @@ before f bs n u h = go (eqb f 0) refl (past-below (f - 1) 0 bs u n h)
     go : (t : Bool) → eqb f 0 ≡ t → Below (f - 1 + 1) (take (placePast (f - 1) bs n) bs)
         → Below f (take (if t then 0 else placePast (f - 1) bs n) bs)
     go true p b = tt
-    go false p b = let z : f ≡ 0 → ⊥ = eqb-false f 0 p in below-more (f - 1 + 1) f (take (placePast (f - 1) bs n) bs) (omega arith) b
+    go false p b = let z : f ≡ 0
+        → ⊥ = eqb-false f 0 p in below-more (f - 1 + 1) f (take (placePast (f - 1) bs n) bs) (omega arith) b
 
 -- and what stands behind it does not
-behind : (f : ℕ) (bs : List ℕ) (n : ℕ) → Up 0 bs → n ≤ length bs → From f (drop n bs) → From f (drop (placeOf f bs n) bs)
+behind : (f : ℕ) (bs : List ℕ) (n : ℕ) → Up 0 bs → n ≤ length bs → From f (drop n bs)
+    → From f (drop (placeOf f bs n) bs)
 unfolding placeOf From
 behind f bs n u h g = go (eqb f 0) refl (past-from (f - 1) 0 bs u n h)
   where
@@ -215,7 +219,8 @@ turned true b = not b
 turned false b = b
 
 -- past edges that are all at x or below, x is missing or not by how many they are
-past : (x : ℕ) (bs cs : List ℕ) → Below (x + 1) bs → isMissing x (bs ++ cs) ≡ turned (isOdd (length bs)) (isMissing x cs)
+past : (x : ℕ) (bs cs : List ℕ) → Below (x + 1) bs
+    → isMissing x (bs ++ cs) ≡ turned (isOdd (length bs)) (isMissing x cs)
 unfolding isMissing isOdd Below turned
 past x [] cs b = refl
 past x (a ∷ bs) cs b =
@@ -240,14 +245,16 @@ above x (a ∷ bs) cs g = rw (above x bs cs g)
 
 -- the edges laid between two places, by their parities, before edges ds
 module _ (x f e : ℕ) (ds : List ℕ) where
-  lay-past : (a b : Bool) → f ≤ x → e ≤ x → turned a (isMissing x (edgeIf a f ++ edgeIf b e ++ ds)) ≡ turned b (isMissing x ds)
+  lay-past : (a b : Bool) → f ≤ x → e ≤ x
+      → turned a (isMissing x (edgeIf a f ++ edgeIf b e ++ ds)) ≡ turned b (isMissing x ds)
   unfolding isMissing turned
   lay-past true true h g = rw (le-leb _ _ h, le-leb _ _ g) (Bool·not-not (not (isMissing x ds)))
   lay-past true false h g = rw (le-leb _ _ h) (Bool·not-not (isMissing x ds))
   lay-past false true h g = rw (le-leb _ _ g)
   lay-past false false h g = refl
 
-  lay-inside : (a b : Bool) → f ≤ x → x < e → From (x + 1) ds → turned a (isMissing x (edgeIf a f ++ edgeIf b e ++ ds)) ≡ false
+  lay-inside : (a b : Bool) → f ≤ x → x < e → From (x + 1) ds
+      → turned a (isMissing x (edgeIf a f ++ edgeIf b e ++ ds)) ≡ false
   unfolding isMissing turned
   lay-inside true true h g k = rw (le-leb _ _ h, lt-leb _ _ g)
   lay-inside true false h g k = rw (le-leb _ _ h, none-above x ds k)
@@ -304,7 +311,8 @@ module _ (f e : ℕ) (h : f < e) (bs : List ℕ) (u : Up 0 bs) where
   parts : replaced (startPlace f e bs) (endPlace e bs) f e bs
       ≡ take (startPlace f e bs) bs ++ (edgeIf (isOdd (startPlace f e bs)) f ++ edgeIf (isOdd (endPlace e bs)) e ++ drop (endPlace e bs) bs)
   unfolding replaced middle
-  parts = append-assoc (take (startPlace f e bs) bs) (edgeIf (isOdd (startPlace f e bs)) f ++ edgeIf (isOdd (endPlace e bs)) e) (drop (endPlace e bs) bs)
+  parts =
+      append-assoc (take (startPlace f e bs) bs) (edgeIf (isOdd (startPlace f e bs)) f ++ edgeIf (isOdd (endPlace e bs)) e) (drop (endPlace e bs) bs)
 
   pub up-out : Up 0 (replaced (startPlace f e bs) (endPlace e bs) f e bs)
   up-out =

@@ -71,7 +71,8 @@ edge-size i f = go (isOdd i) refl
     go false p = sym (even-mod i p)
 
 -- nothing is carried
-pub shape-same : (l : List ℕ) (k : ℕ) → k + k + 1 ≤ length l → Shape (take (k + k + 1) l) (k + k + 1) (getD l (k + k + 1 - 1) 0)
+pub shape-same : (l : List ℕ) (k : ℕ) → k + k + 1 ≤ length l
+    → Shape (take (k + k + 1) l) (k + k + 1) (getD l (k + k + 1 - 1) 0)
 shape-same l k h =
     record {
       long = length-take-le (k + k + 1) l h;
@@ -93,14 +94,16 @@ module _ (l : List ℕ) (k n i j f e : ℕ) (en : n ≡ k + k + 1) (h : n ≤ le
       omega (arith, length-append (take i (take n l) ++ M) (drop j (take n l)), length-append (take i (take n l)) M)
 
   -- the last of what stands behind j is the last of all
-  last-behind : j < n → (p : ℕ) → i + i % 2 + j % 2 + (n - j) ≡ suc p → getD (replaced i j f e (take n l)) p 0 ≡ getD l (n - 1) 0
+  last-behind : j < n → (p : ℕ) → i + i % 2 + j % 2 + (n - j) ≡ suc p
+      → getD (replaced i j f e (take n l)) p 0 ≡ getD l (n - 1) 0
   unfolding replaced
   last-behind g p s =
       let M = middle i j f e in
       let t : length (take n l) ≡ n = length-take-le n l h in
       let a : length (take i (take n l)) ≡ i = length-take-le i (take n l) (omega arith) in
       let m = middle-size i j f e in
-      let b : length (take i (take n l) ++ M) ≡ i + (i % 2 + j % 2) = omega (arith, length-append (take i (take n l)) M) in
+      let b : length (take i (take n l) ++ M)
+      ≡ i + (i % 2 + j % 2) = omega (arith, length-append (take i (take n l)) M) in
       let q : p ≡ length (take i (take n l) ++ M) + (n - j - 1) = omega arith in
       let r : j + (n - j - 1) ≡ n - 1 = omega arith in
       ap (λ (x : ℕ). getD (take i (take n l) ++ M ++ drop j (take n l)) x 0) q
@@ -125,7 +128,8 @@ module _ (l : List ℕ) (k n i j f e : ℕ) (en : n ≡ k + k + 1) (h : n ≤ le
       append-nil (take i T ++ (E ++ (e ∷ []))) ∙ sym (append-assoc (take i T) E (e ∷ [])) in
       rw (o, d, r, q) (getD-append-seam (take i T ++ E) e [] 0)
 
-  last-replaced : (p : ℕ) → i + i % 2 + j % 2 + (n - j) ≡ suc p → getD (replaced i j f e (take n l)) p 0 ≡ lastAfter l n j e
+  last-replaced : (p : ℕ) → i + i % 2 + j % 2 + (n - j) ≡ suc p
+      → getD (replaced i j f e (take n l)) p 0 ≡ lastAfter l n j e
   unfolding lastAfter
   last-replaced p s = go (ltb j n) refl
     where
@@ -156,7 +160,8 @@ many k last top = go (ltb last top)
     go false x = let h : mostRanges < k = ltb-true _ _ x in omega arith
 
 -- the ranges of edges of a shape
-pub shape-count : (top : ℕ) (bs : List ℕ) (size last : ℕ) → Shape bs size last → length (rangesOf top bs) ≡ size / 2 + one (ltb last top)
+pub shape-count : (top : ℕ) (bs : List ℕ) (size last : ℕ) → Shape bs size last
+    → length (rangesOf top bs) ≡ size / 2 + one (ltb last top)
 shape-count top bs zero last s = let o = s .odd in absurd (omega arith)
 shape-count top bs (suc p) last s =
     let e = s .long in

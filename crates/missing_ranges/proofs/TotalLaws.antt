@@ -33,13 +33,15 @@ unfolding Up Below rangesOf totalFrom sizeOf
 total-is low top n [] u b h g = omega arith
 total-is low top n (a ∷ []) u b h g = below-or-not _ a top some none
   where
-    some : a < top → totalFrom n (if ltb a top then range a (top - 1) ∷ [] else []) ≡ n + sizeOf (if ltb a top then range a (top - 1) ∷ [] else [])
+    some : a < top → totalFrom n (if ltb a top then range a (top - 1) ∷ [] else [])
+        ≡ n + sizeOf (if ltb a top then range a (top - 1) ∷ [] else [])
     some k =
         let w = u .0 in
         let s : n + (top - 1 + 1 - a) ≤ largestNumber = omega arith in
         rw (lt-ltb _ _ k, fits n (top - 1 + 1 - a) s) (omega arith)
 
-    none : top ≤ a → totalFrom n (if ltb a top then range a (top - 1) ∷ [] else []) ≡ n + sizeOf (if ltb a top then range a (top - 1) ∷ [] else [])
+    none : top ≤ a → totalFrom n (if ltb a top then range a (top - 1) ∷ [] else [])
+        ≡ n + sizeOf (if ltb a top then range a (top - 1) ∷ [] else [])
     none k = rw (le-ltb _ _ k) (omega arith)
 total-is low top n (a ∷ c ∷ bs) u b h g =
     let p = u .0 in
@@ -67,7 +69,8 @@ least-left m c h = omega arith
 module _ (m a c : ℕ) (rs : List Range) (h : a < c) (z : (x : ℕ) → x < c → isListed x rs ≡ false)
     (i : listedBelow m (range a (c - 1) ∷ rs) ≡ (m - (m - c) - a) + listedBelow m rs) where
   abbrev More : Type 0
-  More = (if (if leb a m && leb m (c - 1) then true else isListed m rs) then 1 else 0) + listedBelow m (range a (c - 1) ∷ rs)
+  More =
+      (if (if leb a m && leb m (c - 1) then true else isListed m rs) then 1 else 0) + listedBelow m (range a (c - 1) ∷ rs)
       ≡ (suc m - (suc m - c) - a) + ((if isListed m rs then 1 else 0) + listedBelow m rs)
 
   more-left : m < a → More
@@ -107,13 +110,15 @@ unfolding Up Below rangesOf sizeOf
 listed-size low top [] u b = none-listed top
 listed-size low top (a ∷ []) u b = below-or-not _ a top some none
   where
-    some : a < top → listedBelow top (if ltb a top then range a (top - 1) ∷ [] else []) ≡ sizeOf (if ltb a top then range a (top - 1) ∷ [] else [])
+    some : a < top → listedBelow top (if ltb a top then range a (top - 1) ∷ [] else [])
+        ≡ sizeOf (if ltb a top then range a (top - 1) ∷ [] else [])
     some k = rw (lt-ltb _ _ k) (count-first top a top [] k nothing ∙ rw (none-listed top) (omega arith))
       where
         nothing : (x : ℕ) → x < top → isListed x [] ≡ false
         nothing x h = none-there x
 
-    none : top ≤ a → listedBelow top (if ltb a top then range a (top - 1) ∷ [] else []) ≡ sizeOf (if ltb a top then range a (top - 1) ∷ [] else [])
+    none : top ≤ a → listedBelow top (if ltb a top then range a (top - 1) ∷ [] else [])
+        ≡ sizeOf (if ltb a top then range a (top - 1) ∷ [] else [])
     none k = rw (le-ltb _ _ k) (none-listed top)
 listed-size low top (a ∷ c ∷ bs) u b =
     let p = u .1 .0 in
