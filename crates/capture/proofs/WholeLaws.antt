@@ -27,9 +27,9 @@ use Rattle.capture_settings.specs.Statements.{Good}
 use Rattle.capture_settings.proofs.TextLaws.{settings-promises}
 use Rattle.capture_records.specs.Records.{mostRecords, restOf, recordsOf, isCut}
 use Rattle.capture_records.proofs.FrontLaws.{few}
-use Rattle.capture_events.specs.Events.{Event, cut-short, fold, datagrams, settings, done, endAt, readLast}
+use Rattle.capture_events.specs.Events.{Event, cut-short, fold, datagrams, settings, endAt, readLast}
 use Rattle.capture_events.specs.Turns as Events
-use Rattle.capture_events.proofs.EventLaws.{fold-joins, recordsEnd, allRecords, behind, last-settings, last-bad}
+use Rattle.capture_events.proofs.EventLaws.{fold-joins, recordsEnd, rest-done, allRecords, behind, last-settings, last-bad}
 use Rattle.capture_events.proofs.TurnLaws.{turn-promises}
 use Rattle.capture_tally.specs.declared.report.Report.{Report}
 use Rattle.capture_tally.specs.Report.{freshOf, LentReport, lentReport, freshLent, cutLent, over}
@@ -70,11 +70,6 @@ rest-most : (k : ℕ) (rest : List ℕ) → k ≡ 0 → recordsEnd k rest .event
 unfolding recordsEnd
 rest-most zero rest e = refl
 rest-most (suc k) rest e = absurd (omega arith)
-
-rest-done : (k : ℕ) (rest : List ℕ) → recordsEnd k rest .at ≡ done
-unfolding recordsEnd endAt
-rest-done zero rest = refl
-rest-done (suc k) rest = zero-or-not _ (length rest) (λ e. rw (eq-eqb _ _ e)) (λ z. rw (ne-eqb _ _ z))
 
 above : (n : ℕ) → (n ≡ 0 → ⊥) → 0 < n
 above zero z = absurd (z refl)

@@ -40,6 +40,12 @@ unfoldable pub recordsEnd : ℕ → List ℕ → End
 recordsEnd zero rest = ends done []
 recordsEnd (suc k) rest = endAt (records (suc k)) (length rest)
 
+-- then it is done
+pub rest-done : (k : ℕ) (rest : List ℕ) → recordsEnd k rest .at ≡ done
+unfolding recordsEnd endAt
+rest-done zero rest = refl
+rest-done (suc k) rest = zero-or-not _ (length rest) (λ e. rw (eq-eqb _ _ e)) (λ z. rw (ne-eqb _ _ z))
+
 pub last-done : (l : List ℕ) → readLast done l ≡ ends done []
 unfolding readLast readOn endAt
 last-done l = refl

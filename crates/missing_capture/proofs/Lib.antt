@@ -1,1 +1,5 @@
+pub mod ReadLaws
+pub mod TurningLaws
+pub mod FoldLaws
+pub mod WholeLaws
 pub mod Rules

@@ -1,6 +1,7 @@
 -- A capture read piece by piece, as a list of bytes: what is noted is a fold over its events.
 use Prim.Native.Nat.{ℕ}
 use mathlib.Core.List.{List}
+use mathlib.Core.Bool.{true}
 use Rattle.wire.specs.Bounds.{blank}
 use Rattle.capture_lines.specs.Lines.{settingsRefused}
 use Rattle.capture_events.specs.declared.place.Place.{Place}

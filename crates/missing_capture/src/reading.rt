@@ -6,7 +6,7 @@ use capture_lines;
 use capture_settings::settings::Settings;
 use missing_ranges::ranges::Missing;
 use missing_records::Notes;
-use missing_text::missing_text;
+use missing_text::missing_text as text;
 use missing_text::missing_text::ROOM;
 use wire::kinds;
 use wire::kinds::LENGTH_SIZE;
@@ -87,15 +87,19 @@ impl Reading {
         ensures { λ r. ⌜ lentFed r (now (edges .exit))
             ≡ fedBy (lentNotes (self .notes) (now (edges .entry))) (readOn (atOf (self .place)) (now (bytes .entry))) ⌝ }
     {
+        let start = self.place;
         let mut notes = self.notes;
         let mut rest = bytes;
-        let mut next = self.place.look(bytes);
+        let mut next = start.look(bytes);
         while next.is_found() {
+            let event = next.event;
+            let settings = next.settings;
+            let place = next.place;
             let used = next.used;
-            let then = note(notes, edges, next.event, next.settings, &rest[..used]);
+            let then = note(notes, edges, event, settings, &rest[..used]);
             notes = then;
             rest = &rest[used..];
-            let after = next.place.look(rest);
+            let after = place.look(rest);
             next = after;
         }
         let place = next.place;
@@ -158,8 +162,8 @@ impl Reading {
         let missing = notes.missing;
         match place {
             Place::Settings => capture_lines::put_refused(out, b"settings="),
-            Place::Records { left: _ } => missing_text::write(out, name, edges, missing),
-            Place::Done => missing_text::write(out, name, edges, missing),
+            Place::Records { left: _ } => text::write(out, name, edges, missing),
+            Place::Done => text::write(out, name, edges, missing),
             Place::Refused => capture_lines::put_refused(out, b"settings="),
         }
     }

@@ -181,6 +181,9 @@ unfolding over
 stays-over x [] h = refl
 stays-over x (d ∷ ds) h = ap (λ (y : Lent). over y ds) (stays x d h) ∙ stays-over x ds h
 
+refused-over : (x : Lent) (ds : List Said) → x .missing .refused ≡ true → over x ds .missing .refused ≡ true
+refused-over x ds r = ap (λ (y : Lent). y .missing .refused) (stays-over x ds r) ∙ r
+
 -- ---- one after the other
 
 pub over-holds : (ds : List Said) (x : Lent) (bs : List ℕ) (top : ℕ) → Holding x bs top
@@ -202,6 +205,26 @@ over-holds (d ∷ ds) x bs top h r =
         ap (λ (y : Lent). y .missing .refused) (stays-over (noteOf x (d .first) (d .next)) ds p) ∙ p in
         let z : _≡_ {A = ℕ} 0 1 = cc in
         absurd (omega arith)
+
+-- whatever else the lent words were, the same is refused
+not-refused : (x : Lent) (bs : List ℕ) (top : ℕ) → Holding x bs top → x .missing .refused ≡ false
+not-refused x bs top h = usable-so x (h .usable) .kept
+
+both-over : (ds : List Said) (x y : Lent) (bs : List ℕ) (top : ℕ) → Holding x bs top → Holding y bs top
+    → over x ds .missing .refused ≡ over y ds .missing .refused
+unfolding over
+both-over [] x y bs top h k = not-refused x bs top h ∙ sym (not-refused y bs top k)
+both-over (d ∷ ds) x y bs top h k =
+    let f = d .first in
+    let e = d .next in
+    let same : isKept y f e ≡ isKept x f e = kept-is y bs top k f e ∙ sym (kept-is x bs top h f e) in
+    let i = both-over ds (noteOf x f e) (noteOf y f e) (without f e bs) (later top e) in
+    step-either x bs top h f e _ (λ p. i (step-yes x bs top h f e p) (step-yes y bs top k f e (same ∙ p)))
+    (λ p. refused-over (noteOf x f e) ds (no-is x bs top h f e p) ∙ sym (refused-over (noteOf y f e) ds (no-is y bs top k f e (same ∙ p))))
+
+pub words-agree : (l m : List ℕ) (n : ℕ) (ds : List Said) → room ≤ length l → room ≤ length m
+    → noted l n ds .missing .refused ≡ noted m n ds .missing .refused
+words-agree l m n ds h k = both-over ds (startIn l n) (startIn m n) (n ∷ []) n (start-holds l n h) (start-holds m n k)
 
 -- the state after ds, unless refused: usable, with the edges of all that is missing
 pub noted-holds : (l : List ℕ) (n : ℕ) (ds : List Said) → room ≤ length l → noted l n ds .missing .refused ≡ false

@@ -15,8 +15,9 @@ use Rattle.moldudp64.specs.Header.{numberOf}
 use Rattle.moldudp64.specs.Downstream.{refusalOf}
 use Rattle.moldudp64.proofs.DownstreamLaws.{sound}
 use Rattle.missing_ranges.specs.Edges.{Range, totalFrom, listedBelow, mostRanges}
-use Rattle.missing_ranges.specs.Notes.{Lent, lent, rangesIn, room, later, startIn, noteOf}
+use Rattle.missing_ranges.specs.Notes.{Lent, isUsable, rangesIn, room, later, startIn, noteOf}
 use Rattle.missing_ranges.specs.Meaning as said
+use Rattle.missing_ranges.proofs.HoldLaws.{noted-holds, noted-ranges, words-agree}
 use Rattle.missing_ranges.proofs.PromiseLaws.{missing-promises}
 use Rattle.missing_records.specs.Records.{accepted, nextIn, LentNotes, lentNotes, lentIn, notesWith, startNotes, takeOf, over}
 use Rattle.missing_records.specs.Promises.{carries, isCarried, highestOf, ListsMissing, ListsWhatIsMissing, TotalIsExact, NeedsMore, NeedsMoreWithin, RecordPromises}
@@ -152,6 +153,17 @@ module _ (name l : List ℕ) (n : ℕ) (ds : List (List ℕ)) where
   few : room ≤ length l → over (startNotes name l n) ds .notes .missing .refused ≡ false → length (rangesIn (lentIn (over (startNotes name l n) ds))) ≤ mostRanges
   few h r = rw noted-so (missing-promises .refuses-too-many .keeps-few l n saids h (refused-so false r))
 
+  pub usable-after : room ≤ length l → over (startNotes name l n) ds .notes .missing .refused ≡ false → isUsable (lentIn (over (startNotes name l n) ds)) ≡ true
+  usable-after h r = rw noted-so (noted-holds l n saids h (refused-so false r) .usable)
+
+  -- whatever else the lent words were, the ranges are the same, and so is what is refused
+  module _ (m : List ℕ) (h : room ≤ length l) (k : room ≤ length m) where
+    pub refused-agree : over (startNotes name l n) ds .notes .missing .refused ≡ over (startNotes name m n) ds .notes .missing .refused
+    refused-agree =
+        ap (λ (x : LentNotes). x .notes .missing .refused) (over-so (startNotes name l n) ds)
+        ∙ words-agree l m n saids h k
+        ∙ sym (ap (λ (x : LentNotes). x .notes .missing .refused) (over-so (startNotes name m n) ds))
+
 lists-what-is-missing : ListsWhatIsMissing
 unfolding ListsWhatIsMissing
 lists-what-is-missing = lists
@@ -159,6 +171,16 @@ lists-what-is-missing = lists
 total-is-exact : TotalIsExact
 unfolding TotalIsExact
 total-is-exact = total
+
+-- the ranges of two lists of lent words
+pub ranges-agree : (name l m : List ℕ) (n : ℕ) (ds : List (List ℕ)) → room ≤ length l → room ≤ length m
+    → over (startNotes name l n) ds .notes .missing .refused ≡ false
+    → rangesIn (lentIn (over (startNotes name l n) ds)) ≡ rangesIn (lentIn (over (startNotes name m n) ds))
+ranges-agree name l m n ds h k r =
+    let q = sym (refused-agree name l n ds m h k) ∙ r in
+    ap rangesIn (noted-so name l n ds)
+    ∙ noted-ranges l n (saidsOf name ds) h (refused-so name l n ds false r)
+    ∙ sym (ap rangesIn (noted-so name m n ds) ∙ noted-ranges m n (saidsOf name ds) k (refused-so name m n ds false q))
 
 -- ---- what is refused
 
@@ -173,7 +195,7 @@ unfolding over
 over-more x [] d = refl
 over-more x (p ∷ ps) d = over-more (takeOf x p) ps d
 
-session-stays : (x : LentNotes) (ds : List (List ℕ)) → over x ds .notes .session ≡ x .notes .session
+pub session-stays : (x : LentNotes) (ds : List (List ℕ)) → over x ds .notes .session ≡ x .notes .session
 session-stays x ds = ap (λ (y : LentNotes). y .notes .session) (over-so x ds)
 
 never : {A : Type 0} → false ≡ true → A

@@ -2,7 +2,7 @@
 use mathlib.Core.Path.{_≡_, refl, ap, sym, _∙_}
 use mathlib.Core.List.{List, [], _∷_}
 use mathlib.Core.Bool.{Bool, true, false}
-use Prim.Native.Nat.{ℕ, _+_, _≤_, min}
+use Prim.Native.Nat.{ℕ, _+_, _/_, min}
 use native.Mathlib.Omega.{arith}
 use lib.ListN.{length, take}
 use lib.Dec.{eqb}
@@ -10,6 +10,8 @@ use borrow.Author.Tests.{ne-eqb, eq-eqb}
 use Rattle.wire.specs.Choice.{if_then_else_}
 use Rattle.wire.specs.Bounds.{largestNumber}
 use Rattle.wire.specs.Bytes.{sameBytes}
+use Rattle.wire.specs.Output.{put}
+use Rattle.wire.proofs.Outputs.{length-put}
 use Rattle.wire.specs.declared.refusal.Refusal.{Refusal}
 use Rattle.wire.specs.declared.kinds.SequenceNumber.{SequenceNumber}
 use Rattle.wire.specs.declared.kinds.MessageCount.{MessageCount}
@@ -19,7 +21,7 @@ use Rattle.moldudp64.specs.declared.downstream.Downstream.the-variants.{Data, H
 use Rattle.moldudp64.specs.Downstream.{heartbeat, end-of-session, blockCount, refusalOf, downstreamWords, downstreamOf}
 use Rattle.moldudp64.proofs.DownstreamLaws.{sound, data-read, kind-read, refusal-read, number-read, no-blocks}
 use Rattle.missing_ranges.specs.declared.ranges.Missing.{Missing}
-use Rattle.missing_ranges.specs.Notes.{Lent, lent, startIn, noteOf}
+use Rattle.missing_ranges.specs.Notes.{missing, Lent, lent, startIn, edgesAfter, topAfter, isKept, noteOf}
 use Rattle.missing_records.specs.declared.Notes.{Notes}
 use Rattle.missing_records.specs.Records.{accepted, nextIn, LentNotes, lentNotes, lentIn, notesWith, startNotes, takeOf, notedIf}
 
@@ -86,3 +88,21 @@ unfolding downstreamWords takeOf accepted
 take-refused x l d p r q g =
     let z = refusal-read d (r .number) (sym (rw g at q)) in
     rw (ne-eqb _ _ z)
+
+-- ---- lent words keep their length
+
+note-long : (x : Lent) (f e : ℕ) → length (noteOf x f e .edges) ≡ length (x .edges)
+unfolding noteOf
+note-long x f e = go (isKept x f e)
+  where
+    go : (b : Bool) → length ((if b then lent (missing false (length (edgesAfter x f e) / 2) (topAfter x e)) (put (x .edges) 0 (edgesAfter x f e)) else lent (missing true (x .missing .closed) (x .missing .highest .0)) (x .edges)) .edges) ≡ length (x .edges)
+    go true = length-put (x .edges) 0 (edgesAfter x f e)
+    go false = refl
+
+pub take-long : (x : LentNotes) (d : List ℕ) → length (takeOf x d .edges) ≡ length (x .edges)
+unfolding takeOf
+take-long x d = go (accepted (x .notes .session) d)
+  where
+    go : (b : Bool) → length ((if b then notesWith (x .notes .session) (noteOf (lentIn x) (numberOf d) (nextIn d)) else x) .edges) ≡ length (x .edges)
+    go true = note-long (lentIn x) (numberOf d) (nextIn d)
+    go false = refl
