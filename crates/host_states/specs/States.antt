@@ -38,6 +38,9 @@ earlyCode = 231
 abbrev pub walkCode : ℕ
 walkCode = 232
 
+abbrev pub missingCode : ℕ
+missingCode = 233
+
 -- its bytes, and those of a phase or a stage
 abbrev pub codeSize : ℕ
 codeSize = 1

@@ -30,6 +30,8 @@ pub const EARLY: u8 = 0xE7;
 
 pub const WALK: u8 = 0xE8;
 
+pub const MISSING: u8 = 0xE9;
+
 // Where the code stands, its bytes, and what stands there in a state that isn't open.
 pub const CODE_AT: ByteOffset = ByteOffset(0);
 
