@@ -2,7 +2,7 @@
  *
  * Link with libeiderwagon.a, which `tools/host_library.sh` builds for x86-64 Linux. Nothing here allocates, blocks,
  * reads a clock, touches a socket or keeps anything between two calls: a state is bytes that you keep, and lend to each
- * call. hosts/c has four examples, feed.c, early.c, login.c and branch.c.
+ * call. hosts/c has five examples, feed.c, early.c, missing.c, login.c and branch.c.
  *
  * What is lent
  *   A buffer is a pointer and, behind it, how many elements it has. With no elements it may be any pointer, NULL too.
@@ -14,23 +14,23 @@
  *   EIDERWAGON_REFUSED_...: the number is in the low 8 bits, and a later library may put a place above them. On 0, the
  *   answer stands in `words`, at the positions that the function's enum names. Each of its words is set, those that an
  *   answer has no value for to 0, and no further one is touched. Lend as many as its _WORDS says: a later library may
- *   have more. A refusal changes no word, and no byte of a lent output, a state, a cursor or slots.
+ *   have more. A refusal changes no word, and no byte of a lent output, a state, a cursor, slots or edges.
  *
  * Refusals have an order
  *   Where several grounds apply, the first in the function's list is given. First come those that need no state; then
  *   41 for a state or a cursor with fewer bytes than its size; then the state's own; and last 41 for too few words or
  *   an output that is too short. So 41 stands in a list once, or twice: before the state's own grounds, and at the end.
  *   An input of a fixed size (a session, a username, a password) that is shorter or longer is refused, and never cut:
- *   with 19 at a start, and where it is slots, with 46 at a SoupBinTCP writer, and with 41, behind its other grounds,
- *   at a MoldUDP64 writer and at the transmitter; at the store with 41 in the place of 53. Of a state, a cursor or
- *   `words` with more elements than are needed only the first are used.
+ *   with 19 at a start, and where it is slots or edges, with 46 at a SoupBinTCP writer, and with 41, behind its other
+ *   grounds, at a MoldUDP64 writer and at the transmitter; at the store with 41 in the place of 53. Of a state, a
+ *   cursor or `words` with more elements than are needed only the first are used.
  *
  * States and cursors
  *   Their layout is given below (_AT and _SIZE), and any bytes are one: a state can be stored, copied, compared and
  *   made by hand. Numbers are little-endian, but for the lengths of held messages. A state is open exactly when its
  *   first byte is its kind's code (_OPEN). No two kinds have the same code, and none is 0: a state that is lent to a
  *   function of another kind isn't open there.
- *   (It may be laid over, though: a start, a walk, eiderwagon_server_set_last and a capture's feed lay their own.)
+ *   (It may be laid over, though: a start, a walk, eiderwagon_server_set_last and a feed of a capture lay their own.)
  *   With every other first byte, 0 too, a receiver of either kind is ended, a session is closed or ended, a reading is
  *   done or its settings are refused, a cursor and a walk have no messages left and a transmitter no packet. So bytes
  *   of zero are never open.
@@ -181,7 +181,8 @@ enum {
     EIDERWAGON_LARGEST_REPLY = 33,       /* the largest reply to a login, 'A'; 'J' has 4 bytes */
     EIDERWAGON_LARGEST_REPORT = 256,     /* a buffer that every capture's report fits */
     EIDERWAGON_SLOT_SIZE = 1024,         /* a slot, and the longest message that is held in one */
-    EIDERWAGON_SLOTS_SIZE = 65536        /* the 64 slots of a receiver that keeps early messages */
+    EIDERWAGON_SLOTS_SIZE = 65536,       /* the 64 slots of a receiver that keeps early messages */
+    EIDERWAGON_MISSING_TEXT = 204898     /* a buffer that the text of what is missing needs, however short it is */
 };
 
 /* ---- States and cursors: where each part stands, and how many bytes it has --------------------------------------- */
@@ -285,6 +286,21 @@ enum {
     EIDERWAGON_CAPTURE_SETTINGS = 1,       /* settings come next */
     EIDERWAGON_CAPTURE_RECORDS = 2,        /* records come next */
     EIDERWAGON_CAPTURE_DONE = 3            /* done */
+};
+
+/* The reading of a capture for what is missing. The ranges themselves are in its edges. */
+enum {
+    EIDERWAGON_MISSING_CODE_AT = 0,     /* its code, or it is over (1) */
+    EIDERWAGON_MISSING_STAGE_AT = 1,    /* its stage (1), as EIDERWAGON_CAPTURE_STAGE_AT has it */
+    EIDERWAGON_MISSING_SESSION_AT = 2,  /* session (10) */
+    EIDERWAGON_MISSING_HIGHEST_AT = 12, /* the highest next number so far (8) */
+    EIDERWAGON_MISSING_LEFT_AT = 20,    /* records that may still be read (8; above 2^32 - 1 counts as that); 0 is laid
+                                           unless records come next */
+    EIDERWAGON_MISSING_CLOSED_AT = 28,  /* ranges that have both edges (8; above 4,096 the ranges are refused) */
+    EIDERWAGON_MISSING_REFUSED_AT = 36, /* 0, or the ranges were refused (1; 1 is laid) */
+    EIDERWAGON_MISSING_SIZE = 37,       /* a reading for what is missing */
+    EIDERWAGON_MISSING_OPEN = 0xE9,     /* the code of one that isn't over */
+    EIDERWAGON_MISSING_EDGES = 8193     /* the words of its edges: two for each of 4,096 ranges, and one */
 };
 
 /* ---- Writers ----------------------------------------------------------------------------------------------------- */
@@ -938,6 +954,86 @@ uint32_t eiderwagon_capture_write(const uint8_t *state, size_t state_size,
  *   refusals:  41 */
 uint32_t eiderwagon_capture_report(const uint8_t *capture, size_t capture_size,
                                    uint8_t *out, size_t out_size, uint64_t *words, size_t words_size);
+
+/* ---- What is missing from a capture ------------------------------------------------------------------------------ */
+
+/* A capture, as above, is read for the numbers from its `next=` to just below the highest next number that no datagram
+ * carries, however early or late it came. Data carries the numbers of its messages, and its next number is the one
+ * behind them; a heartbeat and an end of session carry none and state their own. A datagram counts where
+ * eiderwagon_mold_read takes it and its session is that of the settings, after an end of session too. The text is
+ * `session=`, for each missing range `from=` and `to=`, both missing themselves, rising and joined where they touch,
+ * and `missing=`, how many numbers; or one line, `settings=refused` or `ranges=refused`, which are no refusals of these
+ * functions. A record after which more than 4,096 ranges are missing gives the latter, though what follows could close
+ * a gap.
+ *
+ * The edges are EIDERWAGON_MISSING_EDGES words that you keep beside the state, of any numbers at first. Lend them to
+ * each call as the one before left them, and let nothing else write there; fewer or more are refused with 19. The first
+ * 2 k + 1 rise, k being the ranges that have both edges (EIDERWAGON_MISSING_CLOSED_AT): each is from an edge to just
+ * below the next, and from the last edge on nothing is carried. With words of your own nothing undefined happens, and
+ * what is said is about those. */
+
+/* Starts the reading of a capture for what is missing. Until settings are read its session is ten spaces, all of its
+ * numbers are 0, and its ranges are refused. No edges are needed yet.
+ *   state:     EIDERWAGON_MISSING_SIZE bytes, written
+ *   refusals:  41 */
+uint32_t eiderwagon_missing_start(uint8_t *state, size_t state_size);
+
+/* Feeds some bytes, after which more may come: the words, which bytes are used and when it is over are as at
+ * eiderwagon_capture_feed.
+ *   state:     EIDERWAGON_MISSING_SIZE bytes, read and written
+ *   edges:     EIDERWAGON_MISSING_EDGES words, read and written
+ *   words:     EIDERWAGON_FEED_WORDS
+ *   refusals:  41, 19, 41 */
+uint32_t eiderwagon_missing_feed(uint8_t *state, size_t state_size, uint64_t *edges, size_t edges_size,
+                                 const uint8_t *bytes, size_t bytes_size, uint64_t *words, size_t words_size);
+
+/* Feeds the last bytes: those that were kept, with what came behind them. A record that is cut short says nothing.
+ *   state:     EIDERWAGON_MISSING_SIZE bytes, read and written
+ *   edges:     EIDERWAGON_MISSING_EDGES words, read and written
+ *   refusals:  41, 19 */
+uint32_t eiderwagon_missing_finish(uint8_t *state, size_t state_size, uint64_t *edges, size_t edges_size,
+                                   const uint8_t *bytes, size_t bytes_size);
+
+/* The words of eiderwagon_missing_count. */
+enum {
+    EIDERWAGON_MISSING_COUNT_LISTED = 0,  /* 1 if settings were read and the ranges weren't refused, else 0 */
+    EIDERWAGON_MISSING_COUNT_RANGES = 1,  /* how many ranges are missing so far */
+    EIDERWAGON_MISSING_COUNT_NUMBERS = 2, /* how many numbers they have */
+    EIDERWAGON_MISSING_COUNT_WORDS = 3    /* how many words */
+};
+
+/* Says how many ranges are missing so far, and how many numbers. Where none are listed both are 0.
+ *   state:     EIDERWAGON_MISSING_SIZE bytes, read
+ *   edges:     EIDERWAGON_MISSING_EDGES words, read
+ *   words:     EIDERWAGON_MISSING_COUNT_WORDS
+ *   refusals:  41, 19, 41 */
+uint32_t eiderwagon_missing_count(const uint8_t *state, size_t state_size, const uint64_t *edges, size_t edges_size,
+                                  uint64_t *words, size_t words_size);
+
+/* The words of eiderwagon_missing_range. */
+enum {
+    EIDERWAGON_MISSING_RANGE_FOUND = 0, /* 1 if a range is there, else 0 */
+    EIDERWAGON_MISSING_RANGE_FROM = 1,  /* its first number */
+    EIDERWAGON_MISSING_RANGE_TO = 2,    /* its last number */
+    EIDERWAGON_MISSING_RANGE_WORDS = 3  /* how many words */
+};
+
+/* Finds one of the missing ranges by its place, from 0. Where none are listed there is none.
+ *   state:     EIDERWAGON_MISSING_SIZE bytes, read
+ *   edges:     EIDERWAGON_MISSING_EDGES words, read
+ *   words:     EIDERWAGON_MISSING_RANGE_WORDS
+ *   refusals:  41, 19, 41 */
+uint32_t eiderwagon_missing_range(const uint8_t *state, size_t state_size, const uint64_t *edges, size_t edges_size,
+                                  uint64_t place, uint64_t *words, size_t words_size);
+
+/* Writes what is missing so far as text, or `settings=refused` while no settings were read.
+ *   state:     EIDERWAGON_MISSING_SIZE bytes, read
+ *   edges:     EIDERWAGON_MISSING_EDGES words, read
+ *   out:       EIDERWAGON_MISSING_TEXT bytes or more, whatever the text
+ *   words:     EIDERWAGON_WRITE_WORDS
+ *   refusals:  41, 19, 41 */
+uint32_t eiderwagon_missing_write(const uint8_t *state, size_t state_size, const uint64_t *edges, size_t edges_size,
+                                  uint8_t *out, size_t out_size, uint64_t *words, size_t words_size);
 
 #ifdef __cplusplus
 }

@@ -6,6 +6,7 @@ import struct
 
 import capture_rules as capture
 import early_rules as early
+import missing_edges as missing
 import mold_rules as mold
 import session_rules as session
 import soup_rules as soup
@@ -43,8 +44,9 @@ def named(names, code):
 # ---- states and cursors, little-endian. The first byte is the kind's code while the state is open, and 0 where a call
 # lays one that isn't; any other byte means the same as 0
 
-CODES = range(0xE1, 0xE9)
-CURSOR_CODE, RECEIVER_CODE, SERVER_CODE, CLIENT_CODE, CAPTURE_CODE, TRANSMITTER_CODE, EARLY_CODE, WALK_CODE = CODES
+CODES = range(0xE1, 0xEA)
+CURSOR_CODE, RECEIVER_CODE, SERVER_CODE, CLIENT_CODE, CAPTURE_CODE, TRANSMITTER_CODE, EARLY_CODE, *LAST_CODES = CODES
+WALK_CODE, MISSING_CODE = LAST_CODES
 NOT_OPEN = 0
 NOT_OPEN_TOO = 2  # a first byte that no call lays, and that no kind has as its code
 
@@ -57,11 +59,15 @@ TRANSMITTER = struct.Struct("<BQQ")  # code, messages that went out, the bytes o
 EARLY = struct.Struct("<B10sQHQ")  # code, session, next number, asking limit, held numbers; lengths follow
 LENGTHS = struct.Struct(">64H")  # of the messages in the slots
 WALK = struct.Struct("<BQHQH")  # code, number to come, messages left, place, messages left there
+MISSING = struct.Struct("<BB10sQQQB")  # code, stage, session, highest next number, records left, closed, refused
+WORD = struct.Struct(">Q")  # a word that a line gives or shows as bytes: of places and of edges
 
 CURSOR_SIZE, RECEIVER_SIZE, SERVER_SIZE, CLIENT_SIZE = CURSOR.size, RECEIVER.size, SESSION.size, SESSION.size
 EARLY_SIZE, WALK_SIZE = EARLY.size + LENGTHS.size, WALK.size
 CAPTURE_SIZE = FRONT.size + EARLY_SIZE + COUNTS.size
-TRANSMITTER_SIZE = TRANSMITTER.size
+TRANSMITTER_SIZE, MISSING_SIZE = TRANSMITTER.size, MISSING.size
+# the edges of missing ranges, in bytes, and the room that their text needs, however short it is
+EDGES_SIZE, MISSING_ROOM = missing.WORDS * WORD.size, 204898
 # fixed sizes of inputs
 NAME_SIZE, USERNAME_SIZE, PASSWORD_SIZE = 10, 6, 10
 
@@ -186,9 +192,32 @@ def transmitter_in(data):
     return tuple(sent) if first == TRANSMITTER_CODE else transmitter.PAST_ALL
 
 
+def missing_bytes(reading):
+    stage, left, notes = reading
+    first, stage = laid(MISSING_CODE, OPEN_STAGE, SHUT_STAGE, stage)
+    return MISSING.pack(first, stage, notes.session, notes.highest, left, notes.closed, notes.refused)
+
+
+def missing_in(data):
+    first, stage, session, highest, left, closed, refused = MISSING.unpack_from(data)
+    stage = meant(MISSING_CODE, OPEN_STAGE, SHUT_STAGE, first, stage)
+    notes = missing.Notes(session, highest, closed, refused != 0)
+    return missing.Reading(stage, min(left, capture.MOST_RECORDS), notes)
+
+
+def words_bytes(words):
+    """Words as a line gives and shows them."""
+    return b"".join(map(WORD.pack, words))
+
+
+def words_in(data):
+    """Bytes left over are no word."""
+    return [word for (word,) in WORD.iter_unpack(data[: len(data) // WORD.size * WORD.size])]
+
+
 def by_hand(state, first, phase=None):
     """A state with another first byte, and with another phase or stage where one is given."""
-    at = 1 if len(state) == CAPTURE_SIZE else SESSION.size - 1
+    at = 1 if len(state) in (CAPTURE_SIZE, MISSING_SIZE) else SESSION.size - 1
     made = bytes([first]) + state[1:]
     return made if phase is None else made[:at] + bytes([phase]) + made[at + 1 :]
 
@@ -261,13 +290,13 @@ def receiver_take(s, a):
 
 
 def places_bytes(places):
-    """Places as a line gives them: two words each, of eight bytes."""
-    return b"".join(struct.pack(">QQ", *place) for place in places)
+    """Places as a line gives them: two words each."""
+    return b"".join(words_bytes(place) for place in places)
 
 
 def places_room(words):
     """So many words for places, before the call."""
-    return room(8 * words)
+    return room(WORD.size * words)
 
 
 def receiver_deliver(s, a):
@@ -343,8 +372,8 @@ def part(message):
 
 
 def early_places_bytes(messages):
-    """Places as a line gives them: three words each, of eight bytes."""
-    return b"".join(struct.pack(">QQQ", *part(message)) for message in messages)
+    """Places as a line gives them: three words each."""
+    return places_bytes(part(message) for message in messages)
 
 
 def early_deliver(s, a, c):
@@ -402,11 +431,49 @@ def capture_finish(s, a, c):
     return [], reading_bytes(after, s, kept), b"", slots_with(c, kept)
 
 
+def right_edges(edges):
+    """Their words. Refused: 19, where they aren't as many as there have to be."""
+    words = words_in(edges)
+    if len(words) != missing.WORDS:
+        raise Refused(19)
+    return words
+
+
+def missing_feed(s, a, c):
+    after, words, used = missing.feed(missing_in(s), right_edges(c), a)
+    over = after.stage in ("done", "refused")
+    edges = words_bytes(words) + c[EDGES_SIZE:]
+    return [used, int(over)], missing_bytes(after) if used or over else b"", b"", edges
+
+
+def missing_finish(s, a, c):
+    after, words = missing.finish(missing_in(s), right_edges(c), a)
+    return [], missing_bytes(after), b"", words_bytes(words) + c[EDGES_SIZE:]
+
+
+def missing_count(a, c):
+    reading, words = missing_in(a), right_edges(c)
+    ranges = missing.ranges_of(reading, words)
+    return [int(missing.is_listed(reading)), len(ranges), missing.total_of(ranges)], b""
+
+
+def missing_range(a, c, n):
+    ranges = missing.ranges_of(missing_in(a), right_edges(c))
+    return located(ranges[n] if n < len(ranges) else None), b""
+
+
+def missing_write(a, c, s):
+    text = missing.text_of(missing_in(a), right_edges(c))
+    if len(s) < MISSING_ROOM:
+        raise Refused(41)
+    return written(text)
+
+
 # ---- the functions
 
 
-WRITE_SLOTS = (early_take, early_deliver, capture_feed, capture_finish)
-READ_SLOTS = (early_count, early_locate, early_walk, early_next)
+WRITE_SLOTS = (early_take, early_deliver, capture_feed, capture_finish, missing_feed, missing_finish)
+READ_SLOTS = (early_count, early_locate, early_walk, early_next, missing_count, missing_range, missing_write)
 
 
 class Function:
@@ -424,7 +491,7 @@ class Function:
         self.keys = inspect.signature(rule).parameters
         # the field of a second output
         self.second = {receiver_deliver: "d", server_reply: "c", transmitter_next: "d", early_deliver: "d"}.get(rule)
-        # that of slots, which some functions only read
+        # that of slots or edges, which some functions only read
         self.slots = "c" if rule in (*WRITE_SLOTS, *READ_SLOTS) else None
         self.writes_slots = rule in WRITE_SLOTS
 
@@ -468,7 +535,7 @@ class Function:
 NAME_AT_START, NAME_AT_MOLD, NAME_AT_SOUP = (NAME_SIZE, 19), (NAME_SIZE, 41), (NAME_SIZE, 46)
 
 # By subject, as the modules of the crate `vector_calls` have them, each from its own number on.
-MOLD, RECEIVERS, SOUP, SERVERS, CLIENTS, CAPTURES, STORES, TRANSMITTERS, EARLIES = range(0, 180, 20)
+MOLD, RECEIVERS, SOUP, SERVERS, CLIENTS, CAPTURES, STORES, TRANSMITTERS, EARLIES, MISSINGS = range(0, 200, 20)
 
 FUNCTIONS = {
     "mold_read": Function(MOLD, mold_read, 3, KINDS),
@@ -554,4 +621,10 @@ FUNCTIONS = {
     "early_deliver": Function(
         EARLIES + 6, early_deliver, 7, TAKEN_EARLY, {"s": EARLY_SIZE}, lambda a: mold.packet_of(a)
     ),
+    "missing_start": Function(MISSINGS, lambda: ([], missing_bytes(missing.START))),
+    "missing_feed": Function(MISSINGS + 1, missing_feed, 2, state={"s": MISSING_SIZE}),
+    "missing_finish": Function(MISSINGS + 2, missing_finish, state={"s": MISSING_SIZE}),
+    "missing_count": Function(MISSINGS + 3, missing_count, 3, state={"a": MISSING_SIZE}),
+    "missing_range": Function(MISSINGS + 4, missing_range, 3, state={"a": MISSING_SIZE}),
+    "missing_write": Function(MISSINGS + 5, missing_write, 1, state={"a": MISSING_SIZE}),
 }

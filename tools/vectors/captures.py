@@ -1,5 +1,5 @@
 """Captures and their parts, good and bad settings among them, that the vectors of captures are made of."""
-from datagrams import ROOM
+from datagrams import ROOM, data_of, end, heartbeat
 from mold_rules import TOP
 
 
@@ -14,6 +14,21 @@ def record(datagram):
 def capture(*datagrams, start=lines(), after=b""):
     return start + b"".join(record(datagram) for datagram in datagrams) + after
 
+
+# captures/gaps.capture: gaps that stay, gaps that are closed later, two packets swapped, and an end of session with one
+# more datagram behind it
+GAPS = capture(
+    data_of(1, 2),
+    data_of(5, 2),
+    data_of(10, 3),
+    data_of(9, 1),
+    data_of(3, 1),
+    data_of(5, 2, session=b"READROOM02"),
+    heartbeat(16),
+    data_of(14, 2),
+    end(20),
+    data_of(18, 1),
+)
 
 GOOD_SETTINGS = [
     ("as in the document", lines()),

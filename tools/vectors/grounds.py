@@ -9,6 +9,8 @@ from boundary import (
     CLIENT_SIZE,
     CURSOR_SIZE,
     EARLY_SIZE,
+    MISSING_ROOM,
+    MISSING_SIZE,
     RECEIVER_SIZE,
     SERVER_SIZE,
     TRANSMITTER_SIZE,
@@ -25,14 +27,14 @@ from boundary import (
     walk_bytes,
 )
 from capture_rules import START
-from captures import lines
+from captures import lines, record
 from datagrams import ROOM, TWO, data_of, end
 from early_rules import Early
 from lines import room
 from logins import LOGIN, READER, SOUND_RECORD
 from mold_rules import TOP, Receiver, header
 from session_rules import Client, Server
-from sizes import HOLDS, KEPT, SLOTS
+from sizes import EDGES, HOLDS, KEPT, NOTED, SLOTS
 from streams import BLANK, PASSWORD, USER, accepted, login, packet, raw
 
 OTHER = b"READROOM02"
@@ -98,6 +100,9 @@ EARLY = early_bytes(Early(ROOM, 2, 9, False))
 BELOW = ("20", dict(s=early_bytes(Early(ROOM, 3, 9, False))))
 READ_ONLY = [("41 receiver", dict(b=room(EARLY_SIZE - 1))), *OTHER_SLOTS]
 LOOK = dict(a=data_of(5, 1), b=HOLDS, c=SLOTS)
+# edges of another size: a word fewer, and a word more
+OTHER_EDGES = [("19 edges, one word short", dict(c=EDGES[8:])), ("19 edges, one word more", dict(c=EDGES + room(8)))]
+UNREAD = ("41 state", dict(a=room(MISSING_SIZE - 1)))
 
 
 def of_stream(key, letter, other, bad_field):
@@ -372,6 +377,19 @@ LADDERS = [
         "early_deliver",
         dict(a=data_of(1, 3), c=SLOTS, d=places_room(6), s=EARLY),
         [*OF_EARLY[4:], ("41 places", dict(d=places_room(5))), FEW_WORDS],
+    ),
+    (
+        "missing_feed",
+        dict(a=record(data_of(4, 1)), c=EDGES, s=NOTED),
+        [short(MISSING_SIZE), *OTHER_EDGES, FEW_WORDS],
+    ),
+    ("missing_finish", dict(a=record(data_of(4, 1)), c=EDGES, s=NOTED), [short(MISSING_SIZE), *OTHER_EDGES]),
+    ("missing_count", dict(a=NOTED, c=EDGES), [UNREAD, *OTHER_EDGES, FEW_WORDS]),
+    ("missing_range", dict(a=NOTED, c=EDGES, n=0), [UNREAD, *OTHER_EDGES, FEW_WORDS]),
+    (
+        "missing_write",
+        dict(a=NOTED, c=EDGES, s=room(MISSING_ROOM)),
+        [UNREAD, *OTHER_EDGES, output(MISSING_ROOM), FEW_WORDS],
     ),
 ]
 

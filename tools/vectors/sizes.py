@@ -6,7 +6,10 @@ from boundary import (
     CLIENT_SIZE,
     CURSOR_SIZE,
     EARLY_SIZE,
+    EDGES_SIZE,
     FUNCTIONS,
+    MISSING_ROOM,
+    MISSING_SIZE,
     RECEIVER_SIZE,
     SERVER_SIZE,
     TRANSMITTER_SIZE,
@@ -15,19 +18,23 @@ from boundary import (
     cursor_bytes,
     early_bytes,
     lengths_bytes,
+    missing_bytes,
     places_room,
     reading_bytes,
     receiver_bytes,
     server_bytes,
     transmitter_bytes,
     walk_bytes,
+    words_bytes,
 )
 from capture_rules import START
-from captures import lines
+from captures import lines, record
 from datagrams import ROOM, TWO, data_of, heartbeat
 from early_rules import SLOTS_SIZE, Early
 from lines import FILL, room
 from logins import LOGIN, READER, UNSOUND_RECORD
+from missing_edges import Notes
+from missing_edges import Reading as Noting
 from mold_rules import TOP, Receiver, header
 from session_rules import Client, Server
 from streams import BLANK, PASSWORD, USER, accepted, packet, raw
@@ -35,6 +42,10 @@ from streams import BLANK, PASSWORD, USER, accepted, packet, raw
 LONG = b"m" * 4097  # a payload that no packet has
 SLOTS = room(SLOTS_SIZE)
 HOLDS = early_bytes(Early(ROOM, 5, 9, False, {6: b"six"}))  # an early receiver that holds a message
+# edges of missing ranges, with room behind them, and a reading that has noted them
+EDGES = words_bytes([3, 5, 9])
+EDGES += room(EDGES_SIZE - len(EDGES))
+NOTED = missing_bytes(Noting("records", 5, Notes(ROOM, 12, 1, False)))
 # messages that a store keeps or a transmitter sends: one with no bytes
 KEPT = dict(b=lengths_bytes([3, 0, 5, 4]), c=b"onethreefour")
 
@@ -156,6 +167,12 @@ CALLS = {
         dict(a=data_of(5, 1), c=SLOTS, d=places_room(6), s=HOLDS),
         dict(a=data_of(7, 1), c=SLOTS, d=b"", s=HOLDS),
     ],
+    "missing_start": [dict(s=room(MISSING_SIZE))],
+    "missing_feed": [dict(a=record(data_of(4, 1)), c=EDGES, s=NOTED), dict(a=b"", c=EDGES, s=room(MISSING_SIZE))],
+    "missing_finish": [dict(a=record(data_of(4, 1)), c=EDGES, s=NOTED), dict(a=b"", c=EDGES, s=room(MISSING_SIZE))],
+    "missing_count": [dict(a=NOTED, c=EDGES)],
+    "missing_range": [dict(a=NOTED, c=EDGES, n=1)],
+    "missing_write": [dict(a=NOTED, c=EDGES, s=room(MISSING_ROOM))],
 }
 
 

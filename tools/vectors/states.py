@@ -7,6 +7,7 @@ from boundary import (
     CAPTURE_SIZE,
     CODES,
     EARLY_SIZE,
+    MISSING_ROOM,
     NOT_OPEN,
     NOT_OPEN_TOO,
     by_hand,
@@ -32,7 +33,7 @@ from logins import GUEST, LOGIN, READER, SOUND_RECORD
 from mold_rules import TOP, Receiver
 from server import MORE, NOT_AUTHORIZED, STATES, rows
 from session_rules import Client, Server
-from sizes import KEPT
+from sizes import EDGES, KEPT, NOTED
 from streams import BLANK, accepted, login, packet
 
 OPEN_RECEIVER = Receiver(ROOM, 1, 100, False)
@@ -48,6 +49,7 @@ KINDS = {
     "a transmitter": transmitter_bytes((0, 0)),
     "an early receiver": early_bytes(OPEN_EARLY),
     "a walk": walk_bytes((1, 2, 20, 2)),
+    "a reading of what is missing": NOTED,
 }
 # what each kind's function answers to an open state, and to one that isn't; a receiver's own name may differ too
 TAKERS = {
@@ -59,6 +61,7 @@ TAKERS = {
     "a transmitter": ("transmitter_next", dict(a=ROOM, n=6, **KEPT, m=29, d=room(29)), (27,), (54,)),
     "an early receiver": ("early_take", dict(a=TWO, c=SLOTS), ("deliver",), (17, 18)),
     "a walk": ("early_next", dict(a=TWO, b=early_bytes(OPEN_EARLY), c=SLOTS), (1,), (0,)),
+    "a reading of what is missing": ("missing_feed", dict(a=record(heartbeat(1)), c=EDGES), None, None),
 }
 
 
@@ -83,7 +86,7 @@ def kinds(v):
     v.section("first bytes: the kind's code is open, and no other")
     for kind, state in KINDS.items():
         v.heading(kind)
-        for first in sorted({*CODES, NOT_OPEN, 1, NOT_OPEN_TOO, 0xE0, 0xE9, 0xFF}):
+        for first in sorted({*CODES, NOT_OPEN, 1, NOT_OPEN_TOO, 0xE0, 0xEA, 0xFF}):
             taken(v, kind, by_hand(state, first), first == state[0])
     v.section("bytes of zero are never open")
     for taker in TAKERS:
@@ -116,7 +119,9 @@ def made(state):
 
 
 def phases(v):
-    server, client, reading = (KINDS[kind] for kind in ("a server", "a client", "a reading"))
+    server, client, reading, noting = (
+        KINDS[kind] for kind in ("a server", "a client", "a reading", "a reading of what is missing")
+    )
     v.section("phases made by hand: a debug packet, which lays the state in its form where it is taken")
     for state in made(server):
         answer = v.ask("server_step", a=READER, b=packet(b"+"), s=state)
@@ -137,6 +142,14 @@ def phases(v):
         v.ask("capture_feed", a=record(heartbeat(1)), c=SLOTS, s=state)
         v.ask("capture_finish", a=b"", c=SLOTS, s=state)
         v.ask("capture_write", a=state, s=room(120))
+    for state in made(noting):
+        fed = v.ask("missing_feed", (0,), a=b"", c=EDGES, s=state)
+        assert fed.said[1] or fed.lent == state
+        v.ask("missing_feed", a=record(heartbeat(20)), c=EDGES, s=state)
+        v.ask("missing_finish", a=b"", c=EDGES, s=state)
+        v.ask("missing_count", a=state, c=EDGES)
+        v.ask("missing_range", a=state, c=EDGES, n=1)
+        v.ask("missing_write", a=state, c=EDGES, s=room(MISSING_ROOM))
     v.heading("before its settings, with a receiver made by hand: too few bytes change none of it")
     counted = by_hand(reading, reading[0], 1)
     assert v.ask("capture_feed", (0, 0), a=bytes(56), c=SLOTS, s=counted).lent == counted

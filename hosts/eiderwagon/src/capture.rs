@@ -98,6 +98,18 @@ pub enum Stage {
     SettingsRefused,
 }
 
+impl Stage {
+    /// The stage that a byte means, in a state that is open or not.
+    pub(crate) fn of(open: bool, byte: u8) -> Self {
+        match (open, byte) {
+            (true, raw::CAPTURE_RECORDS) => Stage::Records,
+            (true, _) => Stage::Settings,
+            (false, raw::CAPTURE_DONE) => Stage::Done,
+            (false, _) => Stage::SettingsRefused,
+        }
+    }
+}
+
 /// What a reading has counted so far.
 #[derive(Clone, Copy, Debug, Default, PartialEq, Eq)]
 pub struct Counts {
@@ -148,12 +160,7 @@ impl Reading {
     /// How far it is.
     pub fn stage(&self) -> Stage {
         let open = self.state[raw::CAPTURE_CODE_AT] == raw::CAPTURE_OPEN;
-        match (open, self.state[raw::CAPTURE_STAGE_AT]) {
-            (true, raw::CAPTURE_RECORDS) => Stage::Records,
-            (true, _) => Stage::Settings,
-            (false, raw::CAPTURE_DONE) => Stage::Done,
-            (false, _) => Stage::SettingsRefused,
-        }
+        Stage::of(open, self.state[raw::CAPTURE_STAGE_AT])
     }
 
     /// What it has counted so far.

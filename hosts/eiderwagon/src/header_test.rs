@@ -85,7 +85,7 @@ fn the_functions_are_the_headers() {
     let ours: Vec<_> = raw::SIGNATURES.iter().copied().map(tight).collect();
     let theirs: Vec<_> = functions(&header()).iter().map(|(n, p)| tight((n, p))).collect();
     assert_same(&ours, &theirs);
-    assert_eq!(ours.len(), 48);
+    assert_eq!(ours.len(), 54);
 }
 
 #[test]

@@ -70,6 +70,7 @@
 mod call;
 pub mod capture;
 pub mod early;
+pub mod missing;
 pub mod mold;
 #[allow(unsafe_code)]
 pub mod raw;
@@ -105,6 +106,10 @@ pub type Session = [u8; raw::SESSION_SIZE];
 ///
 /// ```compile_fail
 /// eiderwagon::capture::Reading::start().clone();
+/// ```
+///
+/// ```compile_fail
+/// eiderwagon::missing::Missing::start().clone();
 /// ```
 ///
 /// ```compile_fail

@@ -200,6 +200,8 @@ constants! {
     SLOT_SIZE: usize = 1024;
     /// The 64 slots of a receiver that keeps early messages, in bytes.
     SLOTS_SIZE: usize = 65536;
+    /// A buffer that the text of what is missing needs, however short it is, in bytes.
+    MISSING_TEXT: usize = 204898;
 
     /// Offset in a cursor: its code, or no messages are left (1).
     CURSOR_CODE_AT: usize = 0;
@@ -343,6 +345,27 @@ constants! {
     CAPTURE_RECORDS: u8 = 2;
     /// A capture's stage: done.
     CAPTURE_DONE: u8 = 3;
+
+    /// Offset in a reading for what is missing: its code, or it is over (1).
+    MISSING_CODE_AT: usize = 0;
+    /// Offset in a reading for what is missing: its stage (1), as [`CAPTURE_STAGE_AT`] has it.
+    MISSING_STAGE_AT: usize = 1;
+    /// Offset in a reading for what is missing: session (10).
+    MISSING_SESSION_AT: usize = 2;
+    /// Offset in a reading for what is missing: the highest next number so far (8).
+    MISSING_HIGHEST_AT: usize = 12;
+    /// Offset in a reading for what is missing: records that may still be read (8).
+    MISSING_LEFT_AT: usize = 20;
+    /// Offset in a reading for what is missing: ranges that have both edges (8).
+    MISSING_CLOSED_AT: usize = 28;
+    /// Offset in a reading for what is missing: 0, or the ranges were refused (1).
+    MISSING_REFUSED_AT: usize = 36;
+    /// A reading for what is missing, in bytes.
+    MISSING_SIZE: usize = 37;
+    /// The code of a reading for what is missing that isn't over.
+    MISSING_OPEN: u8 = 0xE9;
+    /// The words of its edges: two for each of 4,096 ranges, and one.
+    MISSING_EDGES: usize = 8193;
 
     /// Word of every writer: how many bytes of the output were written.
     WRITE_SIZE: usize = 0;
@@ -581,6 +604,23 @@ constants! {
     FEED_OVER: usize = 1;
     /// How many words [`capture_feed`] has.
     FEED_WORDS: usize = 2;
+
+    /// Word of [`missing_count`]: 1 if settings were read and the ranges weren't refused, else 0.
+    MISSING_COUNT_LISTED: usize = 0;
+    /// Word of [`missing_count`]: how many ranges are missing so far.
+    MISSING_COUNT_RANGES: usize = 1;
+    /// Word of [`missing_count`]: how many numbers they have.
+    MISSING_COUNT_NUMBERS: usize = 2;
+    /// How many words [`missing_count`] has.
+    MISSING_COUNT_WORDS: usize = 3;
+    /// Word of [`missing_range`]: 1 if a range is there, else 0.
+    MISSING_RANGE_FOUND: usize = 0;
+    /// Word of [`missing_range`]: its first number.
+    MISSING_RANGE_FROM: usize = 1;
+    /// Word of [`missing_range`]: its last number.
+    MISSING_RANGE_TO: usize = 2;
+    /// How many words [`missing_range`] has.
+    MISSING_RANGE_WORDS: usize = 3;
 }
 
 /// The number of a refusal in a returned code, or [`OK`]: its low 8 bits.
@@ -709,6 +749,19 @@ exported! {
     capture_write(state: &[u8], out: &mut [u8], words: &mut [u64]);
     /// Writes the report of a whole capture. Words: how many bytes.
     capture_report(capture: &[u8], out: &mut [u8], words: &mut [u64]);
+
+    /// Starts the reading of a capture for what is missing.
+    missing_start(state: &mut [u8]);
+    /// Feeds bytes of a capture. Words: those of [`capture_feed`].
+    missing_feed(state: &mut [u8], edges: &mut [u64], bytes: &[u8], words: &mut [u64]);
+    /// Feeds the last bytes of a capture.
+    missing_finish(state: &mut [u8], edges: &mut [u64], bytes: &[u8]);
+    /// Says what is missing so far. Words: 1 if ranges are listed, how many, and how many numbers.
+    missing_count(state: &[u8], edges: &[u64], words: &mut [u64]);
+    /// Finds a missing range by its place. Words: 1 if it is there, its first and its last number.
+    missing_range(state: &[u8], edges: &[u64], place: u64, words: &mut [u64]);
+    /// Writes what is missing so far. Words: how many bytes.
+    missing_write(state: &[u8], edges: &[u64], out: &mut [u8], words: &mut [u64]);
 }
 
 #[cfg(test)]
