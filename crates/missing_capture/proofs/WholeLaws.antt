@@ -2,18 +2,28 @@
 use mathlib.Core.Path.{_≡_, refl, ap, sym, _∙_}
 use mathlib.Core.List.{List, [], _∷_, _++_}
 use mathlib.Core.Bool.{Bool, true, false}
-use Prim.Native.Nat.{ℕ, zero, suc, _-_, _≤_}
+use Prim.Native.Nat.{ℕ, zero, suc, _+_, _-_, _≤_}
 use native.Mathlib.Omega.{arith}
 use lib.ListN.{length, replicate, length-replicate}
 use borrow.Author.Tests.{eq-eqb, ne-eqb}
 use Rattle.wire.specs.Bytes.{joined}
+use Rattle.wire.specs.Words.{says}
+use Rattle.wire.specs.Output.{put, wrote, writtenWords, writeAnswer, Writes}
+use Rattle.wire.specs.declared.refusal.Refusal.{Refusal}
+use Rattle.wire.specs.declared.output.Written.{Written}
+use Rattle.wire.specs.declared.output.Written.the-variants.{Wrote}
+use Rattle.wire.specs.declared.output.Written.the-variants as written
+use Rattle.wire.proofs.Words.{which-of}
+use Rattle.wire.proofs.Outputs.{length-put, wrote-so, wrote-front, writes-done}
 use Rattle.wire.proofs.Cases.{zero-or-not}
 use Rattle.capture_settings.specs.Settings.{settingsOf}
 use Rattle.capture_settings.specs.Statements.{Good}
 use Rattle.capture_settings.proofs.TextLaws.{settings-promises}
 use Rattle.capture_lines.specs.Lines.{settingsRefused}
+use Rattle.capture_lines.proofs.LineLaws.{refused-fits}
 use Rattle.capture_records.specs.Records.{mostRecords, restOf, recordsOf}
-use Rattle.capture_events.specs.declared.place.Place.the-variants.{Settings, Done, Refused}
+use Rattle.capture_events.specs.declared.place.Place.{Place}
+use Rattle.capture_events.specs.declared.place.Place.the-variants.{Settings, Records, Done, Refused}
 use Rattle.capture_events.specs.Events.{opened, fold, datagrams, settings, records, isOverAt, endAt, readLast}
 use Rattle.capture_events.specs.Next.{atOf}
 use Rattle.capture_events.specs.Turns as Events
@@ -24,10 +34,12 @@ use Rattle.missing_ranges.specs.Notes as ranges
 use Rattle.missing_records.specs.Records.{LentNotes, lentNotes, lentIn, startNotes, over}
 use Rattle.missing_records.specs.Promises.{ListsWhatIsMissing, TotalIsExact}
 use Rattle.missing_records.proofs.OverLaws.{record-promises, session-stays, usable-after, refused-agree, ranges-agree}
-use Rattle.missing_text.specs.Text.{listText, tooManyText, missingText}
-use Rattle.missing_capture.specs.Reading.{noNotes, startReading, LentReading, lentReading, readingWith, notesIn, noted, placeAt, endedBy, finishOf, textAt, textOf}
+use Rattle.missing_text.specs.Text.{listText, tooManyText, missingText, room, roomGround}
+use Rattle.missing_text.proofs.TextLaws.{missing-fits, with-room}
+use Rattle.missing_capture.specs.declared.reading.Reading.{Reading}
+use Rattle.missing_capture.specs.Reading.{noNotes, startReading, LentReading, lentReading, readingWith, notesIn, noted, placeAt, endedBy, finishOf, textAt, textOf, PrintsIn}
 use Rattle.missing_capture.specs.Turning.{turning, startTurning, lentTurning, turnAt, turnedOf}
-use Rattle.missing_capture.specs.Whole.{sessionIn, startIn, datagramsIn, captureOf, captureText, Printed, bad, listed, too-many, PrintsWhatIsMissing, AnyWords, AnyCutting, AnyTurns, EndIsOver, CapturePromises}
+use Rattle.missing_capture.specs.Whole.{sessionIn, startIn, datagramsIn, captureOf, captureText, Printed, bad, listed, too-many, PrintsWhatIsMissing, AnyWords, IsTheFold, FitsTheRoom, AnyCutting, AnyTurns, EndIsOver, CapturePromises}
 use Rattle.missing_capture.proofs.ReadLaws.{end-notes, at-place}
 use Rattle.missing_capture.proofs.FoldLaws.{fold-datagrams, pieces-fold, turns-fold, keeps-little, over-stays}
 
@@ -180,14 +192,64 @@ unfolding EndIsOver turnedOf Events.EndIsOver
 end-is-over s m =
     ap isOverAt (at-place (turnAt (s .turning) m 0 .at)) ∙ turn-promises .end-is-over (atOf (s .turning .reading .place)) m (s .turning .have)
 
+-- ---- the room
+
+fits : (p : Place) (x : LentNotes) → length (x .notes .session) ≡ 10 → length (textAt p x) ≤ room
+unfolding textAt
+fits Settings x e = omega (arith, refused-fits)
+fits (Records k) x e = missing-fits (x .notes .session) (lentIn x) e
+fits Done x e = missing-fits (x .notes .session) (lentIn x) e
+fits Refused x e = omega (arith, refused-fits)
+
+fits-the-room : FitsTheRoom
+unfolding FitsTheRoom
+fits-the-room s e = fits (s .reading .place) (notesIn s) e
+
+is-the-fold : IsTheFold
+unfolding IsTheFold
+is-the-fold = finish-whole
+
 pub capture-promises : CapturePromises
 capture-promises =
     record {
       prints-what-is-missing = prints;
       any-words = any-words;
+      is-the-fold = is-the-fold;
       any-cutting = any-cutting;
       any-turns = any-turns;
       end-is-over = end-is-over;
       keeps-little = keeps-little;
       over-stays = over-stays;
+      fits-the-room = fits-the-room;
     }
+
+-- ---- as the code of `printed` has it
+
+module _ (s : Reading) (es l m : List ℕ) (w : Written) (h : Writes w l m (roomGround l) 0 (textOf (lentReading s es))) where
+  pub printed-so : (k : ℕ) → w ≡ Wrote k → PrintsIn k l m (textOf (lentReading s es))
+  unfolding writtenWords
+  printed-so k e =
+      let t = textOf (lentReading s es) in
+      let a : writeAnswer (roomGround l) l 0 t ≡ says wrote (k ∷ []) = sym (h .answers) ∙ ap writtenWords e in
+      let o = wrote-so (roomGround l) l 0 t k a in
+      let b : m ≡ put l 0 t = rw (o .no-ground) at (h .leaves) in
+      let n : length m ≡ length l = ap length b ∙ length-put l 0 t in
+      record {
+        whole = λ r. rw (h .leaves) (wrote-front (roomGround l) l t k a);
+        within = omega (arith, o .room, o .size);
+      }
+
+  pub printed-not : (q : Refusal) → w ≡ written.Refused q → length (s .notes .session) ≡ 10 → PrintsIn 0 l m (textOf (lentReading s es))
+  unfolding writtenWords
+  printed-not q e ten =
+      let t = textOf (lentReading s es) in
+      record {
+        whole = λ r.
+            let d = with-room w l m t r h in
+            let f : 0 + length t ≤ length l = omega (arith, fits (s .place) (lentNotes (s .notes) es) ten) in
+            let a = writes-done l 0 t m f (d .leaves) .answers in
+            let v = which-of (sym (ap writtenWords e) ∙ d .answers ∙ sym a) in
+            let z : _≡_ {A = ℕ} 0 1 = cc in
+            absurd (omega arith);
+        within = omega arith;
+      }

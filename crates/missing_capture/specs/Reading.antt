@@ -1,7 +1,9 @@
 -- A capture read piece by piece, as a list of bytes: what is noted is a fold over its events.
-use Prim.Native.Nat.{ℕ}
+use Prim.Native.Nat.{ℕ, _≤_}
 use mathlib.Core.List.{List}
 use mathlib.Core.Bool.{true}
+use mathlib.Core.Path.{_≡_}
+use lib.ListN.{length, take}
 use Rattle.wire.specs.Bounds.{blank}
 use Rattle.capture_lines.specs.Lines.{settingsRefused}
 use Rattle.capture_events.specs.declared.place.Place.{Place}
@@ -12,7 +14,7 @@ use Rattle.capture_events.specs.Next.{atOf}
 use Rattle.missing_ranges.specs.Notes.{missing}
 use Rattle.missing_records.specs.declared.Notes.{Notes}
 use Rattle.missing_records.specs.Records.{LentNotes, lentNotes, lentIn, startNotes, takeOf}
-use Rattle.missing_text.specs.Text.{missingText}
+use Rattle.missing_text.specs.Text.{missingText, room}
 use Rattle.missing_capture.specs.declared.reading.Reading.{Reading}
 use Rattle.missing_capture.specs.declared.reading.Fed.{Fed}
 
@@ -106,3 +108,9 @@ textAt Refused x = settingsRefused
 
 abbrev pub textOf : LentReading → List ℕ
 textOf s = textAt (s .reading .place) (notesIn s)
+
+-- a text stands whole at the front of the output l, which became m, where that has room for any text; and is no longer
+-- than that
+pub record PrintsIn (size : ℕ) (l m text : List ℕ) : Type 0 where
+  pub whole : room ≤ length l → take size m ≡ text
+  pub within : size ≤ length m

@@ -3,9 +3,10 @@ use Prim.Native.Nat.{ℕ, _≤_}
 use mathlib.Core.List.{List, [], _∷_, _++_}
 use mathlib.Core.Bool.{true}
 use mathlib.Core.Path.{_≡_}
-use lib.ListN.{length, take, drop, replicate}
+use lib.ListN.{length, drop, replicate}
 use lib.Dec.{eqb}
 use Rattle.wire.specs.Choice.{if_then_else_}
+use Rattle.wire.specs.Bounds.{sessionSize}
 use Rattle.wire.specs.Bytes.{joined, AreBytes}
 use Rattle.capture_settings.specs.Settings.{settingsOf}
 use Rattle.capture_records.specs.Records.{recordsOf}
@@ -16,7 +17,7 @@ use Rattle.capture_events.specs.Next.{atOf}
 use Rattle.capture_events.specs.Turns.{Fit, mostKept}
 use Rattle.missing_ranges.specs.Edges.{Range, totalFrom, listedBelow}
 use Rattle.missing_ranges.specs.Notes as ranges
-use Rattle.missing_records.specs.Records.{LentNotes, lentNotes, startNotes, over}
+use Rattle.missing_records.specs.Records.{lentNotes, startNotes, over}
 use Rattle.missing_records.specs.Promises.{highestOf, ListsMissing, NeedsMoreWithin}
 use Rattle.missing_text.specs.Text.{listText, tooManyText, room}
 use Rattle.missing_capture.specs.Reading.{noNotes, startReading, LentReading, lentReading, readingWith, fedReading}
@@ -66,6 +67,10 @@ PrintsWhatIsMissing = (l : List ℕ) → Printed l
 unfoldable pub AnyWords : Type 0
 AnyWords = (words l : List ℕ) → ranges.room ≤ length words → textOf (captureOf words l) ≡ captureText l
 
+-- a fresh reading that is given all bytes at once is the whole capture's: a fold over its events
+unfoldable pub IsTheFold : Type 0
+IsTheFold = (words l : List ℕ) → finishOf (lentReading startReading words) l ≡ captureOf words l
+
 -- ---- pieces
 
 -- what a program does with pieces ps, where it kept the bytes l: each piece is fed behind what was kept, and what
@@ -89,6 +94,10 @@ AnyTurns = (words m : List ℕ) (ps : List (List ℕ)) → Fit settings m 0 ps
 unfoldable pub EndIsOver : Type 0
 EndIsOver = (s : LentTurning) (m : List ℕ) → isOverAt (atOf (turnedOf s m 0 .turning .reading .place)) ≡ true
 
+-- every text fits: what any reading prints whose name has ten bytes, as its type holds
+unfoldable pub FitsTheRoom : Type 0
+FitsTheRoom = (s : LentReading) → length (s .reading .notes .session) ≡ sessionSize → length (textOf s) ≤ room
+
 -- feeding uses what is there but for less than a record, so that the memory needed is constant
 pub record KeepsLittle (s : LentReading) (l : List ℕ) : Type 0 where
   pub used-within : feedOf s l .fed .used ≤ length l
@@ -102,8 +111,10 @@ OverStays = (s : LentReading) (l : List ℕ) → isOverAt (atOf (s .reading .pla
 pub record CapturePromises : Type 0 where
   pub prints-what-is-missing : PrintsWhatIsMissing
   pub any-words : AnyWords
+  pub is-the-fold : IsTheFold
   pub any-cutting : AnyCutting
   pub any-turns : AnyTurns
   pub end-is-over : EndIsOver
   pub keeps-little : (s : LentReading) (l : List ℕ) → KeepsLittle s l
   pub over-stays : OverStays
+  pub fits-the-room : FitsTheRoom

@@ -22,7 +22,7 @@ ghost use Rattle.capture_events.specs.Next.{atOf, eventsIn};
 ghost use Rattle.missing_records.specs.Records.{lentNotes};
 ghost use Rattle.missing_text.specs.Text.{roomGround};
 ghost use Rattle.missing_capture.specs.Reading.{startReading, lentReading, lentFed, noted, fedBy, feedOf};
-ghost use Rattle.missing_capture.specs.Reading.{finishOf, textOf};
+ghost use Rattle.missing_capture.specs.Reading.{finishOf, textOf, PrintsIn};
 ghost use Rattle.missing_capture.specs.Whole.{CapturePromises};
 
 // How far a capture was read, and what is noted of its session.
@@ -165,6 +165,17 @@ impl Reading {
             Place::Records { left: _ } => text::write(out, name, edges, missing),
             Place::Done => text::write(out, name, edges, missing),
             Place::Refused => capture_lines::put_refused(out, b"settings="),
+        }
+    }
+
+    // Lays what it prints at the front of an output, and answers how many bytes that is: all of it, where the output has
+    // room for any text.
+    pub fn printed(self, edges: &[u64], out: &mut [u8]) -> usize
+        ensures { λ r. ⌜ PrintsIn r (now (out .entry)) (now (out .exit)) (textOf (lentReading self (now (edges .entry)))) ⌝ }
+    {
+        match self.write(edges, out) {
+            Written::Wrote { size } => size,
+            Written::Refused(_) => 0,
         }
     }
 }
