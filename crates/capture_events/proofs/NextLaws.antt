@@ -25,11 +25,27 @@ use Rattle.capture_events.specs.declared.place.Found.{Found}
 use Rattle.capture_events.specs.declared.place.Found.the-variants as found
 use Rattle.capture_events.specs.declared.place.Next.{Next}
 use Rattle.capture_events.specs.Events.{Event, opened, bad-settings, datagram, fold, datagrams, At, settings, records, done, refused, isOverAt, Read, reads, readTo, readRecords, readBehind, readSettings, readOn, waitsAt, endAt}
-use Rattle.capture_events.specs.Next.{atOf, nextOf, isFound, eventsIn, readBy, isNone, withRest, OneByOne}
+use Rattle.capture_events.specs.Next.{atOf, placeAt, nextOf, isFound, eventsIn, readBy, isNone, withRest, OneByOne, EndsAt}
 use Rattle.capture_events.proofs.EventLaws.{fold-joins, size-within, settings-so, settings-bad, behind}
 
 abbrev next : Found → declared.Settings → Place → ℕ → Next
 next f s p n = record { event = f; settings = s; place = p; used = n }
+
+-- ---- places
+
+pub place-at : (p : Place) → placeAt (atOf p) ≡ p
+unfolding placeAt atOf
+place-at Settings = refl
+place-at (Records k) = refl
+place-at Done = refl
+place-at Refused = refl
+
+pub at-place : (a : At) → atOf (placeAt a) ≡ a
+unfolding placeAt atOf
+at-place settings = refl
+at-place (records k) = refl
+at-place done = refl
+at-place refused = refl
 
 -- ---- the settings: o is what was read of l
 
@@ -116,21 +132,21 @@ module _ (p : Place) where
   unfolding atOf waitsAt
   waits-refused n e = rw e
 
-  pub end-settings : p ≡ Settings → atOf Settings ≡ endAt (atOf p) 0 .at
+  pub end-settings : p ≡ Settings → EndsAt p Settings
   unfolding atOf endAt
-  end-settings e = rw e
+  end-settings e n = rw e
 
-  pub end-records : (k : ℕ) → p ≡ Records k → atOf Done ≡ endAt (atOf p) 0 .at
+  pub end-records : (k : ℕ) → p ≡ Records k → EndsAt p Done
   unfolding atOf endAt
-  end-records k e = rw e
+  end-records k e n = rw e (zero-or-not _ n (λ h. rw (eq-eqb _ _ h)) (λ h. rw (ne-eqb _ _ h)))
 
-  pub end-done : p ≡ Done → atOf Done ≡ endAt (atOf p) 0 .at
+  pub end-done : p ≡ Done → EndsAt p Done
   unfolding atOf endAt
-  end-done e = rw e
+  end-done e n = rw e
 
-  pub end-refused : p ≡ Refused → atOf Refused ≡ endAt (atOf p) 0 .at
+  pub end-refused : p ≡ Refused → EndsAt p Refused
   unfolding atOf endAt
-  end-refused e = rw e
+  end-refused e n = rw e
 
 module _ (f : Found) where
   pub found-nothing : f ≡ found.Nothing → false ≡ isFound f

@@ -16,7 +16,7 @@ use Rattle.capture_events.specs.declared.place.Found.{Found}
 use Rattle.capture_events.specs.declared.place.Found.the-variants.{Nothing, Opened, BadSettings, Datagram}
 use Rattle.capture_events.specs.declared.place.Next.{Next}
 use Rattle.capture_events.specs.Events.{Event, opened, bad-settings, datagram, At, settings, records, done, refused}
-use Rattle.capture_events.specs.Events.{Read, reads, readOn}
+use Rattle.capture_events.specs.Events.{Read, reads, readOn, endAt}
 
 -- what comes next of a capture
 unfoldable pub atOf : Place → At
@@ -24,6 +24,13 @@ atOf Settings = settings
 atOf (Records left) = records left
 atOf Done = done
 atOf Refused = refused
+
+-- and back
+unfoldable pub placeAt : At → Place
+placeAt settings = Settings
+placeAt (records k) = Records k
+placeAt done = Done
+placeAt refused = Refused
 
 -- the event in front of l, or none; what comes next then; and how many bytes were used
 unfoldable pub nextOf : At → List ℕ → Read
@@ -54,6 +61,10 @@ eventsIn Datagram s l = datagram (drop lengthSize l) ∷ []
 
 abbrev pub readBy : Next → List ℕ → Read
 readBy r l = reads (atOf (r .place)) (eventsIn (r .event) (r .settings) (take (r .used) l)) (r .used)
+
+-- what comes next at the end of the input, however many bytes are left
+abbrev pub EndsAt : Place → Place → Type 0
+EndsAt p r = (n : ℕ) → atOf r ≡ endAt (atOf p) n .at
 
 -- ---- what is promised
 

@@ -8,8 +8,8 @@ use wire::kinds;
 use wire::kinds::MessageCount;
 use wire::kinds::SequenceNumber;
 ghost use mathlib.Core.Path.{_≡_};
-ghost use Rattle.capture_events.specs.Events.{settings, records, isOverAt, waitsAt, endAt};
-ghost use Rattle.capture_events.specs.Next.{atOf, nextOf, isFound, readBy, OneByOne};
+ghost use Rattle.capture_events.specs.Events.{settings, records, isOverAt, waitsAt};
+ghost use Rattle.capture_events.specs.Next.{atOf, nextOf, isFound, readBy, OneByOne, EndsAt};
 
 // What comes next of a capture: its settings, or records, so many at most; or nothing, at its end or where its settings
 // are refused.
@@ -22,7 +22,7 @@ pub enum Place {
 
 // The event in front of some bytes.
 pub enum Found {
-    // Nothing that can be told yet.
+    // None: a record that isn't whole yet, or bytes that are passed over.
     Nothing,
     Opened,
     BadSettings,
@@ -30,7 +30,8 @@ pub enum Found {
     Datagram,
 }
 
-// An event, with the settings where they were opened; what comes next then; and how many bytes were used.
+// An event; the settings, which mean something where they were opened alone; what comes next then; and how many bytes
+// were used.
 pub struct Next {
     pub event: Found,
     pub settings: Settings,
@@ -158,9 +159,9 @@ impl Place {
         }
     }
 
-    // The end of the input, where a record may be cut short.
+    // What comes next at the end of the input, however many bytes are left: those of a record that is cut short.
     pub fn end(self) -> Place
-        ensures { λ r. ⌜ atOf r ≡ endAt (atOf self) 0 .at ⌝ }
+        ensures { λ r. ⌜ EndsAt self r ⌝ }
     {
         match self {
             Place::Settings => Place::Settings,

@@ -10,25 +10,25 @@ use Rattle.wire.specs.Output.{put}
 use Rattle.capture_events.specs.declared.place.Place.{Place}
 use Rattle.capture_events.specs.declared.place.Place.the-variants.{Settings, Records, Done, Refused}
 use Rattle.capture_events.specs.Events.{Event, datagrams, fold, At, isOverAt, readOn, waitsAt, readPiece, End, ends, andThen, endAt, readLast}
-use Rattle.capture_events.specs.Next.{atOf}
+use Rattle.capture_events.specs.Next.{atOf, placeAt}
 use Rattle.capture_events.specs.Turns.{Turn, turnWith}
 use Rattle.capture_events.specs.Turns as Events
 use Rattle.capture_events.proofs.EventLaws.{fold-joins, piece-used}
 use Rattle.capture_events.proofs.TurnLaws.{little-piece}
 use Rattle.missing_records.specs.Records.{LentNotes, takeOf, over}
-use Rattle.missing_capture.specs.Reading.{LentReading, readingWith, fedReading, fedWith, notesIn, noted, placeAt, readingAfter, feedOf, endedBy, finishOf}
+use Rattle.missing_capture.specs.Reading.{LentReading, readingWith, fedReading, fedWith, notesIn, notedBy, readingAfter, feedOf, endedBy, finishOf}
 use Rattle.missing_capture.specs.Turning.{LentTurning, turnedReading, turnAt, turnedOf, bufferOf, turnedBy, byTurns}
 use Rattle.missing_capture.specs.Whole.{byPieces, KeepsLittle, OverStays}
-use Rattle.missing_capture.proofs.ReadLaws.{at-place}
+use Rattle.capture_events.proofs.NextLaws.{at-place}
 
-pub fold-datagrams : (x : LentNotes) (ds : List (List ℕ)) → fold noted x (datagrams ds) ≡ over x ds
-unfolding fold datagrams noted over
+pub fold-datagrams : (x : LentNotes) (ds : List (List ℕ)) → fold notedBy x (datagrams ds) ≡ over x ds
+unfolding fold datagrams notedBy over
 fold-datagrams x [] = refl
 fold-datagrams x (d ∷ ds) = fold-datagrams (takeOf x d) ds
 
 -- the end of a fold that goes on
-ended-then : (x : LentNotes) (es : List Event) (e : End) → endedBy (fold noted x es) e ≡ endedBy x (andThen es e)
-ended-then x es e = ap (readingWith (placeAt (e .at))) (sym (fold-joins noted x es (e .events)))
+ended-then : (x : LentNotes) (es : List Event) (e : End) → endedBy (fold notedBy x es) e ≡ endedBy x (andThen es e)
+ended-then x es e = ap (readingWith (placeAt (e .at))) (sym (fold-joins notedBy x es (e .events)))
 
 -- ---- pieces
 
@@ -41,7 +41,7 @@ pieces-fold s l [] = refl
 pieces-fold s l (p ∷ ps) =
     let r = readPiece (placeIn s) (l ++ p) in
     pieces-fold (fedReading (feedOf s (l ++ p))) (drop (feedOf s (l ++ p) .fed .used) (l ++ p)) ps
-    ∙ ap (λ (a : At). endedBy (fold noted (notesIn s) (r .events)) (Events.byPieces a (drop (r .used) (l ++ p)) ps)) (at-place (r .at))
+    ∙ ap (λ (a : At). endedBy (fold notedBy (notesIn s) (r .events)) (Events.byPieces a (drop (r .used) (l ++ p)) ps)) (at-place (r .at))
     ∙ ended-then (notesIn s) (r .events) (Events.byPieces (r .at) (drop (r .used) (l ++ p)) ps)
 
 -- ---- turns
@@ -74,7 +74,7 @@ turns-fold s m (p ∷ ps) = go (isOverAt (next s m p .at)) refl (turns-fold (tur
     go false e i =
         rw (at-place (next s m p .at), e)
         (i
-        ∙ ap (λ (a : At). endedBy (fold noted (notesIn (turnedReading s)) (next s m p .events)) (Events.byTurns a (next s m p .buffer) (next s m p .have) ps)) (tells-turn s (put m (have s) p) (length p))
+        ∙ ap (λ (a : At). endedBy (fold notedBy (notesIn (turnedReading s)) (next s m p .events)) (Events.byTurns a (next s m p .buffer) (next s m p .have) ps)) (tells-turn s (put m (have s) p) (length p))
         ∙ ended-then (notesIn (turnedReading s)) (next s m p .events) (Events.byTurns (next s m p .at) (next s m p .buffer) (next s m p .have) ps))
 
 -- ---- what is kept, and what is over

@@ -22,9 +22,9 @@ use Rattle.capture_events.specs.declared.place.Found.{Found}
 use Rattle.capture_events.specs.declared.place.Found.the-variants as found
 use Rattle.capture_events.specs.declared.place.Next.{Next}
 use Rattle.capture_events.specs.Events.{Event, opened, bad-settings, datagram, cut-short, fold, At, settings, records, done, refused, Read, readOn, waitsAt, readPiece, endAt, readLast}
-use Rattle.capture_events.specs.Next.{atOf, nextOf, isFound, eventsIn, readBy, isNone, withRest}
+use Rattle.capture_events.specs.Next.{atOf, placeAt, nextOf, isFound, eventsIn, readBy, isNone, withRest, EndsAt}
 use Rattle.capture_events.proofs.EventLaws.{fold-joins}
-use Rattle.capture_events.proofs.NextLaws.{Going, going-start, going-next, going-less, going-folded, going-at, going-used}
+use Rattle.capture_events.proofs.NextLaws.{place-at, at-place, Going, going-start, going-next, going-less, going-folded, going-at, going-used}
 use Rattle.missing_records.specs.declared.Notes.{Notes}
 use Rattle.missing_ranges.specs.Notes.{lent, startIn}
 use Rattle.missing_records.specs.Records.{LentNotes, lentNotes, startNotes, takeOf}
@@ -33,23 +33,9 @@ use Rattle.missing_text.specs.Text.{missingText, room, roomGround}
 use Rattle.missing_text.proofs.TextLaws.{no-ground, write-short}
 use Rattle.missing_capture.specs.declared.reading.Reading.{Reading}
 use Rattle.missing_capture.specs.declared.reading.Fed.{Fed}
-use Rattle.missing_capture.specs.Reading.{reading, fed, noNotes, startReading, lentReading, LentFed, lentFed, notesIn, noted, placeAt, readingAfter, fedBy, feedOf, finishOf, textAt, textOf}
+use Rattle.missing_capture.specs.Reading.{reading, fed, noNotes, startReading, lentReading, LentFed, lentFed, notesIn, notedBy, readingAfter, fedBy, feedOf, finishOf, textAt, textOf}
 
--- ---- places
-
-pub place-at : (p : Place) → placeAt (atOf p) ≡ p
-unfolding placeAt atOf
-place-at Settings = refl
-place-at (Records k) = refl
-place-at Done = refl
-place-at Refused = refl
-
-pub at-place : (a : At) → atOf (placeAt a) ≡ a
-unfolding placeAt atOf
-at-place settings = refl
-at-place (records k) = refl
-at-place done = refl
-at-place refused = refl
+-- ---- the start
 
 pub start-reading : reading Settings noNotes ≡ startReading
 unfolding startReading
@@ -64,21 +50,21 @@ pub datagram-some : (l : List ℕ) → take (length l - 2) (drop 2 l) ≡ drop 2
 datagram-some l = part-to-end 2 l
 
 module _ (x : Notes) (l : List ℕ) (f : Found) (s : declared.Settings) (bs : List ℕ) where
-  pub note-nothing : f ≡ found.Nothing → lentNotes x l ≡ fold noted (lentNotes x l) (eventsIn f s bs)
+  pub note-nothing : f ≡ found.Nothing → lentNotes x l ≡ fold notedBy (lentNotes x l) (eventsIn f s bs)
   unfolding fold eventsIn
   note-nothing e = rw e
 
-  pub note-bad : f ≡ found.BadSettings → lentNotes x l ≡ fold noted (lentNotes x l) (eventsIn f s bs)
-  unfolding fold eventsIn noted
+  pub note-bad : f ≡ found.BadSettings → lentNotes x l ≡ fold notedBy (lentNotes x l) (eventsIn f s bs)
+  unfolding fold eventsIn notedBy
   note-bad e = rw e
 
   module _ (y : Notes) (m : List ℕ) where
-    pub note-opened : f ≡ found.Opened → lentNotes y m ≡ startNotes (s .session) l (s .next .0) → lentNotes y m ≡ fold noted (lentNotes x l) (eventsIn f s bs)
-    unfolding fold eventsIn noted
+    pub note-opened : f ≡ found.Opened → lentNotes y m ≡ startNotes (s .session) l (s .next .0) → lentNotes y m ≡ fold notedBy (lentNotes x l) (eventsIn f s bs)
+    unfolding fold eventsIn notedBy
     note-opened e g = rw e g
 
-    pub note-datagram : (d : List ℕ) → f ≡ found.Datagram → d ≡ drop 2 bs → lentNotes y m ≡ takeOf (lentNotes x l) d → lentNotes y m ≡ fold noted (lentNotes x l) (eventsIn f s bs)
-    unfolding fold eventsIn noted
+    pub note-datagram : (d : List ℕ) → f ≡ found.Datagram → d ≡ drop 2 bs → lentNotes y m ≡ takeOf (lentNotes x l) d → lentNotes y m ≡ fold notedBy (lentNotes x l) (eventsIn f s bs)
+    unfolding fold eventsIn notedBy
     note-datagram d e h g = rw (e, ← h) g
 
 -- ---- the loop: next is what `look` read of the bytes l that are left
@@ -99,24 +85,24 @@ found-some found.BadSettings s l b e h = refl
 found-some found.Datagram s l b e h = refl
 
 -- the lent words keep their length
-event-long : (x : LentNotes) (e : Event) → length (noted x e .edges) ≡ length (x .edges)
-unfolding noted startIn
+event-long : (x : LentNotes) (e : Event) → length (notedBy x e .edges) ≡ length (x .edges)
+unfolding notedBy startIn
 event-long x (opened s) = length-put (x .edges) 0 (s .next .0 ∷ [])
 event-long x bad-settings = refl
 event-long x (datagram d) = take-long x d
 event-long x cut-short = refl
 
-pub fold-long : (x : LentNotes) (es : List Event) → length (fold noted x es .edges) ≡ length (x .edges)
+pub fold-long : (x : LentNotes) (es : List Event) → length (fold notedBy x es .edges) ≡ length (x .edges)
 unfolding fold
 fold-long x [] = refl
-fold-long x (e ∷ es) = fold-long (noted x e) es ∙ event-long x e
+fold-long x (e ∷ es) = fold-long (notedBy x e) es ∙ event-long x e
 
 pub record Looping (x₀ : LentNotes) (n₀ : Next) (l₀ : List ℕ) (x : LentNotes) (n : Next) (l : List ℕ) : Type 0 where
-  pub going : Going noted x₀ (readBy n₀ l₀) l₀ x (readBy n l) l
+  pub going : Going notedBy x₀ (readBy n₀ l₀) l₀ x (readBy n l) l
   pub long : length (x .edges) ≡ length (x₀ .edges)
 
 pub loop-start : (x : Notes) (es l : List ℕ) (p : Place) (n : Next) → readBy n l ≡ nextOf (atOf p) l → Looping (lentNotes x es) n l (lentNotes x es) n l
-loop-start x es l p n e = record { going = going-start noted (lentNotes x es) (atOf p) (readBy n l) l e; long = refl }
+loop-start x es l p n e = record { going = going-start notedBy (lentNotes x es) (atOf p) (readBy n l) l e; long = refl }
 
 module _ {x₀ : LentNotes} {n₀ : Next} {l₀ : List ℕ} {x : Notes} {es : List ℕ} {n : Next} {l : List ℕ} (g : Looping x₀ n₀ l₀ (lentNotes x es) n l) where
   pub loop-used : n .used ≤ length l
@@ -143,25 +129,25 @@ module _ {x₀ : LentNotes} {n₀ : Next} {l₀ : List ℕ} {x : Notes} {es : Li
       some : isNone (readBy n l .events) ≡ false
       some = found-some (n .event) (n .settings) (take (n .used) l) b e t
 
-      pub loop-next : (y : Notes) (m : List ℕ) → lentNotes y m ≡ fold noted (lentNotes x es) (eventsIn (n .event) (n .settings) (take (n .used) l))
+      pub loop-next : (y : Notes) (m : List ℕ) → lentNotes y m ≡ fold notedBy (lentNotes x es) (eventsIn (n .event) (n .settings) (take (n .used) l))
           → Looping x₀ n₀ l₀ (lentNotes y m) k (take (length l - n .used) (drop (n .used) l))
       loop-next y m f =
           rw (part-to-end (n .used) l)
           (record {
-            going = going-next noted x₀ (readBy n₀ l₀) l₀ (lentNotes x es) (readBy n l) l (g .going) some (lentNotes y m) (readBy k (drop (n .used) l)) f then-so;
+            going = going-next notedBy x₀ (readBy n₀ l₀) l₀ (lentNotes x es) (readBy n l) l (g .going) some (lentNotes y m) (readBy k (drop (n .used) l)) f then-so;
             long = ap (λ (z : LentNotes). length (z .edges)) f ∙ fold-long (lentNotes x es) (readBy n l .events) ∙ g .long;
           })
 
       pub loop-less : length (withRest (readBy k (take (length l - n .used) (drop (n .used) l))) (take (length l - n .used) (drop (n .used) l)) .events) < length (withRest (readBy n l) l .events)
-      loop-less = rw (part-to-end (n .used) l) (going-less noted x₀ (readBy n₀ l₀) l₀ (lentNotes x es) (readBy n l) l (g .going) some (readBy k (drop (n .used) l)) then-so)
+      loop-less = rw (part-to-end (n .used) l) (going-less notedBy x₀ (readBy n₀ l₀) l₀ (lentNotes x es) (readBy n l) l (g .going) some (readBy k (drop (n .used) l)) then-so)
 
     pub loop-end : (p : Place) → b ≡ false → readBy n₀ l₀ ≡ nextOf (atOf p) l₀
         → lentFed (fed (reading (n .place) x) (length l₀ - length l + n .used)) es ≡ fedBy x₀ (readOn (atOf p) l₀)
     loop-end p t r =
         let z = found-none (n .event) (n .settings) (take (n .used) l) b e t in
-        let d = going-folded noted x₀ (readBy n₀ l₀) l₀ (lentNotes x es) (readBy n l) l (g .going) z (atOf p) r in
-        let a = going-at noted x₀ (readBy n₀ l₀) l₀ (lentNotes x es) (readBy n l) l (g .going) z (atOf p) r in
-        let u = going-used noted x₀ (readBy n₀ l₀) l₀ (lentNotes x es) (readBy n l) l (g .going) z (atOf p) r in
+        let d = going-folded notedBy x₀ (readBy n₀ l₀) l₀ (lentNotes x es) (readBy n l) l (g .going) z (atOf p) r in
+        let a = going-at notedBy x₀ (readBy n₀ l₀) l₀ (lentNotes x es) (readBy n l) l (g .going) z (atOf p) r in
+        let u = going-used notedBy x₀ (readBy n₀ l₀) l₀ (lentNotes x es) (readBy n l) l (g .going) z (atOf p) r in
         let q : n .place ≡ placeAt (readOn (atOf p) l₀ .at) = sym (place-at (n .place)) ∙ ap placeAt a in
         ap (λ (y : LentNotes). lentFed (fed (reading (n .place) (y .notes)) (length l₀ - length l + n .used)) (y .edges)) d
         ∙ rw (q, u)
@@ -179,33 +165,26 @@ module _ (s : Reading) (es l : List ℕ) (w : Bool) (e : w ≡ waitsAt (atOf (s 
   feed-advances f m h g = rw (← e, h) g
 
 -- the end changes no notes, whatever is left
-pub end-notes : (x : LentNotes) (a : At) (n : ℕ) → fold noted x (endAt a n .events) ≡ x
-unfolding endAt fold noted
+pub end-notes : (x : LentNotes) (a : At) (n : ℕ) → fold notedBy x (endAt a n .events) ≡ x
+unfolding endAt fold notedBy
 end-notes x settings n = refl
 end-notes x (records k) n = zero-or-not _ n (λ h. rw (eq-eqb _ _ h)) (λ h. rw (ne-eqb _ _ h))
 end-notes x done n = refl
 end-notes x refused n = refl
 
-end-at : (a : At) (n : ℕ) → endAt a n .at ≡ endAt a 0 .at
-unfolding endAt
-end-at settings n = refl
-end-at (records k) n = zero-or-not _ n (λ h. rw (eq-eqb _ _ h)) (λ h. rw (ne-eqb _ _ h))
-end-at done n = refl
-end-at refused n = refl
-
 pub finish-so : (s : Reading) (es m l : List ℕ) (f : Fed) (p : Place) → lentFed f m ≡ fedBy (lentNotes (s .notes) es) (readOn (atOf (s .place)) l)
-    → atOf p ≡ endAt (atOf (f .reading .place)) 0 .at → lentReading (reading p (f .reading .notes)) m ≡ finishOf (lentReading s es) l
+    → EndsAt (f .reading .place) p → lentReading (reading p (f .reading .notes)) m ≡ finishOf (lentReading s es) l
 unfolding finishOf readLast
 finish-so s es m l f p e h =
     let x = lentNotes (s .notes) es in
     let r = readOn (atOf (s .place)) l in
     let n = length l - r .used in
-    let y = fold noted x (r .events) in
-    let z : fold noted x (r .events ++ endAt (r .at) n .events) ≡ y = fold-joins noted x (r .events) (endAt (r .at) n .events) ∙ end-notes y (r .at) n in
+    let y = fold notedBy x (r .events) in
+    let z : fold notedBy x (r .events ++ endAt (r .at) n .events) ≡ y = fold-joins notedBy x (r .events) (endAt (r .at) n .events) ∙ end-notes y (r .at) n in
     let q : f .reading .place ≡ placeAt (r .at) = ap (λ (g : LentFed). g .fed .reading .place) e in
     let a : atOf (f .reading .place) ≡ r .at = ap atOf q ∙ at-place (r .at) in
     let b : p ≡ placeAt (endAt (r .at) n .at) =
-    sym (place-at p) ∙ ap placeAt (h ∙ ap (λ (c : At). endAt c 0 .at) a ∙ sym (end-at (r .at) n)) in
+    sym (place-at p) ∙ ap placeAt (h n ∙ ap (λ (c : At). endAt c n .at) a) in
     let d : lentNotes (f .reading .notes) m ≡ y = ap (λ (g : LentFed). lentNotes (g .fed .reading .notes) (g .edges)) e in
     ap (λ (v : LentNotes). lentReading (reading p (v .notes)) (v .edges)) (d ∙ sym z) ∙ rw b
 

@@ -25,7 +25,7 @@ use Rattle.capture_records.specs.Records.{mostRecords, restOf, recordsOf}
 use Rattle.capture_events.specs.declared.place.Place.{Place}
 use Rattle.capture_events.specs.declared.place.Place.the-variants.{Settings, Records, Done, Refused}
 use Rattle.capture_events.specs.Events.{opened, fold, datagrams, settings, records, isOverAt, endAt, readLast}
-use Rattle.capture_events.specs.Next.{atOf}
+use Rattle.capture_events.specs.Next.{atOf, placeAt}
 use Rattle.capture_events.specs.Turns as Events
 use Rattle.capture_events.proofs.EventLaws.{fold-joins, recordsEnd, rest-done, allRecords, behind, last-settings, last-bad}
 use Rattle.capture_events.proofs.TurnLaws.{turn-promises}
@@ -33,20 +33,21 @@ use Rattle.missing_ranges.specs.Notes.{Lent, isUsable, rangesIn}
 use Rattle.missing_ranges.specs.Notes as ranges
 use Rattle.missing_records.specs.Records.{LentNotes, lentNotes, lentIn, startNotes, over}
 use Rattle.missing_records.specs.Promises.{ListsWhatIsMissing, TotalIsExact}
-use Rattle.missing_records.proofs.OverLaws.{record-promises, session-stays, usable-after, refused-agree, ranges-agree}
+use Rattle.missing_records.proofs.OverLaws.{datagram-promises, session-stays, usable-after, refused-agree, ranges-agree}
 use Rattle.missing_text.specs.Text.{listText, tooManyText, missingText, room, roomGround}
 use Rattle.missing_text.proofs.TextLaws.{missing-fits, with-room}
 use Rattle.missing_capture.specs.declared.reading.Reading.{Reading}
-use Rattle.missing_capture.specs.Reading.{noNotes, startReading, LentReading, lentReading, readingWith, notesIn, noted, placeAt, endedBy, finishOf, textAt, textOf, PrintsIn}
+use Rattle.missing_capture.specs.Reading.{noNotes, startReading, LentReading, lentReading, readingWith, notesIn, notedBy, endedBy, finishOf, textAt, textOf, PrintsIn}
 use Rattle.missing_capture.specs.Turning.{turning, startTurning, lentTurning, turnAt, turnedOf}
-use Rattle.missing_capture.specs.Whole.{sessionIn, startIn, datagramsIn, captureOf, captureText, Printed, bad, listed, too-many, PrintsWhatIsMissing, AnyWords, IsTheFold, FitsTheRoom, AnyCutting, AnyTurns, EndIsOver, CapturePromises}
-use Rattle.missing_capture.proofs.ReadLaws.{end-notes, at-place}
+use Rattle.missing_capture.specs.Whole.{sessionIn, startNumberIn, datagramsIn, missingCaptureOf, missingCaptureText, PrintedMissing, bad, listed, too-many, PrintsWhatIsMissing, AnyWords, IsTheFold, FitsTheRoom, AnyCutting, AnyTurns, EndIsOver, MissingCapturePromises}
+use Rattle.missing_capture.proofs.ReadLaws.{end-notes}
+use Rattle.capture_events.proofs.NextLaws.{at-place}
 use Rattle.missing_capture.proofs.FoldLaws.{fold-datagrams, pieces-fold, turns-fold, keeps-little, over-stays}
 
 -- ---- all records
 
 -- what is left at their end changes nothing
-rest-notes : (x : LentNotes) (k : ℕ) (rest : List ℕ) → fold noted x (recordsEnd k rest .events) ≡ x
+rest-notes : (x : LentNotes) (k : ℕ) (rest : List ℕ) → fold notedBy x (recordsEnd k rest .events) ≡ x
 unfolding recordsEnd fold
 rest-notes x zero rest = refl
 rest-notes x (suc k) rest = end-notes x (records (suc k)) (length rest)
@@ -57,48 +58,48 @@ all-noted x l =
     let k = mostRecords - length (recordsOf l) in
     let rest = restOf mostRecords l in
     let e = recordsEnd k rest .events in
-    let f : fold noted x (datagrams (recordsOf l) ++ e) ≡ over x (recordsOf l) =
-    fold-joins noted x (datagrams (recordsOf l)) e ∙ rest-notes (fold noted x (datagrams (recordsOf l))) k rest ∙ fold-datagrams x (recordsOf l) in
+    let f : fold notedBy x (datagrams (recordsOf l) ++ e) ≡ over x (recordsOf l) =
+    fold-joins notedBy x (datagrams (recordsOf l)) e ∙ rest-notes (fold notedBy x (datagrams (recordsOf l))) k rest ∙ fold-datagrams x (recordsOf l) in
     rw (rest-done k rest) (ap (readingWith Done) f)
 
 module _ (words l : List ℕ) where
-  whole-good : settingsOf l .refusal .number ≡ 0 → finishOf (lentReading startReading words) l ≡ captureOf words l
-  unfolding captureOf finishOf startReading atOf fold noted
-  whole-good z = rw (eq-eqb _ _ z, last-settings l z) (all-noted (startNotes (sessionIn l) words (startIn l)) (behind l))
+  whole-good : settingsOf l .refusal .number ≡ 0 → finishOf (lentReading startReading words) l ≡ missingCaptureOf words l
+  unfolding missingCaptureOf finishOf startReading atOf fold notedBy
+  whole-good z = rw (eq-eqb _ _ z, last-settings l z) (all-noted (startNotes (sessionIn l) words (startNumberIn l)) (behind l))
 
-  whole-bad : (settingsOf l .refusal .number ≡ 0 → ⊥) → finishOf (lentReading startReading words) l ≡ captureOf words l
-  unfolding captureOf finishOf startReading atOf placeAt fold noted
+  whole-bad : (settingsOf l .refusal .number ≡ 0 → ⊥) → finishOf (lentReading startReading words) l ≡ missingCaptureOf words l
+  unfolding missingCaptureOf finishOf startReading atOf placeAt fold notedBy
   whole-bad z = rw (ne-eqb _ _ z, last-bad l z)
 
   -- finishing with all bytes is the whole capture
-  pub finish-whole : finishOf (lentReading startReading words) l ≡ captureOf words l
+  pub finish-whole : finishOf (lentReading startReading words) l ≡ missingCaptureOf words l
   finish-whole = zero-or-not _ (settingsOf l .refusal .number) whole-good whole-bad
 
 -- ---- the text
 
-capture-good : (words l : List ℕ) → settingsOf l .refusal .number ≡ 0 → captureOf words l ≡ readingWith Done (over (startNotes (sessionIn l) words (startIn l)) (datagramsIn l))
-unfolding captureOf
+capture-good : (words l : List ℕ) → settingsOf l .refusal .number ≡ 0 → missingCaptureOf words l ≡ readingWith Done (over (startNotes (sessionIn l) words (startNumberIn l)) (datagramsIn l))
+unfolding missingCaptureOf
 capture-good words l z = rw (eq-eqb _ _ z)
 
-capture-bad : (words l : List ℕ) → (settingsOf l .refusal .number ≡ 0 → ⊥) → captureOf words l ≡ readingWith Refused (lentNotes noNotes words)
-unfolding captureOf
+capture-bad : (words l : List ℕ) → (settingsOf l .refusal .number ≡ 0 → ⊥) → missingCaptureOf words l ≡ readingWith Refused (lentNotes noNotes words)
+unfolding missingCaptureOf
 capture-bad words l z = rw (ne-eqb _ _ z)
 
-text-bad : (words l : List ℕ) → (settingsOf l .refusal .number ≡ 0 → ⊥) → textOf (captureOf words l) ≡ settingsRefused
+text-bad : (words l : List ℕ) → (settingsOf l .refusal .number ≡ 0 → ⊥) → textOf (missingCaptureOf words l) ≡ settingsRefused
 unfolding textAt
 text-bad words l z = ap textOf (capture-bad words l z)
 
 module _ (words l : List ℕ) (z : settingsOf l .refusal .number ≡ 0) where
   abbrev after : LentNotes
-  after = over (startNotes (sessionIn l) words (startIn l)) (datagramsIn l)
+  after = over (startNotes (sessionIn l) words (startNumberIn l)) (datagramsIn l)
 
-  text-good : textOf (captureOf words l) ≡ missingText (sessionIn l) (lentIn after)
+  text-good : textOf (missingCaptureOf words l) ≡ missingText (sessionIn l) (lentIn after)
   unfolding textAt
   text-good =
       ap textOf (capture-good words l z)
-      ∙ ap (λ (name : List ℕ). missingText name (lentIn after)) (session-stays (startNotes (sessionIn l) words (startIn l)) (datagramsIn l))
+      ∙ ap (λ (name : List ℕ). missingText name (lentIn after)) (session-stays (startNotes (sessionIn l) words (startNumberIn l)) (datagramsIn l))
 
-  text-listed : isUsable (lentIn after) ≡ true → textOf (captureOf words l) ≡ listText (sessionIn l) (rangesIn (lentIn after))
+  text-listed : isUsable (lentIn after) ≡ true → textOf (missingCaptureOf words l) ≡ listText (sessionIn l) (rangesIn (lentIn after))
   unfolding missingText
   text-listed u = text-good ∙ rw u
 
@@ -106,9 +107,12 @@ module _ (words l : List ℕ) (z : settingsOf l .refusal .number ≡ 0) where
   unfolding isUsable
   not-usable r = rw r
 
-  text-many : after .notes .missing .refused ≡ true → textOf (captureOf words l) ≡ tooManyText
+  text-many : after .notes .missing .refused ≡ true → textOf (missingCaptureOf words l) ≡ tooManyText
   unfolding missingText
   text-many r = text-good ∙ rw (not-usable r)
+
+never : false ≡ true → ⊥
+never e = let z : _≡_ {A = ℕ} 0 1 = cc in absurd (omega arith)
 
 by-refused : (P : Type 0) (b : Bool) → (b ≡ false → P) → (b ≡ true → P) → P
 by-refused P true f g = g refl
@@ -120,41 +124,42 @@ zeros = replicate ranges.room 0
 enough : ranges.room ≤ length zeros
 enough = let e : length zeros ≡ ranges.room = length-replicate {A = ℕ} ranges.room 0 in omega arith
 
-good-read : (l : List ℕ) → settingsOf l .refusal .number ≡ 0 → Good (sessionIn l) (startIn l) (settingsOf l .settings .limit .0)
+good-read : (l : List ℕ) → settingsOf l .refusal .number ≡ 0 → Good (sessionIn l) (startNumberIn l) (settingsOf l .settings .limit .0)
 good-read l z = settings-promises .reads-exactly .only l z .good
 
 prints : PrintsWhatIsMissing
-unfolding PrintsWhatIsMissing captureText ListsWhatIsMissing TotalIsExact
+unfolding PrintsWhatIsMissing missingCaptureText ListsWhatIsMissing TotalIsExact
 prints l = zero-or-not _ (settingsOf l .refusal .number) (λ z. by-refused _ (after zeros l z .notes .missing .refused) (some z) (many z)) (λ z. bad z (text-bad zeros l z))
   where
-    some : (z : settingsOf l .refusal .number ≡ 0) → after zeros l z .notes .missing .refused ≡ false → Printed l
+    some : (z : settingsOf l .refusal .number ≡ 0) → after zeros l z .notes .missing .refused ≡ false → PrintedMissing l
     some z r =
         listed (rangesIn (lentIn (after zeros l z))) z
-        (record-promises .lists-what-is-missing (sessionIn l) zeros (startIn l) (datagramsIn l) enough r)
-        (record-promises .total-is-exact (sessionIn l) zeros (startIn l) (datagramsIn l) enough (good-read l z .number-most) r)
-        (text-listed zeros l z (usable-after (sessionIn l) zeros (startIn l) (datagramsIn l) enough r))
+        (λ m. never (sym r ∙ datagram-promises .refuses-too-many .at-once (sessionIn l) zeros (startNumberIn l) (datagramsIn l) enough m))
+        (datagram-promises .lists-what-is-missing (sessionIn l) zeros (startNumberIn l) (datagramsIn l) enough r)
+        (datagram-promises .total-is-exact (sessionIn l) zeros (startNumberIn l) (datagramsIn l) enough (good-read l z .number-most) r)
+        (text-listed zeros l z (usable-after (sessionIn l) zeros (startNumberIn l) (datagramsIn l) enough r))
 
-    many : (z : settingsOf l .refusal .number ≡ 0) → after zeros l z .notes .missing .refused ≡ true → Printed l
+    many : (z : settingsOf l .refusal .number ≡ 0) → after zeros l z .notes .missing .refused ≡ true → PrintedMissing l
     many z r =
-        too-many z (record-promises .refuses-too-many .refuses-many (sessionIn l) zeros (startIn l) (datagramsIn l) enough r) (text-many zeros l z r)
+        too-many z (datagram-promises .refuses-too-many .refuses-many (sessionIn l) zeros (startNumberIn l) (datagramsIn l) enough r) (text-many zeros l z r)
 
 any-words : AnyWords
-unfolding AnyWords captureText
+unfolding AnyWords missingCaptureText
 any-words words l h =
     zero-or-not _ (settingsOf l .refusal .number)
     (λ z. by-refused _ (after words l z .notes .missing .refused) (some z) (many z))
     (λ z. text-bad words l z ∙ sym (text-bad zeros l z))
   where
     same : (z : settingsOf l .refusal .number ≡ 0) → after words l z .notes .missing .refused ≡ after zeros l z .notes .missing .refused
-    same z = refused-agree (sessionIn l) words (startIn l) (datagramsIn l) zeros h enough
+    same z = refused-agree (sessionIn l) words (startNumberIn l) (datagramsIn l) zeros h enough
 
-    some : (z : settingsOf l .refusal .number ≡ 0) → after words l z .notes .missing .refused ≡ false → textOf (captureOf words l) ≡ textOf (captureOf zeros l)
+    some : (z : settingsOf l .refusal .number ≡ 0) → after words l z .notes .missing .refused ≡ false → textOf (missingCaptureOf words l) ≡ textOf (missingCaptureOf zeros l)
     some z r =
-        text-listed words l z (usable-after (sessionIn l) words (startIn l) (datagramsIn l) h r)
-        ∙ ap (listText (sessionIn l)) (ranges-agree (sessionIn l) words zeros (startIn l) (datagramsIn l) h enough r)
-        ∙ sym (text-listed zeros l z (usable-after (sessionIn l) zeros (startIn l) (datagramsIn l) enough (sym (same z) ∙ r)))
+        text-listed words l z (usable-after (sessionIn l) words (startNumberIn l) (datagramsIn l) h r)
+        ∙ ap (listText (sessionIn l)) (ranges-agree (sessionIn l) words zeros (startNumberIn l) (datagramsIn l) h enough r)
+        ∙ sym (text-listed zeros l z (usable-after (sessionIn l) zeros (startNumberIn l) (datagramsIn l) enough (sym (same z) ∙ r)))
 
-    many : (z : settingsOf l .refusal .number ≡ 0) → after words l z .notes .missing .refused ≡ true → textOf (captureOf words l) ≡ textOf (captureOf zeros l)
+    many : (z : settingsOf l .refusal .number ≡ 0) → after words l z .notes .missing .refused ≡ true → textOf (missingCaptureOf words l) ≡ textOf (missingCaptureOf zeros l)
     many z r = text-many words l z r ∙ sym (text-many zeros l z (sym (same z) ∙ r))
 
 -- ---- pieces and turns
@@ -209,8 +214,8 @@ is-the-fold : IsTheFold
 unfolding IsTheFold
 is-the-fold = finish-whole
 
-pub capture-promises : CapturePromises
-capture-promises =
+pub missing-capture-promises : MissingCapturePromises
+missing-capture-promises =
     record {
       prints-what-is-missing = prints;
       any-words = any-words;

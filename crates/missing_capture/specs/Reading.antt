@@ -9,8 +9,8 @@ use Rattle.capture_lines.specs.Lines.{settingsRefused}
 use Rattle.capture_events.specs.declared.place.Place.{Place}
 use Rattle.capture_events.specs.declared.place.Place.the-variants.{Settings, Records, Done, Refused}
 use Rattle.capture_events.specs.Events.{Event, opened, bad-settings, datagram, cut-short, fold}
-use Rattle.capture_events.specs.Events.{At, settings, records, done, refused, Read, readPiece, End, readLast}
-use Rattle.capture_events.specs.Next.{atOf}
+use Rattle.capture_events.specs.Events.{At, Read, readPiece, End, readLast}
+use Rattle.capture_events.specs.Next.{atOf, placeAt}
 use Rattle.missing_ranges.specs.Notes.{missing}
 use Rattle.missing_records.specs.declared.Notes.{Notes}
 use Rattle.missing_records.specs.Records.{LentNotes, lentNotes, lentIn, startNotes, takeOf}
@@ -65,23 +65,17 @@ fedReading f = lentReading (f .fed .reading) (f .edges)
 -- ---- what an event makes of some notes
 
 -- settings start them, and bad ones leave them; a datagram is taken; one that is cut short says nothing
-unfoldable pub noted : LentNotes → Event → LentNotes
-noted x (opened s) = startNotes (s .session) (x .edges) (s .next .0)
-noted x bad-settings = x
-noted x (datagram d) = takeOf x d
-noted x cut-short = x
+unfoldable pub notedBy : LentNotes → Event → LentNotes
+notedBy x (opened s) = startNotes (s .session) (x .edges) (s .next .0)
+notedBy x bad-settings = x
+notedBy x (datagram d) = takeOf x d
+notedBy x cut-short = x
 
 -- ---- a reading
 
-unfoldable pub placeAt : At → Place
-placeAt settings = Settings
-placeAt (records k) = Records k
-placeAt done = Done
-placeAt refused = Refused
-
 -- the reading of some notes after some events, and what comes next then
 abbrev pub readingAfter : LentNotes → At → List Event → LentReading
-readingAfter x a es = readingWith (placeAt a) (fold noted x es)
+readingAfter x a es = readingWith (placeAt a) (fold notedBy x es)
 
 -- what some bytes that were read make of some notes
 abbrev pub fedBy : LentNotes → Read → LentFed

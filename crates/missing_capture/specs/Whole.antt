@@ -30,46 +30,47 @@ use Rattle.missing_capture.specs.Turning.{startTurning, LentTurning, len
 abbrev pub sessionIn : List ℕ → List ℕ
 sessionIn l = settingsOf l .settings .session
 
-abbrev pub startIn : List ℕ → ℕ
-startIn l = settingsOf l .settings .next .0
+abbrev pub startNumberIn : List ℕ → ℕ
+startNumberIn l = settingsOf l .settings .next .0
 
 abbrev pub datagramsIn : List ℕ → List (List ℕ)
 datagramsIn l = recordsOf (drop (settingsOf l .size) l)
 
 -- the settings start the notes, in these lent words, and the records follow; bad settings are refused alone
-unfoldable pub captureOf : List ℕ → List ℕ → LentReading
-captureOf words l =
+unfoldable pub missingCaptureOf : List ℕ → List ℕ → LentReading
+missingCaptureOf words l =
     if eqb (settingsOf l .refusal .number) 0
-    then readingWith Done (over (startNotes (sessionIn l) words (startIn l)) (datagramsIn l))
+    then readingWith Done (over (startNotes (sessionIn l) words (startNumberIn l)) (datagramsIn l))
     else readingWith Refused (lentNotes noNotes words)
 
 -- what the program prints: its words are zeros at first
-unfoldable pub captureText : List ℕ → List ℕ
-captureText l = textOf (captureOf (replicate ranges.room 0) l)
+unfoldable pub missingCaptureText : List ℕ → List ℕ
+missingCaptureText l = textOf (missingCaptureOf (replicate ranges.room 0) l)
 
--- what is printed of every capture: that its settings are refused; the list of what is missing, with how many numbers
--- that is; or, after some of its records, more ranges than are kept
-pub data Printed (l : List ℕ) : Type 0 where
-  bad : (settingsOf l .refusal .number ≡ 0 → ⊥) → captureText l ≡ settingsRefused → Printed l
+-- what is printed of every capture, in three cases that exclude each other: that its settings are refused; the list of
+-- what is missing, with how many numbers that is; or that after some of its records more ranges are missing than are kept
+pub data PrintedMissing (l : List ℕ) : Type 0 where
+  bad : (settingsOf l .refusal .number ≡ 0 → ⊥) → missingCaptureText l ≡ settingsRefused → PrintedMissing l
   listed : (rs : List Range) → settingsOf l .refusal .number ≡ 0
-      → ListsMissing (sessionIn l) (startIn l) (datagramsIn l) rs
-      → totalFrom 0 rs ≡ listedBelow (highestOf (sessionIn l) (startIn l) (datagramsIn l)) rs
-      → captureText l ≡ listText (sessionIn l) rs
-      → Printed l
-  too-many : settingsOf l .refusal .number ≡ 0 → NeedsMoreWithin (sessionIn l) (startIn l) (datagramsIn l)
-      → captureText l ≡ tooManyText
-      → Printed l
+      → (NeedsMoreWithin (sessionIn l) (startNumberIn l) (datagramsIn l) → ⊥)
+      → ListsMissing (sessionIn l) (startNumberIn l) (datagramsIn l) rs
+      → totalFrom 0 rs ≡ listedBelow (highestOf (sessionIn l) (startNumberIn l) (datagramsIn l)) rs
+      → missingCaptureText l ≡ listText (sessionIn l) rs
+      → PrintedMissing l
+  too-many : settingsOf l .refusal .number ≡ 0 → NeedsMoreWithin (sessionIn l) (startNumberIn l) (datagramsIn l)
+      → missingCaptureText l ≡ tooManyText
+      → PrintedMissing l
 
 unfoldable pub PrintsWhatIsMissing : Type 0
-PrintsWhatIsMissing = (l : List ℕ) → Printed l
+PrintsWhatIsMissing = (l : List ℕ) → PrintedMissing l
 
 -- what the lent words were at first doesn't matter, so long as there are enough of them
 unfoldable pub AnyWords : Type 0
-AnyWords = (words l : List ℕ) → ranges.room ≤ length words → textOf (captureOf words l) ≡ captureText l
+AnyWords = (words l : List ℕ) → ranges.room ≤ length words → textOf (missingCaptureOf words l) ≡ missingCaptureText l
 
 -- a fresh reading that is given all bytes at once is the whole capture's: a fold over its events
 unfoldable pub IsTheFold : Type 0
-IsTheFold = (words l : List ℕ) → finishOf (lentReading startReading words) l ≡ captureOf words l
+IsTheFold = (words l : List ℕ) → finishOf (lentReading startReading words) l ≡ missingCaptureOf words l
 
 -- ---- pieces
 
@@ -83,12 +84,12 @@ byPieces s l (p ∷ ps) =
 -- for every cutting of the input into pieces, what is noted is the whole capture's
 unfoldable pub AnyCutting : Type 0
 AnyCutting = (words : List ℕ) (ps : List (List ℕ))
-    → byPieces (lentReading startReading words) [] ps ≡ captureOf words (joined ps)
+    → byPieces (lentReading startReading words) [] ps ≡ missingCaptureOf words (joined ps)
 
 -- for every buffer and every cutting of the input into pieces that fit, it is the whole capture's
 unfoldable pub AnyTurns : Type 0
 AnyTurns = (words m : List ℕ) (ps : List (List ℕ)) → Fit settings m 0 ps
-    → byTurns (lentTurning startTurning words) m ps ≡ captureOf words (joined ps)
+    → byTurns (lentTurning startTurning words) m ps ≡ missingCaptureOf words (joined ps)
 
 -- a turn that no bytes came for is the last
 unfoldable pub EndIsOver : Type 0
@@ -108,7 +109,7 @@ unfoldable pub OverStays : Type 0
 OverStays = (s : LentReading) (l : List ℕ) → isOverAt (atOf (s .reading .place)) ≡ true
     → (feedOf s l ≡ fedWith s (length l)) × (finishOf s l ≡ s)
 
-pub record CapturePromises : Type 0 where
+pub record MissingCapturePromises : Type 0 where
   pub prints-what-is-missing : PrintsWhatIsMissing
   pub any-words : AnyWords
   pub is-the-fold : IsTheFold

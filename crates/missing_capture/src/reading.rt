@@ -21,9 +21,9 @@ ghost use Rattle.capture_events.specs.Events.{fold, isOverAt, readOn};
 ghost use Rattle.capture_events.specs.Next.{atOf, eventsIn};
 ghost use Rattle.missing_records.specs.Records.{lentNotes};
 ghost use Rattle.missing_text.specs.Text.{roomGround};
-ghost use Rattle.missing_capture.specs.Reading.{startReading, lentReading, lentFed, noted, fedBy, feedOf};
+ghost use Rattle.missing_capture.specs.Reading.{startReading, lentReading, lentFed, notedBy, fedBy, feedOf};
 ghost use Rattle.missing_capture.specs.Reading.{finishOf, textOf, PrintsIn};
-ghost use Rattle.missing_capture.specs.Whole.{CapturePromises};
+ghost use Rattle.missing_capture.specs.Whole.{MissingCapturePromises};
 
 // How far a capture was read, and what is noted of its session.
 pub struct Reading {
@@ -40,7 +40,7 @@ pub struct Fed {
 // What one event makes of some notes: the bytes are the record's, with its length in front.
 fn note(notes: Notes, edges: &mut [u64], event: Found, settings: Settings, bytes: &[u8]) -> Notes
     ensures { λ r. ⌜ lentNotes r (now (edges .exit))
-        ≡ fold noted (lentNotes notes (now (edges .entry))) (eventsIn event settings (now (bytes .entry))) ⌝ }
+        ≡ fold notedBy (lentNotes notes (now (edges .entry))) (eventsIn event settings (now (bytes .entry))) ⌝ }
 {
     match event {
         Found::Nothing => notes,
@@ -121,7 +121,7 @@ impl Reading {
     pub fn feed(self, edges: &mut [u64], bytes: &[u8]) -> Fed
         ensures { λ r. ⌜ lentFed r (now (edges .exit))
             ≡ feedOf (lentReading self (now (edges .entry))) (now (bytes .entry)) ⌝ }
-        ensures promises { λ _. ⌜ CapturePromises ⌝ }
+        ensures promises { λ _. ⌜ MissingCapturePromises ⌝ }
     {
         let place = self.place;
         if place.waits(bytes.len()) {

@@ -11,7 +11,7 @@ ghost use Rattle.capture_events.specs.Events.{isOverAt};
 ghost use Rattle.capture_events.specs.Next.{atOf};
 ghost use Rattle.capture_events.specs.Turns.{mostKept};
 ghost use Rattle.missing_capture.specs.Turning.{startTurning, lentTurning, turnedOf, bufferOf};
-ghost use Rattle.missing_capture.specs.Whole.{CapturePromises};
+ghost use Rattle.missing_capture.specs.Whole.{MissingCapturePromises};
 
 // How far a capture was read, and how many bytes are kept at the buffer's front.
 pub struct Turning {
@@ -45,7 +45,7 @@ impl Turning {
             ≡ turnedOf (lentTurning self (now (edges .entry))) (now (buf .entry)) got ⌝ }
         ensures keeps { λ _. ⌜ now (buf .exit) ≡ bufferOf self (now (buf .entry)) got ⌝ }
         ensures little { λ r. ⌜ r .have ≤ mostKept ⌝ }
-        ensures promises { λ _. ⌜ CapturePromises ⌝ }
+        ensures promises { λ _. ⌜ MissingCapturePromises ⌝ }
     {
         let reading = self.reading;
         let end = there(buf.len(), self.have, got);

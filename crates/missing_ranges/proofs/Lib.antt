@@ -8,6 +8,7 @@ pub mod SetLaws
 pub mod MeaningLaws
 pub mod HoldLaws
 pub mod TotalLaws
+pub mod OneLaws
 pub mod ListingLaws
 pub mod PromiseLaws
 pub mod Rules

@@ -10,6 +10,7 @@ use Rattle.missing_ranges.specs.Meaning.{said, highestOf, isCarried, Lis
 use Rattle.missing_ranges.specs.Promises.{example, NotVacuous, MissingPromises}
 use Rattle.missing_ranges.proofs.MeaningLaws.{edgesOver, allRanges, lists-all}
 use Rattle.missing_ranges.proofs.HoldLaws.{exactly, refuses-too-many}
+use Rattle.missing_ranges.proofs.OneLaws.{just-one}
 use Rattle.missing_ranges.proofs.TotalLaws.{total-is-exact}
 
 -- ---- the example
@@ -44,6 +45,7 @@ pub missing-promises : MissingPromises
 missing-promises =
     record {
       exactly = exactly;
+      just-one = just-one;
       total-is-exact = total-is-exact;
       refuses-too-many = refuses-too-many;
       not-vacuous = not-vacuous;

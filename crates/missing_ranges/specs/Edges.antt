@@ -54,8 +54,8 @@ unfoldable pub isOdd : ℕ → Bool
 isOdd zero = false
 isOdd (suc n) = not (isOdd n)
 
--- the place after the last edge that is e or lies below it, looked for by halves from place lo to just below hi, with so
--- many steps at most
+-- the place after the last edge that is e or lies below it, where the edges rise, looked for by halves from place lo to
+-- just below hi in so many steps at most; of other edges, what the halving gives
 unfoldable pub halved : ℕ → ℕ → List ℕ → ℕ → ℕ → ℕ
 halved zero e bs lo hi = lo
 halved (suc k) e bs lo hi =
@@ -72,7 +72,7 @@ placePast e bs n = halved n e bs 0 n
 unfoldable pub placeOf : ℕ → List ℕ → ℕ → ℕ
 placeOf f bs n = if eqb f 0 then 0 else placePast (f - 1) bs n
 
--- where numbers from f to just below e stand among all edges: behind those below f, and behind those up to e
+-- where numbers from f to just below e stand among all edges: before those above e, and before those from f on
 abbrev pub endPlace : ℕ → List ℕ → ℕ
 endPlace e bs = placePast e bs (length bs)
 

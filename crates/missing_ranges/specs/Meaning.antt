@@ -42,18 +42,22 @@ unfoldable pub isCarried : ℕ → List Said → Bool
 isCarried x [] = false
 isCarried x (d ∷ ds) = if carries x d then true else isCarried x ds
 
--- ranges list a number exactly when it lies from n to just below the highest next number and none of ds carries it; they
--- rise, and no two touch. There is just one such list
+-- ranges list a number exactly when it lies from n to just below the highest next number and none of ds carries it;
+-- they rise, and no two touch
 pub record ListsExactly (n : ℕ) (ds : List Said) (rs : List Range) : Type 0 where
   pub exactly : (x : ℕ) → isListed x rs ≡ leb n x && ltb x (highestOf n ds) && not (isCarried x ds)
   pub apart : risesFrom 0 rs ≡ true
+
+-- no two lists do
+unfoldable pub JustOne : Type 0
+JustOne = (n : ℕ) (ds : List Said) (rs qs : List Range) → ListsExactly n ds rs → ListsExactly n ds qs → rs ≡ qs
 
 -- unless refused, these are the ranges that are kept
 unfoldable pub Exactly : Type 0
 Exactly = (l : List ℕ) (n : ℕ) (ds : List Said) → room ≤ length l → noted l n ds .missing .refused ≡ false
     → ListsExactly n ds (rangesIn (noted l n ds))
 
--- no number is above the largest
+-- each next number is at most 2^64 - 1
 unfoldable pub AllNumbers : List Said → Type 0
 AllNumbers [] = Unit
 AllNumbers (d ∷ ds) = (d .next ≤ largestNumber) × AllNumbers ds
@@ -72,8 +76,8 @@ pub record NeedsMore (n : ℕ) (ds : List Said) : Type 0 where
   pub lists : ListsExactly n ds ranges
   pub many : mostRanges < length ranges
 
--- what is kept are never more than that; a step is refused where more are needed after it, and only there; and what was
--- refused stays so
+-- never more ranges than that are kept; a step is refused only where more are needed after it; and what was refused
+-- stays so
 pub record RefusesTooMany : Type 0 where
   pub keeps-few : (l : List ℕ) (n : ℕ) (ds : List Said) → room ≤ length l → noted l n ds .missing .refused ≡ false
       → length (rangesIn (noted l n ds)) ≤ mostRanges

@@ -32,7 +32,7 @@ lent s l = record { missing = s; edges = l }
 abbrev pub edgesIn : Lent → List ℕ
 edgesIn x = take (x .missing .closed + x .missing .closed + 1) (x .edges)
 
--- it isn't refused, and the lent words hold so many edges
+-- it isn't refused, has no more ranges with both edges than are kept, and the lent words hold its edges
 unfoldable pub isUsable : Lent → Bool
 isUsable x =
     not (x .missing .refused) && leb (x .missing .closed) mostRanges

@@ -1,4 +1,4 @@
-// The missing ranges of a session, kept in lent words. Nothing here speaks of datagrams.
+// The missing ranges of a session, kept in lent words. Nothing here reads a datagram.
 mod edges;
 pub mod listing;
 pub mod ranges;

@@ -82,7 +82,7 @@ impl Missing {
         total_of(&edges[..n], self.highest.0)
     }
 
-    // The range at a place: the last one may end at the highest next number.
+    // The range at a place: the last one may end just below the highest next number.
     pub fn range(self, edges: &[u64], place: usize) -> Listed
         ensures { λ r. ⌜ IsRange r (lent self (now (edges .entry))) place ⌝ }
     {

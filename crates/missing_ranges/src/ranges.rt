@@ -5,17 +5,17 @@ ghost use mathlib.Core.Bool.{true};
 ghost use mathlib.Core.Path.{_≡_};
 ghost use Prim.Native.Nat.{_+_, _-_, _%_, _≤_};
 ghost use lib.ListN.{length};
-ghost use Rattle.missing_ranges.specs.Notes.{missing, lent, isUsable, later, startIn, noteOf};
+ghost use Rattle.missing_ranges.specs.Notes.{missing, lent, isUsable, later, room, startIn, noteOf};
 ghost use Rattle.missing_ranges.specs.Notes.{tooMany, lastAfter, Ready, Plans};
 ghost use Rattle.missing_ranges.specs.Promises.{MissingPromises};
 
 // What is known of a session's numbers. The edges of its missing ranges stand in lent words.
 pub struct Missing {
-    // A datagram needed more ranges than are kept: nothing is noted any more.
+    // Nothing is noted any more: more ranges were needed than are kept or than the lent words hold, or it never started.
     pub refused: bool,
     // The ranges that have both edges.
     pub closed: usize,
-    // The highest next number so far.
+    // The highest next number so far, at least the starting number.
     pub highest: SequenceNumber,
 }
 
@@ -23,7 +23,7 @@ pub struct Missing {
 pub const MOST_RANGES: usize = 4096;
 
 // The words that are room enough: two edges for a range, and one more.
-pub const ROOM: usize = 8193;
+pub const ROOM: usize = MOST_RANGES + MOST_RANGES + 1;
 
 // The larger of two numbers.
 fn later(a: u64, b: u64) -> u64
@@ -58,7 +58,7 @@ fn last_after(edges: &[u64], n: usize, j: usize, e: u64) -> u64
 
 // How many edges there are once those of new numbers stand from place i to j of n.
 fn size_after(n: usize, i: usize, j: usize) -> usize
-    requires { ⌜ (i ≤ j) × (j ≤ n) × (n ≤ 8193) ⌝ }
+    requires { ⌜ (i ≤ j) × (j ≤ n) × (n ≤ room) ⌝ }
     ensures { λ r. ⌜ r ≡ i + i % 2 + j % 2 + (n - j) ⌝ }
 {
     i + i % 2 + j % 2 + (n - j)
@@ -73,7 +73,7 @@ struct Plan {
 }
 
 fn plan_for(edges: &[u64], n: usize, f: u64, e: u64) -> Plan
-    requires { ⌜ (n ≤ length (now edges)) × (n ≤ 8193) ⌝ }
+    requires { ⌜ (n ≤ length (now edges)) × (n ≤ room) ⌝ }
     ensures { λ r. ⌜ Plans r (now (edges .entry)) n f e ⌝ }
 {
     let j = edges::place_past(edges, n, e);
@@ -134,7 +134,7 @@ impl Missing {
     }
 
     // Notes numbers that are carried: top is the highest next number then.
-    fn cut(self, edges: &mut [u64], f: u64, e: u64, top: u64) -> Missing
+    fn take_out(self, edges: &mut [u64], f: u64, e: u64, top: u64) -> Missing
         requires { ⌜ Ready (lent self (now edges)) f e top ⌝ }
         ensures { λ r. ⌜ lent r (now (edges .exit)) ≡ noteOf (lent self (now (edges .entry))) f e ⌝ }
     {
@@ -157,7 +157,8 @@ impl Missing {
     }
 
     // Notes that the numbers from first to just below next are carried, and that next is stated: none is carried where
-    // next isn't above first. Where more ranges would be missing than are kept it is refused, and no edge changes.
+    // next isn't above first. Where more ranges would be missing than are kept, or the lent words don't hold their edges,
+    // it is refused, and no edge changes.
     pub fn note(self, edges: &mut [u64], first: SequenceNumber, next: SequenceNumber) -> Missing
         ensures { λ r. ⌜ lent r (now (edges .exit)) ≡ noteOf (lent self (now (edges .entry))) (first .0) (next .0) ⌝ }
     {
@@ -168,7 +169,7 @@ impl Missing {
         let e = next.0;
         let top = later(self.highest.0, e);
         if f < e {
-            return self.cut(edges, f, e, top);
+            return self.take_out(edges, f, e, top);
         }
         let k = self.closed;
         let n = k + k + 1;

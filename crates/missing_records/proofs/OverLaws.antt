@@ -1,26 +1,31 @@
 -- What a list of datagrams comes to is what the accepted ones of them say.
-use mathlib.Core.Path.{_≡_, refl, ap, sym, _∙_}
+use mathlib.Core.Path.{_≡_, refl, ap, sym, subst, _∙_}
 use mathlib.Core.List.{List, [], _∷_, _++_, append-assoc, append-nil}
 use mathlib.Core.Bool.{Bool, true, false, not, _&&_}
 use Prim.Native.Nat.{ℕ, _+_, _≤_}
 use native.Mathlib.Omega.{arith}
-use lib.ListN.{length, take}
+use lib.ListN.{length, take, drop, take-append-drop}
 use lib.Seq.{take-at}
 use lib.Dec.{eqb, ltb, leb}
 use borrow.Author.Tests.{eqb-true, ne-eqb}
 use Rattle.wire.specs.Choice.{if_then_else_}
 use Rattle.wire.specs.Bounds.{largestNumber, sessionSize}
-use Rattle.wire.specs.Bytes.{sameBytes}
-use Rattle.moldudp64.specs.Header.{numberOf}
-use Rattle.moldudp64.specs.Downstream.{refusalOf}
+use Rattle.wire.specs.Bytes.{number, bytes, sameBytes}
+use Rattle.wire.specs.Text.{readroom}
+use Rattle.moldudp64.specs.Header.{numberOf, countOf, header}
+use Rattle.moldudp64.specs.Blocks.{blockLength, fits, allFit, afterBlocks, blocksRefusal, blocksOf}
+use Rattle.moldudp64.specs.Downstream.{kindOfCount, blockCount, refusalOf}
+use Rattle.moldudp64.specs.Written.{encoded, encodedEnd}
 use Rattle.moldudp64.proofs.DownstreamLaws.{sound}
-use Rattle.missing_ranges.specs.Edges.{Range, totalFrom, listedBelow, mostRanges}
+use Rattle.missing_ranges.specs.Edges.{Range, range, rangesOf, totalFrom, listedBelow, mostRanges, isOdd, halved, placePast, placeOf, middle, replaced, without}
 use Rattle.missing_ranges.specs.Notes.{Lent, isUsable, rangesIn, room, later, startIn, noteOf}
 use Rattle.missing_ranges.specs.Meaning as said
+use Rattle.missing_ranges.proofs.MeaningLaws.{edgesOver, allRanges, lists-all}
+use Rattle.missing_ranges.proofs.OneLaws.{same-list}
 use Rattle.missing_ranges.proofs.HoldLaws.{noted-holds, noted-ranges, words-agree}
 use Rattle.missing_ranges.proofs.PromiseLaws.{missing-promises}
 use Rattle.missing_records.specs.Records.{accepted, nextIn, LentNotes, lentNotes, lentIn, notesWith, startNotes, takeOf, over}
-use Rattle.missing_records.specs.Promises.{carries, isCarried, highestOf, ListsMissing, ListsWhatIsMissing, TotalIsExact, NeedsMore, NeedsMoreWithin, RecordPromises}
+use Rattle.missing_records.specs.Promises.{carries, isCarried, highestOf, ListsMissing, ListsWhatIsMissing, TotalIsExact, JustOne, NeedsMore, NeedsMoreWithin, exampleDatagrams, NotWeak, DatagramPromises}
 
 -- ---- what the accepted ones of a list say
 
@@ -257,14 +262,82 @@ module _ (name l : List ℕ) (n : ℕ) (h : room ≤ length l) where
   refuses-many : (ds : List (List ℕ)) → after ds .notes .missing .refused ≡ true → NeedsMoreWithin name n ds
   refuses-many ds q = within [] ds at-first q
 
-pub record-promises : RecordPromises
-record-promises =
+-- ---- just one list, and what is refused at once
+
+just-one : JustOne
+unfolding JustOne
+just-one name n ds rs qs a b = same-list 0 rs qs (a .apart) (b .apart) (λ x. a .exactly x ∙ sym (b .exactly x))
+
+stays-over : (x : LentNotes) (ds : List (List ℕ)) → x .notes .missing .refused ≡ true → over x ds .notes .missing .refused ≡ true
+unfolding over
+stays-over x [] r = r
+stays-over x (d ∷ ds) r = stays-over (takeOf x d) ds (ap (λ (y : LentNotes). y .notes .missing .refused) (stays x d r) ∙ r)
+
+over-joined : (x : LentNotes) (ps ds : List (List ℕ)) → over x (ps ++ ds) ≡ over (over x ps) ds
+unfolding over
+over-joined x [] ds = refl
+over-joined x (p ∷ ps) ds = over-joined (takeOf x p) ps ds
+
+at-once : (name l : List ℕ) (n : ℕ) (ds : List (List ℕ)) → room ≤ length l → NeedsMoreWithin name n ds → over (startNotes name l n) ds .notes .missing .refused ≡ true
+unfolding JustOne
+at-once name l n ds h m = go (over (startNotes name l n) ps .notes .missing .refused) refl
+  where
+    ps : List (List ℕ)
+    ps = take (m .first) ds
+
+    whole : over (over (startNotes name l n) (take (m .first) ds)) (drop (m .first) ds) ≡ over (startNotes name l n) ds
+    whole = sym (over-joined (startNotes name l n) (take (m .first) ds) (drop (m .first) ds)) ∙ ap (over (startNotes name l n)) (take-append-drop (m .first) ds)
+
+    go : (b : Bool) → over (startNotes name l n) (take (m .first) ds) .notes .missing .refused ≡ b → over (startNotes name l n) ds .notes .missing .refused ≡ true
+    go true e = sym (ap (λ (y : LentNotes). y .notes .missing .refused) whole) ∙ stays-over (over (startNotes name l n) (take (m .first) ds)) (drop (m .first) ds) e
+    go false e =
+        let rs = rangesIn (lentIn (over (startNotes name l n) (take (m .first) ds))) in
+        let a = lists name l n (take (m .first) ds) h e in
+        let k = few name l n (take (m .first) ds) h e in
+        let s : m .more .ranges ≡ rs = just-one name n (take (m .first) ds) (m .more .ranges) rs (m .more .lists) a in
+        let c : length (m .more .ranges) ≡ length rs = ap length s in
+        absurd (omega (arith, m .more .many))
+
+-- ---- the example
+
+saids-example : saidsOf readroom exampleDatagrams ≡ said.said 1 3 ∷ said.said 5 6 ∷ said.said 9 9 ∷ said.said 4 4 ∷ said.said 7 8 ∷ []
+unfolding saidsOf saidsIf accepted sameBytes refusalOf blocksRefusal allFit fits afterBlocks blockLength blockCount kindOfCount numberOf countOf encoded encodedEnd header bytes blocksOf number
+saids-example = refl
+
+example-ranges : allRanges 1 (said.said 1 3 ∷ said.said 5 6 ∷ said.said 9 9 ∷ said.said 4 4 ∷ said.said 7 8 ∷ []) ≡ range 3 4 ∷ range 6 6 ∷ range 8 8 ∷ []
+unfolding edgesOver said.highestOf rangesOf without replaced middle placePast placeOf halved isOdd later
+example-ranges = refl
+
+example-lists : ListsMissing readroom 1 exampleDatagrams (range 3 4 ∷ range 6 6 ∷ range 8 8 ∷ [])
+example-lists =
+    lists-so readroom 1 exampleDatagrams (range 3 4 ∷ range 6 6 ∷ range 8 8 ∷ [])
+    (rw saids-example (subst (said.ListsExactly 1 (said.said 1 3 ∷ said.said 5 6 ∷ said.said 9 9 ∷ said.said 4 4 ∷ said.said 7 8 ∷ [])) example-ranges (lists-all 1 _)))
+
+-- another list is as long
+as-long : (rs : List Range) → ListsMissing readroom 1 exampleDatagrams rs → length rs ≡ 3
+unfolding JustOne
+as-long rs s = ap length (just-one readroom 1 exampleDatagrams rs (range 3 4 ∷ range 6 6 ∷ range 8 8 ∷ []) s example-lists)
+
+not-weak : NotWeak
+not-weak =
+    record {
+      lists-nothing = λ s. let n = as-long [] s in omega arith;
+      ranges-touch = λ s. let n = as-long (range 3 3 ∷ range 4 4 ∷ range 6 6 ∷ range 8 8 ∷ []) s in omega arith;
+      forgets-a-half = λ s. let n = as-long (range 3 4 ∷ range 8 8 ∷ []) s in omega arith;
+    }
+
+pub datagram-promises : DatagramPromises
+datagram-promises =
     record {
       lists-what-is-missing = lists-what-is-missing;
+      just-one = just-one;
       total-is-exact = total-is-exact;
       refuses-too-many = record {
         keeps-few = few;
         refuses-many = λ name l n ds h q. refuses-many name l n h ds q;
+        at-once = at-once;
         stays = stays;
       };
+      not-vacuous = record { lists = example-lists };
+      not-weak = not-weak;
     }

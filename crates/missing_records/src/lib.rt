@@ -10,7 +10,7 @@ ghost use Rattle.wire.specs.Bounds.{sessionSize};
 ghost use Rattle.wire.specs.Bytes.{sameBytes};
 ghost use lib.ListN.{take};
 ghost use Rattle.missing_records.specs.Records.{lentNotes, startNotes, takeOf, notedIf};
-ghost use Rattle.missing_records.specs.Promises.{RecordPromises};
+ghost use Rattle.missing_records.specs.Promises.{DatagramPromises};
 
 // What is noted of a session: its name, and its missing ranges.
 pub struct Notes {
@@ -56,7 +56,7 @@ impl Notes {
     pub fn take(self, edges: &mut [u64], datagram: &[u8]) -> Notes
         ensures { λ r. ⌜ lentNotes r (now (edges .exit))
             ≡ takeOf (lentNotes self (now (edges .entry))) (now (datagram .entry)) ⌝ }
-        ensures promises { λ _. ⌜ RecordPromises ⌝ }
+        ensures promises { λ _. ⌜ DatagramPromises ⌝ }
     {
         match downstream::read(datagram) {
             Downstream::Data { first, count } => {

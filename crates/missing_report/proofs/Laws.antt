@@ -13,7 +13,7 @@ use Rattle.capture_events.specs.Turns.{mostKept}
 use Rattle.missing_capture.specs.declared.turning.Turning.{Turning}
 use Rattle.missing_capture.specs.Turning.{startTurning, LentTurning, lentTurning, turnedOf}
 use Rattle.missing_capture.specs.Whole.{EndIsOver}
-use Rattle.missing_capture.proofs.WholeLaws.{capture-promises}
+use Rattle.missing_capture.proofs.WholeLaws.{missing-capture-promises}
 
 -- at first nothing is kept
 pub fresh-kept : (s : Turning) → s ≡ startTurning → s .have ≤ mostKept
@@ -26,7 +26,7 @@ over-told s b e h = sym e ∙ h
 pub last-over : (s t : Turning) (es es₁ m : List ℕ) → lentTurning t es₁ ≡ turnedOf (lentTurning s es) m 0 → isOverAt (atOf (t .reading .place)) ≡ true
 unfolding EndIsOver
 last-over s t es es₁ m e =
-    ap (λ (x : LentTurning). isOverAt (atOf (x .turning .reading .place))) e ∙ capture-promises .end-is-over (lentTurning s es) m
+    ap (λ (x : LentTurning). isOverAt (atOf (x .turning .reading .place))) e ∙ missing-capture-promises .end-is-over (lentTurning s es) m
 
 -- what is printed stands in the buffer
 pub part-length : (k : ℕ) (l : List ℕ) → k ≤ length l → k ≡ length (take k l)

@@ -1,6 +1,6 @@
 use native.Mathlib.Omega.{arith}
 use Rattle.wire.specs.Bytes.{AreBytes}
-use Rattle.missing_capture.proofs.WholeLaws.{capture-promises}
+use Rattle.missing_capture.proofs.WholeLaws.{missing-capture-promises}
 use Rattle.missing_capture.proofs.Rules.{turning}
 use Rattle.missing_capture.proofs.turning.Turning.turn.Statement.{statement}
 use Rattle.missing_capture.proofs.turning.Turning.turn.Tie as tie
@@ -24,7 +24,7 @@ same-length-2 : tie.Need-same-length-2
 same-length-2 c = search turning
 
 returns : tie.Need-returns
-returns c = (search turning, (search turning, (omega arith, capture-promises)))
+returns c = (search turning, (search turning, (omega arith, missing-capture-promises)))
 
 slice-reshare-prefix-feed : tie.Need-slice-reshare-prefix-feed
 slice-reshare-prefix-feed c = search turning
@@ -47,7 +47,7 @@ same-length-4 c = search turning
 returns-2 : tie.Need-returns-2
 returns-2 c =
     let small : AreBytes (c .before .before .before .before .before .before .before .before .before .before .before .before .before .before .before .args .buf .now) = λ i. omega (arith, c .before .before .before .before .before .before .before .before .before .before .before .before .before .slice-known2 .given i) in
-    (search turning, (search turning, (search turning, capture-promises)))
+    (search turning, (search turning, (search turning, missing-capture-promises)))
 
 pub turn-spec : {M : Type 1} → statement M
 turn-spec =

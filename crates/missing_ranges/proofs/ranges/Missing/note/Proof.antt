@@ -12,7 +12,7 @@ note-spec =
     (λ c. search notes)  -- same-length
     (λ c. search notes)  -- returns
     (λ c κs. search notes)  -- later-requires
-    (λ c κs. search notes)  -- cut-requires
+    (λ c κs. search notes)  -- take-out-requires
     (λ c. search notes)  -- same-length-2
     (λ c. search notes)  -- returns-2
     (λ c. search notes)  -- add-n

@@ -1,10 +1,10 @@
 -- The plan tells how many edges and ranges there will be; only then are they replaced.
 use Rattle.missing_ranges.proofs.Rules.{cuts}
-use Rattle.missing_ranges.proofs.ranges.Missing.cut.Statement.{statement}
-use Rattle.missing_ranges.proofs.ranges.Missing.cut.Tie as tie
+use Rattle.missing_ranges.proofs.ranges.Missing.take_out.Statement.{statement}
+use Rattle.missing_ranges.proofs.ranges.Missing.take_out.Tie as tie
 
-pub cut-spec : {M : Type 1} → statement M
-cut-spec =
+pub take-out-spec : {M : Type 1} → statement M
+take-out-spec =
     tie.close
     (tie.spec
     (λ c. search cuts)  -- add-n
