@@ -1,14 +1,13 @@
 -- Events one by one, as the code has them, and that they are the events of all bytes.
 use mathlib.Core.Path.{_≡_, refl, ap, sym, _∙_}
 use mathlib.Core.List.{List, [], _∷_, _++_}
-use mathlib.Core.Bool.{Bool, true, false}
+use mathlib.Core.Bool.{true, false}
 use Prim.Native.Nat.{ℕ, zero, suc, _+_, _-_, _≤_, _<_}
 use native.Mathlib.Omega.{arith}
 use native.Mathlib.Numerals.{sub-one}
-use lib.ListN.{length, take, drop, length-drop, length-append}
+use lib.ListN.{length, drop, length-drop, length-append}
 use lib.Dec.{ltb}
 use borrow.Author.Tests.{eq-eqb, ne-eqb}
-use Rattle.wire.specs.Choice.{if_then_else_}
 use Rattle.wire.proofs.Cases.{zero-or-not}
 use Rattle.wire.proofs.PartLaws.{drop-take}
 use Rattle.capture_settings.specs.declared.settings.Settings as declared
@@ -24,9 +23,9 @@ use Rattle.capture_events.specs.declared.place.Place.the-variants.{Setti
 use Rattle.capture_events.specs.declared.place.Found.{Found}
 use Rattle.capture_events.specs.declared.place.Found.the-variants as found
 use Rattle.capture_events.specs.declared.place.Next.{Next}
-use Rattle.capture_events.specs.Events.{Event, opened, bad-settings, datagram, fold, datagrams, At, settings, records, done, refused, isOverAt, Read, reads, readTo, readRecords, readBehind, readSettings, readOn, waitsAt, endAt}
+use Rattle.capture_events.specs.Events.{Event, opened, bad-settings, datagram, fold, datagrams, At, settings, records, done, refused, isOverAt, Read, reads, readTo, readRecords, readSettings, readOn, waitsAt, endAt}
 use Rattle.capture_events.specs.Next.{atOf, placeAt, nextOf, isFound, eventsIn, readBy, isNone, withRest, OneByOne, EndsAt}
-use Rattle.capture_events.proofs.EventLaws.{fold-joins, size-within, settings-so, settings-bad, behind}
+use Rattle.capture_events.proofs.EventLaws.{fold-joins, size-within, settings-so, settings-bad}
 
 abbrev next : Found → declared.Settings → Place → ℕ → Next
 next f s p n = record { event = f; settings = s; place = p; used = n }

@@ -16,7 +16,7 @@ use Rattle.capture_events.specs.Turns as Events
 use Rattle.capture_events.proofs.EventLaws.{fold-joins, piece-used}
 use Rattle.capture_events.proofs.TurnLaws.{little-piece}
 use Rattle.missing_records.specs.Records.{LentNotes, takeOf, over}
-use Rattle.missing_capture.specs.Reading.{LentReading, readingWith, fedReading, fedWith, notesIn, notedBy, readingAfter, feedOf, endedBy, finishOf}
+use Rattle.missing_capture.specs.Reading.{LentReading, readingWith, fedReading, fedWith, notesIn, notedBy, feedOf, endedBy, finishOf}
 use Rattle.missing_capture.specs.Turning.{LentTurning, turnedReading, turnAt, turnedOf, bufferOf, turnedBy, byTurns}
 use Rattle.missing_capture.specs.Whole.{byPieces, KeepsLittle, OverStays}
 use Rattle.capture_events.proofs.NextLaws.{at-place}

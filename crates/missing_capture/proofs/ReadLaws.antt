@@ -21,7 +21,7 @@ use Rattle.capture_events.specs.declared.place.Place.the-variants.{Settings, Re
 use Rattle.capture_events.specs.declared.place.Found.{Found}
 use Rattle.capture_events.specs.declared.place.Found.the-variants as found
 use Rattle.capture_events.specs.declared.place.Next.{Next}
-use Rattle.capture_events.specs.Events.{Event, opened, bad-settings, datagram, cut-short, fold, At, settings, records, done, refused, Read, readOn, waitsAt, readPiece, endAt, readLast}
+use Rattle.capture_events.specs.Events.{Event, opened, bad-settings, datagram, cut-short, fold, At, settings, records, done, refused, readOn, waitsAt, readPiece, endAt, readLast}
 use Rattle.capture_events.specs.Next.{atOf, placeAt, nextOf, isFound, eventsIn, readBy, isNone, withRest, EndsAt}
 use Rattle.capture_events.proofs.EventLaws.{fold-joins}
 use Rattle.capture_events.proofs.NextLaws.{place-at, at-place, Going, going-start, going-next, going-less, going-folded, going-at, going-used}
@@ -30,10 +30,10 @@ use Rattle.missing_ranges.specs.Notes.{lent, startIn}
 use Rattle.missing_records.specs.Records.{LentNotes, lentNotes, startNotes, takeOf}
 use Rattle.missing_records.proofs.TakeLaws.{take-long}
 use Rattle.missing_text.specs.Text.{missingText, room, roomGround}
-use Rattle.missing_text.proofs.TextLaws.{no-ground, write-short}
+use Rattle.missing_text.proofs.TextLaws.{no-ground}
 use Rattle.missing_capture.specs.declared.reading.Reading.{Reading}
 use Rattle.missing_capture.specs.declared.reading.Fed.{Fed}
-use Rattle.missing_capture.specs.Reading.{reading, fed, noNotes, startReading, lentReading, LentFed, lentFed, notesIn, notedBy, readingAfter, fedBy, feedOf, finishOf, textAt, textOf}
+use Rattle.missing_capture.specs.Reading.{reading, fed, noNotes, startReading, lentReading, LentFed, lentFed, notedBy, fedBy, feedOf, finishOf, textAt, textOf}
 
 -- ---- the start
 

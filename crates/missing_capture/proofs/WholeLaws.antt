@@ -24,12 +24,12 @@ use Rattle.capture_lines.proofs.LineLaws.{refused-fits}
 use Rattle.capture_records.specs.Records.{mostRecords, restOf, recordsOf}
 use Rattle.capture_events.specs.declared.place.Place.{Place}
 use Rattle.capture_events.specs.declared.place.Place.the-variants.{Settings, Records, Done, Refused}
-use Rattle.capture_events.specs.Events.{opened, fold, datagrams, settings, records, isOverAt, endAt, readLast}
+use Rattle.capture_events.specs.Events.{fold, datagrams, settings, records, isOverAt, readLast}
 use Rattle.capture_events.specs.Next.{atOf, placeAt}
 use Rattle.capture_events.specs.Turns as Events
 use Rattle.capture_events.proofs.EventLaws.{fold-joins, recordsEnd, rest-done, allRecords, behind, last-settings, last-bad}
 use Rattle.capture_events.proofs.TurnLaws.{turn-promises}
-use Rattle.missing_ranges.specs.Notes.{Lent, isUsable, rangesIn}
+use Rattle.missing_ranges.specs.Notes.{isUsable, rangesIn}
 use Rattle.missing_ranges.specs.Notes as ranges
 use Rattle.missing_records.specs.Records.{LentNotes, lentNotes, lentIn, startNotes, over}
 use Rattle.missing_records.specs.Promises.{ListsWhatIsMissing, TotalIsExact}
@@ -37,7 +37,7 @@ use Rattle.missing_records.proofs.OverLaws.{datagram-promises, session-stays, u
 use Rattle.missing_text.specs.Text.{listText, tooManyText, missingText, room, roomGround}
 use Rattle.missing_text.proofs.TextLaws.{missing-fits, with-room}
 use Rattle.missing_capture.specs.declared.reading.Reading.{Reading}
-use Rattle.missing_capture.specs.Reading.{noNotes, startReading, LentReading, lentReading, readingWith, notesIn, notedBy, endedBy, finishOf, textAt, textOf, PrintsIn}
+use Rattle.missing_capture.specs.Reading.{noNotes, startReading, lentReading, readingWith, notesIn, notedBy, endedBy, finishOf, textAt, textOf, PrintsIn}
 use Rattle.missing_capture.specs.Turning.{turning, startTurning, lentTurning, turnAt, turnedOf}
 use Rattle.missing_capture.specs.Whole.{sessionIn, startNumberIn, datagramsIn, missingCaptureOf, missingCaptureText, PrintedMissing, bad, listed, too-many, PrintsWhatIsMissing, AnyWords, IsTheFold, FitsTheRoom, AnyCutting, AnyTurns, EndIsOver, MissingCapturePromises}
 use Rattle.missing_capture.proofs.ReadLaws.{end-notes}

@@ -37,7 +37,7 @@ pub struct Fed {
     pub used: usize,
 }
 
-// What one event makes of some notes: the bytes are the record's, with its length in front.
+// What one event makes of some notes: the bytes of a datagram are its record's, with its length in front.
 fn note(notes: Notes, edges: &mut [u64], event: Found, settings: Settings, bytes: &[u8]) -> Notes
     ensures { λ r. ⌜ lentNotes r (now (edges .exit))
         ≡ fold notedBy (lentNotes notes (now (edges .entry))) (eventsIn event settings (now (bytes .entry))) ⌝ }
@@ -85,7 +85,8 @@ impl Reading {
     // What the bytes make of a reading, taken as enough to tell the settings: their events, one by one.
     fn advance(self, edges: &mut [u64], bytes: &[u8]) -> Fed
         ensures { λ r. ⌜ lentFed r (now (edges .exit))
-            ≡ fedBy (lentNotes (self .notes) (now (edges .entry))) (readOn (atOf (self .place)) (now (bytes .entry))) ⌝ }
+            ≡ fedBy (lentNotes (self .notes) (now (edges .entry)))
+            (readOn (atOf (self .place)) (now (bytes .entry))) ⌝ }
     {
         let start = self.place;
         let mut notes = self.notes;
@@ -147,8 +148,8 @@ impl Reading {
         }
     }
 
-    // Writes what a reading prints, into an output with room for any text: the missing ranges, or that they are too many;
-    // or that the settings are refused, as they also are while none were read.
+    // Writes what a reading prints, into an output with room for any text: the missing ranges, or that they are too
+    // many; or that the settings are refused, as they also are while none were read.
     pub fn write(self, edges: &[u64], out: &mut [u8]) -> Written
         ensures { λ r. ⌜ Writes r (now (out .entry)) (now (out .exit)) (roomGround (now (out .entry))) 0
             (textOf (lentReading self (now (edges .entry)))) ⌝ }
@@ -168,10 +169,11 @@ impl Reading {
         }
     }
 
-    // Lays what it prints at the front of an output, and answers how many bytes that is: all of it, where the output has
-    // room for any text.
+    // Lays what it prints at the front of an output, and answers how many bytes that is: all of it, where the output
+    // has room for any text.
     pub fn printed(self, edges: &[u64], out: &mut [u8]) -> usize
-        ensures { λ r. ⌜ PrintsIn r (now (out .entry)) (now (out .exit)) (textOf (lentReading self (now (edges .entry)))) ⌝ }
+        ensures { λ r. ⌜ PrintsIn r (now (out .entry)) (now (out .exit))
+            (textOf (lentReading self (now (edges .entry)))) ⌝ }
     {
         match self.write(edges, out) {
             Written::Wrote { size } => size,

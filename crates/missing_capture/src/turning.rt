@@ -1,6 +1,6 @@
 // A program that reads a capture over one lent buffer: each turn takes what came behind the bytes that were kept, and
-// keeps what it did not use. The words of the edges are lent beside it. The program only reads, turns, and stops where a
-// turn says so.
+// keeps what it did not use. The words of the edges are lent beside it. The program only reads, turns, and stops where
+// a turn says so.
 use crate::reading::Reading;
 use capture_events::there;
 use capture_records::buffer;

@@ -6,7 +6,6 @@ use Prim.Native.Nat.{ℕ, _+_, _≤_, _<_}
 use native.Mathlib.Omega.{arith}
 use lib.Dec.{leb}
 use borrow.Author.Tests.{le-leb, lt-leb, leb-true}
-use Rattle.wire.specs.Choice.{if_then_else_}
 use Rattle.wire.proofs.Cases.{below-or-not}
 use Rattle.missing_ranges.specs.Edges.{Range, range, isListed, risesFrom}
 use Rattle.missing_ranges.specs.Meaning.{JustOne}

@@ -88,8 +88,8 @@ pub(crate) fn lay_middle(edges: &mut [u64], i: usize, j: usize, f: u64, e: u64) 
     i
 }
 
-// Puts the edges of the numbers from f to just below e in place of those from place i to just below j, the first n being
-// edges. What stands behind them moves where it has to.
+// Puts the edges of the numbers from f to just below e in place of those from place i to just below j, where the first
+// n are edges. What stands behind them moves where it has to.
 pub(crate) fn replace(edges: &mut [u64], n: usize, i: usize, j: usize, f: u64, e: u64)
     requires { ⌜ Fitting (now edges) n i j f e ⌝ }
     ensures { λ _. ⌜ now (edges .exit)

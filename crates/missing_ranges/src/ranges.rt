@@ -11,7 +11,7 @@ ghost use Rattle.missing_ranges.specs.Promises.{MissingPromises};
 
 // What is known of a session's numbers. The edges of its missing ranges stand in lent words.
 pub struct Missing {
-    // Nothing is noted any more: more ranges were needed than are kept or than the lent words hold, or it never started.
+    // Nothing is noted: more ranges were needed than are kept or than the lent words hold, or it never started.
     pub refused: bool,
     // The ranges that have both edges.
     pub closed: usize,
@@ -157,8 +157,8 @@ impl Missing {
     }
 
     // Notes that the numbers from first to just below next are carried, and that next is stated: none is carried where
-    // next isn't above first. Where more ranges would be missing than are kept, or the lent words don't hold their edges,
-    // it is refused, and no edge changes.
+    // next isn't above first. Where more ranges would be missing than are kept, or the lent words don't hold their
+    // edges, it is refused, and no edge changes.
     pub fn note(self, edges: &mut [u64], first: SequenceNumber, next: SequenceNumber) -> Missing
         ensures { λ r. ⌜ lent r (now (edges .exit)) ≡ noteOf (lent self (now (edges .entry))) (first .0) (next .0) ⌝ }
     {

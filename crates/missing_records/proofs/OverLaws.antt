@@ -1,7 +1,7 @@
 -- What a list of datagrams comes to is what the accepted ones of them say.
 use mathlib.Core.Path.{_≡_, refl, ap, sym, subst, _∙_}
 use mathlib.Core.List.{List, [], _∷_, _++_, append-assoc, append-nil}
-use mathlib.Core.Bool.{Bool, true, false, not, _&&_}
+use mathlib.Core.Bool.{Bool, true, false, _&&_}
 use Prim.Native.Nat.{ℕ, _+_, _≤_}
 use native.Mathlib.Omega.{arith}
 use lib.ListN.{length, take, drop, take-append-drop}
@@ -24,7 +24,7 @@ use Rattle.missing_ranges.proofs.MeaningLaws.{edgesOver, allRanges, lists-all}
 use Rattle.missing_ranges.proofs.OneLaws.{same-list}
 use Rattle.missing_ranges.proofs.HoldLaws.{noted-holds, noted-ranges, words-agree}
 use Rattle.missing_ranges.proofs.PromiseLaws.{missing-promises}
-use Rattle.missing_records.specs.Records.{accepted, nextIn, LentNotes, lentNotes, lentIn, notesWith, startNotes, takeOf, over}
+use Rattle.missing_records.specs.Records.{accepted, nextIn, LentNotes, lentIn, notesWith, startNotes, takeOf, over}
 use Rattle.missing_records.specs.Promises.{carries, isCarried, highestOf, ListsMissing, ListsWhatIsMissing, TotalIsExact, JustOne, NeedsMore, NeedsMoreWithin, exampleDatagrams, NotWeak, DatagramPromises}
 
 -- ---- what the accepted ones of a list say
@@ -66,10 +66,6 @@ saids-yes name d ds e = rw e
 saids-no : (name d : List ℕ) (ds : List (List ℕ)) → accepted name d ≡ false → saidsOf name (d ∷ ds) ≡ saidsOf name ds
 unfolding saidsOf saidsIf
 saids-no name d ds e = rw e
-
-over-one : (x : Lent) (d : said.Said) (ds : List said.Said) → said.over (noteOf x (d .first) (d .next)) ds ≡ said.over x (d ∷ ds)
-unfolding said.over
-over-one x d ds = refl
 
 over-so : (x : LentNotes) (ds : List (List ℕ)) → over x ds ≡ notedBy x (saidsOf (x .notes .session) ds)
 unfolding over said.over saidsOf

@@ -5,7 +5,6 @@ use mathlib.Core.Bool.{Bool, true, false}
 use Prim.Native.Nat.{ℕ, _+_, _/_, min}
 use native.Mathlib.Omega.{arith}
 use lib.ListN.{length, take}
-use lib.Dec.{eqb}
 use borrow.Author.Tests.{ne-eqb, eq-eqb}
 use Rattle.wire.specs.Choice.{if_then_else_}
 use Rattle.wire.specs.Bounds.{largestNumber}
@@ -18,7 +17,7 @@ use Rattle.wire.specs.declared.kinds.MessageCount.{MessageCount}
 use Rattle.moldudp64.specs.Header.{numberOf}
 use Rattle.moldudp64.specs.declared.downstream.Downstream.{Downstream}
 use Rattle.moldudp64.specs.declared.downstream.Downstream.the-variants.{Data, Heartbeat, EndOfSession, Refused}
-use Rattle.moldudp64.specs.Downstream.{heartbeat, end-of-session, blockCount, refusalOf, downstreamWords, downstreamOf}
+use Rattle.moldudp64.specs.Downstream.{heartbeat, end-of-session, refusalOf, downstreamWords, downstreamOf}
 use Rattle.moldudp64.proofs.DownstreamLaws.{sound, data-read, kind-read, refusal-read, number-read, no-blocks}
 use Rattle.missing_ranges.specs.declared.ranges.Missing.{Missing}
 use Rattle.missing_ranges.specs.Notes.{missing, Lent, lent, startIn, edgesAfter, topAfter, isKept, noteOf}
