@@ -1,4 +1,4 @@
--- Orders 6 and 13: each field is a law of the crate that states it.
+-- Orders 6, 11 and 13: each field is a law of the crate that states it.
 use Rattle.early_receiver.proofs.Promises.{early-promises}
 use Rattle.early_messages.proofs.GivesLaws.{places-are-delivered, places-exist}
 use Rattle.early_messages.proofs.PartLaws.{parts-are-messages}
@@ -13,10 +13,13 @@ use Rattle.early_condition_3.proofs.ExampleLaws.{not-vacuous, swapped-example}
 use Rattle.capture_tally.proofs.SumLaws.{sums}
 use Rattle.capture.proofs.AloneLaws.{any-slots}
 use Rattle.capture.proofs.ExampleLaws.{printed-example}
+use Rattle.missing_records.proofs.OverLaws.{datagram-promises}
+use Rattle.missing_capture.proofs.WholeLaws.{missing-capture-promises}
 use Rattle.exports_early.proofs.RunLaws.{hands-on, host-gets-true}
 use Rattle.exports_early_deliver.proofs.PlaceLaws.{places-are-messages, enough-places, still-there}
 use Rattle.exports_early_deliver.proofs.RunLaws as one-call
-use Rattle.acceptance.specs.Orders.{Order6, Order13}
+use Rattle.exports_missing.proofs.FeedLaws.{missing-hands-on}
+use Rattle.acceptance.specs.Orders.{Order6, Order11, Order13}
 
 pub order-6 : Order6
 order-6 =
@@ -43,6 +46,15 @@ order-6 =
       by-one-call = one-call.hands-on;
       not-vacuous = not-vacuous;
       not-weak = not-weak;
+    }
+
+pub order-11 : Order11
+order-11 =
+    record {
+      every-capture = missing-capture-promises .prints-what-is-missing;
+      at-datagrams = datagram-promises;
+      however-read = missing-capture-promises;
+      hands-on = missing-hands-on;
     }
 
 pub order-13 : Order13

@@ -1,4 +1,4 @@
--- Orders 6 and 13 of document 02 by name: the statements that carry them, wherever they stand.
+-- Orders 6, 11 and 13 of document 02 by name: the statements that carry them, wherever they stand.
 use Rattle.early_receiver.specs.Early.{lentAfter}
 use Rattle.early_receiver.specs.Statements.{EarlyPromises}
 use Rattle.early_messages.specs.Delivery.{delivery, PartsAreMessages, PlacesExist, PlacesAreDelivered}
@@ -12,9 +12,12 @@ use Rattle.early_condition_3.specs.Witnesses.{NotVacuous, NotWeak, SwappedExamp
 use Rattle.capture_tally.specs.Sums.{Sums}
 use Rattle.capture.specs.Whole.{AnySlots}
 use Rattle.capture.specs.Example.{PrintedExample}
+use Rattle.missing_records.specs.Promises.{DatagramPromises}
+use Rattle.missing_capture.specs.Whole.{PrintsWhatIsMissing, MissingCapturePromises}
 use Rattle.exports_early.specs.Run.{HandsOn, HostGetsTrue}
 use Rattle.exports_early_deliver.specs.Places.{PlacesAreMessages, EnoughPlaces, StillThere}
 use Rattle.exports_early_deliver.specs.Run as one-call
+use Rattle.exports_missing.specs.Calls.{MissingHandsOn}
 
 -- Order 6: keep early messages
 pub record Order6 : Type 0 where
@@ -51,6 +54,19 @@ pub record Order6 : Type 0 where
   -- it speaks of something, and wrong receivers break it
   pub not-vacuous : NotVacuous
   pub not-weak : NotWeak
+
+-- Order 11: what is missing from this capture
+pub record Order11 : Type 0 where
+  -- every capture prints that its settings are refused, the list of what is missing, or that more ranges are than are
+  -- kept
+  pub every-capture : PrintsWhatIsMissing
+  -- over every list of datagrams: a number is listed exactly when it is missing, by one list alone, whose sizes add up;
+  -- refused just where more ranges are needed; it speaks of something, and wrong lists break it
+  pub at-datagrams : DatagramPromises
+  -- whatever the lent words were, for every cutting into pieces and all turns over a buffer
+  pub however-read : MissingCapturePromises
+  -- over calls of the exported functions, the state and the words of the edges handed on
+  pub hands-on : MissingHandsOn
 
 -- Order 13: swapped neighbours
 pub record Order13 : Type 0 where

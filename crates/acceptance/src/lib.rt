@@ -6,7 +6,7 @@ ghost use Rattle.exports_receiver.specs.Run.{HostGetsTrue};
 ghost use Rattle.acceptance.specs.Conditions.{Condition1, Condition2, Condition2IsMeant};
 ghost use Rattle.acceptance.specs.Conditions.{Condition3, RefusedChangeNothing, Condition3IsMeant};
 ghost use Rattle.acceptance.specs.Examples.{EveryExample};
-ghost use Rattle.acceptance.specs.Orders.{Order6, Order13};
+ghost use Rattle.acceptance.specs.Orders.{Order6, Order11, Order13};
 ghost use Rattle.acceptance.specs.Layouts.{EveryLayout};
 
 // A refusal changes neither state nor one lent byte.
@@ -33,6 +33,11 @@ pub fn condition_3()
 // Order 6: the receiver that keeps early messages.
 pub fn order_6()
     ensures { λ _. ⌜ Order6 ⌝ }
+{}
+
+// Order 11: what is missing from a capture.
+pub fn order_11()
+    ensures { λ _. ⌜ Order11 ⌝ }
 {}
 
 // Order 13: swapped neighbours do no harm.

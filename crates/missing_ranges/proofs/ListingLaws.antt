@@ -12,7 +12,7 @@ use mir.Val.{Fits}
 use borrow.Author.Tests.{lt-ltb, le-ltb, ltb-true, ne-eqb, not-true, not-false}
 use Rattle.wire.specs.Bounds.{upTo}
 use Rattle.wire.proofs.Numbers.{part-to-end}
-use Rattle.missing_ranges.specs.Edges.{Range, range, rangesOf, totalFrom, mostRanges}
+use Rattle.missing_ranges.specs.Edges.{Range, range, rangesOf, totalFrom}
 use Rattle.missing_ranges.specs.declared.ranges.Missing.{Missing}
 use Rattle.missing_ranges.specs.declared.listing.Listed.{Listed}
 use Rattle.missing_ranges.specs.Notes.{lent, isUsable, rangesIn, totalIn, rangeAt}
@@ -260,25 +260,3 @@ module _ (s : Missing) (l : List ℕ) (n place : ℕ) (en : n ≡ length (ranges
         (rw (getD-take (k + k + 1) l (place + place) 0 (omega arith)) (rw q o))
         ∙ rw (getD-take (k + k + 1) l (place + place) 0 (omega arith)) in
         record { there = there; first = sym (ap (λ (r : Range). r .from) e); last = et ∙ sym (ap (λ (r : Range). r .to) e) }
-
--- ---- for those who read them all out
-
--- words that a caller made up may hold one range more than are kept
-pub ranges-few : (s : Missing) (l : List ℕ) → length (rangesIn (lent s l)) ≤ mostRanges + 1
-ranges-few s l = go (isUsable (lent s l)) refl
-  where
-    go : (b : Bool) → isUsable (lent s l) ≡ b → length (rangesIn (lent s l)) ≤ mostRanges + 1
-    go true p =
-        let c = count-are s l p in
-        let o = one-most (ltb (getD l (s .closed + s .closed) 0) (s .highest .0)) in
-        let u = usable-so (lent s l) p .few in
-        omega arith
-    go false p = let z : length (rangesIn (lent s l)) ≡ 0 = ap length (ranges-none s l p) in omega arith
-
--- from a place on there are the range at it and those from the next
-pub ranges-from : (rs : List Range) (p : ℕ) → p < length rs → drop p rs ≡ rangeAt p rs ∷ drop (p + 1) rs
-ranges-from [] p h = absurd (omega arith)
-ranges-from (r ∷ rs) zero h = at-first r rs
-ranges-from (r ∷ rs) (suc p) h =
-    let k : suc p + 1 ≡ suc (p + 1) = omega arith in
-    rw (k, at-next p r rs) (ranges-from rs p (omega arith))
