@@ -13,6 +13,7 @@
 pub mod capture;
 pub mod early;
 pub mod login;
+pub mod missing;
 pub mod mold;
 pub mod receiver;
 pub mod session;
