@@ -188,11 +188,14 @@ const HANDLING: &[(&str, Fault)] = &[
             touch(after.edges.last_mut());
         }
     }),
-    ("what is only asked moves an edge", |call, _, code, after| {
-        if matches!(call, Call::MissingCount) && *code == 0 {
-            touch(after.edges.first_mut());
-        }
-    }),
+    (
+        "what is only asked moves an edge",
+        |call, _, code, after| {
+            if matches!(call, Call::MissingCount) && *code == 0 {
+                touch(after.edges.first_mut());
+            }
+        },
+    ),
     (
         "a feed for what is missing tidies the state",
         |call, _, code, after| {
@@ -776,12 +779,15 @@ const RULES: &[(&str, Fault)] = &[
             }
         },
     ),
-    ("a missing range ends at its edge", |call, _, code, after| {
-        let found = matches!(call, Call::MissingRange { .. }) && *code == 0;
-        if found && after.words[0] == 1 {
-            after.words[2] = after.words[2].wrapping_add(1);
-        }
-    }),
+    (
+        "a missing range ends at its edge",
+        |call, _, code, after| {
+            let found = matches!(call, Call::MissingRange { .. }) && *code == 0;
+            if found && after.words[0] == 1 {
+                after.words[2] = after.words[2].wrapping_add(1);
+            }
+        },
+    ),
     (
         "the last missing range isn't counted",
         |call, _, code, after| {
@@ -814,7 +820,9 @@ const RULES: &[(&str, Fault)] = &[
         "a datagram of another session counts as missing's own",
         |call, before, code, after| {
             if let Call::MissingFeed { bytes } = *call {
-                let named = bytes.get(2..12).filter(|name| before.state.get(2..12) != Some(name));
+                let named = bytes
+                    .get(2..12)
+                    .filter(|name| before.state.get(2..12) != Some(name));
                 let records = before.state.get(1) == Some(&2) && *code == 0;
                 if let (Some(name), true) = (named, records) {
                     let own = before.state[2..12].to_vec();

@@ -77,6 +77,8 @@ pub fn ranges(noting: &Noting, words: &[u64]) -> Vec<(u128, u128)> {
 
 /// How many numbers ranges have: none where the edges fall, and a sum stops at 2^64 - 1.
 pub fn total(ranges: &[(u128, u128)]) -> u128 {
-    let sizes = ranges.iter().map(|(from, to)| (to + 1).saturating_sub(*from));
+    let sizes = ranges
+        .iter()
+        .map(|(from, to)| (to + 1).saturating_sub(*from));
     sizes.sum::<u128>().min(u64::MAX.into())
 }

@@ -76,7 +76,10 @@ pub fn of(call: &Call, lent: &Lent) -> Vec<&'static str> {
         of_state(call, &lent.state, &mut ladder);
     }
     of_slots(call, &lent.slots, &mut ladder);
-    ladder.rung(has_edges(call) && lent.edges.len() != edges::WORDS, OTHER_EDGES);
+    ladder.rung(
+        has_edges(call) && lent.edges.len() != edges::WORDS,
+        OTHER_EDGES,
+    );
     if whole {
         ladder.rung(ends_below(call, &lent.state), "20");
     }

@@ -70,7 +70,10 @@ pub fn edges(random: &mut Random) -> Vec<u64> {
 /// Edges that are fewer or more.
 fn other_edges(random: &mut Random, lent: &mut Vec<u64>) {
     let many = edges::WORDS;
-    lent.resize(random.pick(&[0, 1, many - 2, many - 1, many + 1, many + 2]), 7);
+    lent.resize(
+        random.pick(&[0, 1, many - 2, many - 1, many + 1, many + 2]),
+        7,
+    );
 }
 
 /// Whether the function writes to slots.

@@ -218,7 +218,11 @@ fn many(run: &mut Run, random: &mut Random) {
     if (printed == "ranges=refused") != is_past {
         run.fail("another number of ranges is refused");
     }
-    let drawn = if is_past { "4,097 ranges" } else { "4,096 ranges" };
+    let drawn = if is_past {
+        "4,097 ranges"
+    } else {
+        "4,096 ranges"
+    };
     run.note("missing_many", drawn);
 }
 
