@@ -51,8 +51,8 @@ pub const STAGE: usize = 1;
 pub const CAPTURE_RECEIVER: usize = 2;
 pub const RECORDS: usize = 159;
 
-/// The same of a reading for what is missing: how many records are left, its ranges with both edges, and the byte by which
-/// they are refused.
+/// The same of a reading for what is missing: how many records are left, its ranges with both edges, and the byte by
+/// which they are refused.
 pub const LEFT: usize = 20;
 pub const CLOSED: usize = 28;
 pub const REFUSED: usize = 36;

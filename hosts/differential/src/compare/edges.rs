@@ -17,7 +17,7 @@ fn edges<'w>(noting: &Noting, words: &'w [u64]) -> &'w [u64] {
     &words[..2 * noting.closed as usize + 1]
 }
 
-/// Behind the last edge that is the number or lies below it, looked for by halves: of edges that don't rise that decides.
+/// Behind the last edge that is the number or lies below it, looked for by halves, which decides where they don't rise.
 fn place_past(edges: &[u64], number: u64) -> usize {
     let (mut low, mut high) = (0, edges.len());
     while low < high {

@@ -1,5 +1,5 @@
-//! Order 11: what is missing from a capture. The numbers that are carried are kept as runs, and what lies between them is
-//! missing. Settings and records are document 01's.
+//! Order 11: what is missing from a capture. The numbers that are carried are kept as runs, and what lies between them
+//! is missing. Settings and records are document 01's.
 
 use super::capture::{record, settings, MOST_RECORDS};
 use super::{mold, Name};

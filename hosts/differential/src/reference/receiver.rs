@@ -32,8 +32,8 @@ pub enum Answer {
     Ended,
 }
 
-/// 17 and 18, of a receiver of either kind: another session than its own, or, while it has no name, a blank one; and one
-/// that has ended.
+/// 17 and 18, of a receiver of either kind: another session than its own, or, while it has no name, a blank one; and
+/// an end that it has come to.
 pub fn may_take(own: &Name, ended: bool, session: &Name) -> Result<(), Refusal> {
     let differs = match *own == BLANK {
         true => *session == BLANK,
