@@ -13,10 +13,10 @@ build_library() {
     fi
 }
 
-# The capture program. One that was proved already isn't written again, so it is marked as looked at.
-build_capture_report() {
-    if stale target/bin/capture_report; then
-        rt check capture_report
-        touch target/bin/capture_report
+# A program that reads captures. One that was proved already isn't written again, so it is marked as looked at.
+build_program() { # NAME
+    if stale "target/bin/$1"; then
+        rt check "$1"
+        touch "target/bin/$1"
     fi
 }

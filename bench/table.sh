@@ -9,7 +9,7 @@ cd "$(dirname "$0")/.."
 . bench/built.sh
 
 build_library
-build_capture_report
+build_program capture_report
 cargo build --quiet --release --offline --manifest-path hosts/Cargo.toml -p yardstick
 programs=${CARGO_TARGET_DIR:-hosts/target}/release
 "$programs/yardstick" table "$@"

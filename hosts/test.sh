@@ -36,10 +36,10 @@ END
 "$programs/vector"
 
 # the examples print what is stored beside them
-for program in feed early login branch test; do
+for program in feed early missing login branch test; do
     cc -std=c11 "${warnings[@]}" "c/$program.c" "$library" -o "$programs/$program"
 done
-for example in feed early login branch; do
+for example in feed early missing login branch; do
     "$programs/$example" | diff "c/$example.txt" -
 done
 "$programs/test"

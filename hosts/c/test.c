@@ -1,10 +1,12 @@
 /* A test that each exported function does what eiderwagon.h says, and that the header itself holds.
  *
- * ../test.sh builds and runs it. feed.c, early.c, login.c and branch.c, beside it, are the examples. The parts:
+ * ../test.sh builds and runs it. feed.c, early.c, missing.c, login.c and branch.c, beside it, are the examples. The
+ * parts:
  *   1. both MoldUDP64 receivers, with gaps,  5. what is done, and that it changes no more than it says
  *      a store and a transmitter             6. states: open by their own code alone, and made by hand
  *   2. a SoupBinTCP login and session        7. buffers with no elements, at NULL
- *   3. a capture, whole and in pieces        8. the version, codes, and grounds in words
+ *   3. a capture, whole and in pieces, and   8. the version, codes, and grounds in words
+ *      what is missing from it
  *   4. what is refused, and that it
  *      changes nothing
  */
@@ -600,6 +602,60 @@ static void report_captures(void) {
     CHECK(same(out, WORD(WRITE_SIZE), "settings=refused\n"));
 }
 
+/* A capture in which 2 and 5 to 8 are missing, and one message is of another session. */
+static Bytes gappy_capture(void) {
+    static const char settings[] = "session=READROOM01\nnext=1\nlimit=100\n";
+    Bytes capture = {{0}, sizeof settings - 1};
+    Bytes other = data(5, 1, (const uint16_t[]){4}, "five");
+    other.bytes[9] = '2';
+    memcpy(capture.bytes, settings, capture.size);
+    record(&capture, data(3, 1, (const uint16_t[]){5}, "three"));
+    record(&capture, end_of_session(6));
+    record(&capture, data(4, 1, (const uint16_t[]){4}, "four")); /* after the end, and it counts */
+    record(&capture, other);
+    record(&capture, heartbeat(9));
+    record(&capture, data(1, 1, (const uint16_t[]){3}, "one"));
+    return capture;
+}
+
+static const char gaps[] = "session=READROOM01\nfrom=2\nto=2\nfrom=5\nto=8\nmissing=5\n";
+
+/* Reads a capture in pieces for what is missing, and lists it by range and as text. */
+static void list_in_pieces(const Bytes *capture, size_t piece) {
+    static uint64_t edges[EIDERWAGON_MISSING_EDGES];
+    static uint8_t out[EIDERWAGON_MISSING_TEXT];
+    uint8_t reading[EIDERWAGON_MISSING_SIZE];
+    Bytes kept = {{0}, 0};
+    uint64_t words[EIDERWAGON_MISSING_RANGE_WORDS];
+    DONE(eiderwagon_missing_start(LEND(reading)));
+    for (size_t at = 0; at < capture->size; at += piece) {
+        size_t left = capture->size - at;
+        size_t came = left < piece ? left : piece;
+        memcpy(kept.bytes + kept.size, capture->bytes + at, came);
+        kept.size += came;
+        DONE(eiderwagon_missing_feed(LEND(reading), LEND(edges), kept.bytes, kept.size, LEND(words)));
+        CHECK(WORD(FEED_USED) <= kept.size && WORD(FEED_OVER) == 0);
+        pass(&kept, WORD(FEED_USED));
+    }
+    DONE(eiderwagon_missing_finish(LEND(reading), LEND(edges), kept.bytes, kept.size));
+    DONE(eiderwagon_missing_count(LEND(reading), LEND(edges), LEND(words)));
+    CHECK(WORD(MISSING_COUNT_LISTED) == 1 && WORD(MISSING_COUNT_RANGES) == 2 && WORD(MISSING_COUNT_NUMBERS) == 5);
+    DONE(eiderwagon_missing_range(LEND(reading), LEND(edges), 1, LEND(words)));
+    CHECK(WORD(MISSING_RANGE_FOUND) == 1 && WORD(MISSING_RANGE_FROM) == 5 && WORD(MISSING_RANGE_TO) == 8);
+    DONE(eiderwagon_missing_range(LEND(reading), LEND(edges), 2, LEND(words)));
+    CHECK(WORD(MISSING_RANGE_FOUND) == 0 && WORD(MISSING_RANGE_FROM) == 0 && WORD(MISSING_RANGE_TO) == 0);
+    DONE(eiderwagon_missing_write(LEND(reading), LEND(edges), LEND(out), LEND(words)));
+    CHECK(same(out, WORD(WRITE_SIZE), gaps));
+}
+
+static void list_what_is_missing(void) {
+    const Bytes capture = gappy_capture();
+    for (size_t piece = 1; piece <= 7; piece++) {
+        list_in_pieces(&capture, piece);
+    }
+    list_in_pieces(&capture, capture.size);
+}
+
 /* ---- 4. Refusals ------------------------------------------------------------------------------------------------- */
 
 /* Everything that a call of this part may be lent to write in. */
@@ -611,9 +667,12 @@ static struct {
     uint64_t places[4 * EIDERWAGON_EARLY_PLACE_WORDS];
     uint8_t walk[EIDERWAGON_WALK_SIZE];
     uint8_t slots[EIDERWAGON_SLOTS_SIZE];
+    uint64_t edges[EIDERWAGON_MISSING_EDGES];
+    uint8_t text[EIDERWAGON_MISSING_TEXT];
 } lent, before;
 
 #define SLOTS LEND(lent.slots)
+#define EDGES LEND(lent.edges)
 
 #define LENT(name) lent.words[EIDERWAGON_##name]
 
@@ -632,6 +691,7 @@ static const uint16_t too_many_lengths[65535];
 #define STATE(size) lent.state, (size_t)(size)
 #define WALK(size) lent.walk, (size_t)(size)
 #define SLOTS_OF(size) lent.slots, (size_t)(size)
+#define EDGES_OF(size) lent.edges, (size_t)(size)
 #define OUT(size) lent.out, (size_t)(size)
 #define PLACES(size) lent.places, (size_t)(size)
 #define PART(array, size) (array), (size_t)(size)
@@ -1216,6 +1276,32 @@ static void refuse_captures(void) {
     REFUSED(OUTPUT_SHORT, eiderwagon_capture_report(TEXT("bad"), OUT(16), WORDS(WRITE)));
 }
 
+static void refuse_what_is_missing(void) {
+    const size_t few = EIDERWAGON_MISSING_EDGES - 1;
+    REFUSED(OUTPUT_SHORT, eiderwagon_missing_start(STATE(EIDERWAGON_MISSING_SIZE - 1)));
+    DONE(eiderwagon_missing_start(LEND(lent.state)));
+    REFUSED(OUTPUT_SHORT, eiderwagon_missing_feed(STATE(EIDERWAGON_MISSING_SIZE - 1), EDGES_OF(few), zeros, 57,
+                                                  FEWER(FEED)));
+    REFUSED(BAD_SETTING, eiderwagon_missing_feed(LEND(lent.state), EDGES_OF(few), zeros, 57, FEWER(FEED)));
+    REFUSED(OUTPUT_SHORT, eiderwagon_missing_feed(LEND(lent.state), EDGES, zeros, 57, FEWER(FEED)));
+    REFUSED(OUTPUT_SHORT, eiderwagon_missing_finish(STATE(EIDERWAGON_MISSING_SIZE - 1), EDGES_OF(few), zeros, 57));
+    REFUSED(BAD_SETTING, eiderwagon_missing_finish(LEND(lent.state), EDGES_OF(few), zeros, 57));
+    REFUSED(OUTPUT_SHORT, eiderwagon_missing_count(STATE(EIDERWAGON_MISSING_SIZE - 1), EDGES_OF(few),
+                                                   FEWER(MISSING_COUNT)));
+    REFUSED(BAD_SETTING, eiderwagon_missing_count(LEND(lent.state), EDGES_OF(few), FEWER(MISSING_COUNT)));
+    REFUSED(OUTPUT_SHORT, eiderwagon_missing_count(LEND(lent.state), EDGES, FEWER(MISSING_COUNT)));
+    REFUSED(OUTPUT_SHORT, eiderwagon_missing_range(STATE(EIDERWAGON_MISSING_SIZE - 1), EDGES_OF(few), 0,
+                                                   FEWER(MISSING_RANGE)));
+    REFUSED(BAD_SETTING, eiderwagon_missing_range(LEND(lent.state), EDGES_OF(few), 0, FEWER(MISSING_RANGE)));
+    REFUSED(OUTPUT_SHORT, eiderwagon_missing_range(LEND(lent.state), EDGES, 0, FEWER(MISSING_RANGE)));
+    REFUSED(OUTPUT_SHORT, eiderwagon_missing_write(STATE(EIDERWAGON_MISSING_SIZE - 1), EDGES_OF(few),
+                                                   LEND(lent.text), FEWER(WRITE)));
+    REFUSED(BAD_SETTING, eiderwagon_missing_write(LEND(lent.state), EDGES_OF(few), LEND(lent.text), FEWER(WRITE)));
+    REFUSED(OUTPUT_SHORT, eiderwagon_missing_write(LEND(lent.state), EDGES, LEND(lent.text), FEWER(WRITE)));
+    REFUSED(OUTPUT_SHORT, eiderwagon_missing_write(LEND(lent.state), EDGES, PART(lent.text, sizeof lent.text - 1),
+                                                   WORDS(WRITE)));
+}
+
 /* ---- 5. What isn't named stays ----------------------------------------------------------------------------------- */
 
 static int untouched(const void *place, size_t size) {
@@ -1305,6 +1391,14 @@ static void use_no_more_of_a_state_than_its_size(void) {
     CHECK(untouched(lent.out + EIDERWAGON_LARGEST_REPLY, sizeof lent.out - EIDERWAGON_LARGEST_REPLY));
 
     memset(&lent, 0xA5, sizeof lent);
+    USES(EIDERWAGON_MISSING_SIZE, eiderwagon_missing_start(LEND(lent.state)));
+    USES(EIDERWAGON_MISSING_SIZE, eiderwagon_missing_finish(LEND(lent.state), EDGES, zeros, 0));
+    CHECK(untouched(lent.edges, sizeof lent.edges));
+    DONE(eiderwagon_missing_write(LEND(lent.state), EDGES, LEND(lent.text), LEND(lent.words)));
+    CHECK(same(lent.text, LENT(WRITE_SIZE), "settings=refused\n"));
+    CHECK(untouched(lent.text + 17, sizeof lent.text - 17) && untouched(&LENT(WRITE_WORDS), sizeof lent.words[0]));
+
+    memset(&lent, 0xA5, sizeof lent);
     USES(EIDERWAGON_CLIENT_SIZE, eiderwagon_client_start(LEND(name), 0, LEND(lent.state)));
     USES(EIDERWAGON_CLIENT_SIZE, eiderwagon_client_step(LEND(lent.state), TEXT(ACCEPTED), LEND(lent.words)));
     CHECK(LENT(CLIENT_STEP_ANSWER) == EIDERWAGON_SESSION_ACCEPTED && LENT(CLIENT_STEP_NUMBER) == UINT64_MAX);
@@ -1377,6 +1471,7 @@ static void have_early_places_for_the_most_messages(void) {
 /* Each part of a state stands where the header says. */
 static void keep_parts_in_their_places(void) {
     const Bytes capture = sample_capture();
+    const Bytes gappy = gappy_capture();
     memset(&lent, 0xA5, sizeof lent);
 
     DONE(eiderwagon_receiver_start(LEND(name), 258, 772, LEND(lent.state)));
@@ -1426,6 +1521,18 @@ static void keep_parts_in_their_places(void) {
     CHECK(number_in(lent.state, EIDERWAGON_CAPTURE_QUIET_AT, 8) == 1);
     CHECK(number_in(lent.state, EIDERWAGON_CAPTURE_ASKED_AT, 8) == 2);
     CHECK(number_in(lent.state, EIDERWAGON_CAPTURE_REFUSED_AT, 8) == 1);
+
+    DONE(eiderwagon_missing_start(LEND(lent.state)));
+    CHECK(lent.state[EIDERWAGON_MISSING_REFUSED_AT] == 1 && memcmp(lent.state + 2, "          ", 10) == 0);
+    DONE(eiderwagon_missing_feed(LEND(lent.state), EDGES, gappy.bytes, gappy.size, WORDS(FEED)));
+    CHECK(lent.state[EIDERWAGON_MISSING_CODE_AT] == EIDERWAGON_MISSING_OPEN);
+    CHECK(lent.state[EIDERWAGON_MISSING_STAGE_AT] == EIDERWAGON_CAPTURE_RECORDS);
+    CHECK(memcmp(lent.state + EIDERWAGON_MISSING_SESSION_AT, name, sizeof name) == 0);
+    CHECK(number_in(lent.state, EIDERWAGON_MISSING_HIGHEST_AT, 8) == 9);
+    CHECK(number_in(lent.state, EIDERWAGON_MISSING_LEFT_AT, 8) == UINT32_MAX - 6);
+    CHECK(number_in(lent.state, EIDERWAGON_MISSING_CLOSED_AT, 8) == 1);
+    CHECK(lent.state[EIDERWAGON_MISSING_REFUSED_AT] == 0);
+    CHECK(lent.edges[0] == 2 && lent.edges[1] == 3 && lent.edges[2] == 5);
 
     DONE(eiderwagon_mold_walk(capture.bytes, 0, LEND(lent.cursor)));
     CHECK(lent.cursor[EIDERWAGON_CURSOR_CODE_AT] == EIDERWAGON_CURSOR_OPEN);
@@ -1486,6 +1593,11 @@ static void take_bytes_of_zero_as_states(void) {
     CHECK(LENT(FEED_USED) == 4 && LENT(FEED_OVER) == 1);
     DONE(eiderwagon_capture_write(LEND(lent.state), LEND(lent.out), LEND(lent.words)));
     CHECK(same(lent.out, LENT(WRITE_SIZE), "settings=refused\n"));
+
+    DONE(eiderwagon_missing_feed(LEND(lent.state), EDGES, TEXT("more"), LEND(lent.words)));
+    CHECK(LENT(FEED_USED) == 4 && LENT(FEED_OVER) == 1);
+    DONE(eiderwagon_missing_count(LEND(lent.state), EDGES, LEND(lent.words)));
+    CHECK(LENT(MISSING_COUNT_LISTED) == 0 && LENT(MISSING_COUNT_RANGES) == 0 && LENT(MISSING_COUNT_NUMBERS) == 0);
 
     DONE(eiderwagon_mold_next(LEND(lent.cursor), one.bytes, one.size, LEND(lent.words)));
     CHECK(LENT(NEXT_FOUND) == 0 && LENT(NEXT_OFFSET) == 0 && LENT(NEXT_LENGTH) == 0);
@@ -1591,7 +1703,7 @@ static void end_a_capture(void) {
 
 /* What each kind's functions make of the bytes in a buffer: whether they take them for open. */
 typedef struct {
-    int cursor, receiver, server, client, capture, transmitter, early, walk;
+    int cursor, receiver, server, client, capture, transmitter, early, walk, missing;
 } Open;
 
 static Open open_as(const uint8_t *state) {
@@ -1620,12 +1732,15 @@ static Open open_as(const uint8_t *state) {
     DONE(eiderwagon_early_next(LEND(copy), PART(zeros, EIDERWAGON_EARLY_SIZE), SLOTS, one.bytes, one.size,
                                LEND(words)));
     open.walk = WORD(PART_FOUND) == 1;
+    memcpy(copy, state, sizeof copy);
+    DONE(eiderwagon_missing_feed(LEND(copy), EDGES, zeros, 0, LEND(words)));
+    open.missing = WORD(FEED_OVER) == 0;
     return open;
 }
 
 static int opens(Open open) {
     return open.cursor + open.receiver + open.server + open.client + open.capture + open.transmitter + open.early +
-           open.walk;
+           open.walk + open.missing;
 }
 
 /* The bytes of each kind are open for its own functions, and for no others; so is one first byte of all. */
@@ -1660,6 +1775,8 @@ static void be_open_as_one_kind_alone(void) {
     memcpy(before.state, lent.state, sizeof before.state);
     DONE(eiderwagon_early_walk(LEND(before.state), SLOTS, one.bytes, one.size, LEND(lent.state)));
     OPEN_ONLY_AS(walk, EIDERWAGON_WALK_OPEN);
+    DONE(eiderwagon_missing_start(LEND(lent.state)));
+    OPEN_ONLY_AS(missing, EIDERWAGON_MISSING_OPEN);
 }
 
 /* The bytes in lent.state, lent for a cursor: no message is there, and none of them changes. */
@@ -1722,6 +1839,15 @@ static void change_no_byte_where_more_is_needed(void) {
         DONE(eiderwagon_capture_feed(LEND(lent.state), SLOTS, zeros, 1, WORDS(FEED)));
         CHECK(LENT(FEED_USED) == 0 && LENT(FEED_OVER) == 0);
         CHECK(memcmp(before.state, lent.state, sizeof lent.state) == 0);
+
+        /* one for what is missing, with records left */
+        lent.state[EIDERWAGON_MISSING_CODE_AT] = EIDERWAGON_MISSING_OPEN;
+        lent.state[EIDERWAGON_MISSING_LEFT_AT] = 1;
+        memcpy(&before, &lent, sizeof lent);
+        DONE(eiderwagon_missing_feed(LEND(lent.state), EDGES, zeros, 1, WORDS(FEED)));
+        CHECK(LENT(FEED_USED) == 0 && LENT(FEED_OVER) == 0);
+        CHECK(memcmp(before.state, lent.state, sizeof lent.state) == 0);
+        CHECK(memcmp(before.edges, lent.edges, sizeof lent.edges) == 0);
     }
 }
 
@@ -2035,6 +2161,30 @@ static void lend_no_bytes_to_captures(void) {
     REFUSED(OUTPUT_SHORT, eiderwagon_capture_report(NONE, NONE, NONE));
 }
 
+static void lend_no_bytes_to_what_is_missing(void) {
+    memset(&lent, 0xA5, sizeof lent);
+    REFUSED(OUTPUT_SHORT, eiderwagon_missing_start(NONE));
+    DONE(eiderwagon_missing_start(LEND(lent.state)));
+    REFUSED(OUTPUT_SHORT, eiderwagon_missing_feed(NONE, NONE, NONE, NONE));
+    REFUSED(BAD_SETTING, eiderwagon_missing_feed(LEND(lent.state), NONE, NONE, NONE));
+    REFUSED(OUTPUT_SHORT, eiderwagon_missing_feed(LEND(lent.state), EDGES, NONE, NONE));
+    DONE(eiderwagon_missing_feed(LEND(lent.state), EDGES, NONE, WORDS(FEED)));
+    CHECK(LENT(FEED_USED) == 0 && LENT(FEED_OVER) == 0);
+    REFUSED(OUTPUT_SHORT, eiderwagon_missing_finish(NONE, NONE, NONE));
+    REFUSED(BAD_SETTING, eiderwagon_missing_finish(LEND(lent.state), NONE, NONE));
+    REFUSED(OUTPUT_SHORT, eiderwagon_missing_count(NONE, NONE, NONE));
+    REFUSED(BAD_SETTING, eiderwagon_missing_count(LEND(lent.state), NONE, NONE));
+    REFUSED(OUTPUT_SHORT, eiderwagon_missing_count(LEND(lent.state), EDGES, NONE));
+    REFUSED(OUTPUT_SHORT, eiderwagon_missing_range(NONE, NONE, 0, NONE));
+    REFUSED(BAD_SETTING, eiderwagon_missing_range(LEND(lent.state), NONE, 0, NONE));
+    REFUSED(OUTPUT_SHORT, eiderwagon_missing_range(LEND(lent.state), EDGES, 0, NONE));
+    REFUSED(OUTPUT_SHORT, eiderwagon_missing_write(NONE, NONE, NONE, NONE));
+    REFUSED(BAD_SETTING, eiderwagon_missing_write(LEND(lent.state), NONE, NONE, NONE));
+    REFUSED(OUTPUT_SHORT, eiderwagon_missing_write(LEND(lent.state), EDGES, NONE, NONE));
+    DONE(eiderwagon_missing_finish(LEND(lent.state), EDGES, NONE));
+    CHECK(lent.state[EIDERWAGON_MISSING_STAGE_AT] == EIDERWAGON_CAPTURE_BAD);
+}
+
 /* ---- 8. The version, codes and grounds --------------------------------------------------------------------------- */
 
 static void be_of_this_version(void) {
@@ -2068,6 +2218,7 @@ int main(void) {
     be_rejected();
 
     report_captures();
+    list_what_is_missing();
 
     memset(&lent, 0xA5, sizeof lent);
     refuse_datagrams();
@@ -2085,6 +2236,7 @@ int main(void) {
     refuse_a_reply();
     refuse_at_a_client();
     refuse_captures();
+    refuse_what_is_missing();
 
     write_no_more_than_is_said();
     use_no_more_of_a_state_than_its_size();
@@ -2110,6 +2262,7 @@ int main(void) {
     lend_no_bytes_to_packets();
     lend_no_bytes_to_sessions();
     lend_no_bytes_to_captures();
+    lend_no_bytes_to_what_is_missing();
 
     be_of_this_version();
     say_the_grounds();

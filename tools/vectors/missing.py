@@ -110,7 +110,9 @@ def listed(*ranges, session=ROOM):
 def samples(r):
     r.v.section("the samples")
     readme = (ROOT / "captures" / "README.md").read_text()
-    assert (ROOT / "captures" / "gaps.capture").read_bytes() == GAPS
+    program = ROOT / "crates" / "missing_report"
+    assert (ROOT / "captures" / "gaps.capture").read_bytes() == GAPS == (program / "stdin").read_bytes()
+    assert (program / "stdout").read_bytes() == missing_text(GAPS)
     for path in sorted((ROOT / "captures").glob("*.capture")):
         data = path.read_bytes()
         shown = "".join(f"    {line}\n" for line in missing_text(data).decode().splitlines())

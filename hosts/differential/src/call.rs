@@ -13,6 +13,8 @@ pub struct Lent {
     pub places: Vec<u64>,
     /// Of a receiver that keeps early messages.
     pub slots: Vec<u8>,
+    /// Of missing ranges.
+    pub edges: Vec<u64>,
 }
 
 #[derive(Clone, Copy, Debug)]
@@ -196,6 +198,18 @@ pub enum Call<'a> {
     CaptureReport {
         capture: &'a [u8],
     },
+    MissingStart,
+    MissingFeed {
+        bytes: &'a [u8],
+    },
+    MissingFinish {
+        bytes: &'a [u8],
+    },
+    MissingCount,
+    MissingRange {
+        place: u64,
+    },
+    MissingWrite,
 }
 
 /// What a call reads, in one shape for all functions: for printing it, and for seeing that it stays as it was.
@@ -258,6 +272,12 @@ impl<'a> Call<'a> {
             CaptureFinish { .. } => "capture_finish",
             CaptureWrite => "capture_write",
             CaptureReport { .. } => "capture_report",
+            MissingStart => "missing_start",
+            MissingFeed { .. } => "missing_feed",
+            MissingFinish { .. } => "missing_finish",
+            MissingCount => "missing_count",
+            MissingRange { .. } => "missing_range",
+            MissingWrite => "missing_write",
         }
     }
 
@@ -432,14 +452,21 @@ impl<'a> Call<'a> {
                 vec![("accounts", Bytes(accounts)), ("stream", Bytes(stream))]
             }
             ClientStep { stream } => vec![("stream", Bytes(stream))],
-            CaptureFeed { bytes } | CaptureFinish { bytes } => vec![("bytes", Bytes(bytes))],
+            CaptureFeed { bytes }
+            | CaptureFinish { bytes }
+            | MissingFeed { bytes }
+            | MissingFinish { bytes } => vec![("bytes", Bytes(bytes))],
+            MissingRange { place } => vec![("place", Number(place))],
             CaptureReport { capture } => vec![("capture", Bytes(capture))],
             SoupWriteServerHeartbeat
             | SoupWriteEnd
             | SoupWriteClientHeartbeat
             | SoupWriteLogout
             | CaptureStart
-            | CaptureWrite => vec![],
+            | CaptureWrite
+            | MissingStart
+            | MissingCount
+            | MissingWrite => vec![],
         }
     }
 }
@@ -500,11 +527,10 @@ impl Display for Lent {
         writeln!(formatter, "  out = {}", hex(&self.out))?;
         writeln!(formatter, "  state = {}", hex(&self.state))?;
         writeln!(formatter, "  slots = {}", hex(&self.slots))?;
-        let shown = &self.places[..self.places.len().min(PRINTED / 4)];
-        writeln!(
-            formatter,
-            "  places = ({} words) {shown:?}",
-            self.places.len()
-        )
+        for (name, words) in [("places", &self.places), ("edges", &self.edges)] {
+            let shown = &words[..words.len().min(PRINTED / 4)];
+            writeln!(formatter, "  {name} = ({} words) {shown:?}", words.len())?;
+        }
+        Ok(())
     }
 }

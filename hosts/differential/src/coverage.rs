@@ -1,6 +1,6 @@
 //! Which outcomes of which functions were drawn, against the list of all that there are.
 
-use crate::compare::grounds::{number, OTHER_SLOTS};
+use crate::compare::grounds::{number, OTHER_EDGES, OTHER_SLOTS};
 use std::collections::BTreeMap;
 use std::fmt::{self, Display, Formatter};
 
@@ -93,6 +93,15 @@ capture_finish: settings, refused | settings, cut short | settings, whole | reco
     records, the most there are | records, whole | done before | refused before | 41 state | 19 slots
 capture_write: report | settings=refused | 41 state | 41 output | 41 words
 capture_report: report | settings=refused | 41 output | 41 words
+missing_start: started | 41 state
+missing_feed: settings, need more | settings, refused | settings, read | records, all used |
+    records, some kept | records, too many ranges | records, refused before | records, the most there are |
+    done before | refused before | 41 state | 19 edges | 41 words
+missing_finish: settings, refused | settings, cut short | settings, whole | records, cut short |
+    records, the most there are | records, whole | done before | refused before | 41 state | 19 edges
+missing_count: some | none | settings=refused | ranges=refused | 41 state | 19 edges | 41 words
+missing_range: range | no such place | settings=refused | ranges=refused | 41 state | 19 edges | 41 words
+missing_write: list | settings=refused | ranges=refused | 41 state | 19 edges | 41 output | 41 words
 ";
 
 /// What was read and written back, by what it was.
@@ -124,6 +133,8 @@ run_place: the last | one past the last
 run_output: the packet's size | one byte less
 turn_state: 16 bytes | 17 bytes
 turns: by turns as by place | read back whole
+missing_text: list | settings=refused | ranges=refused
+missing_many: 4,096 ranges | 4,097 ranges
 ";
 
 /// How often each outcome of each function was drawn.
@@ -222,8 +233,8 @@ fn listed_pairs() -> impl Iterator<Item = (&'static str, Pair)> {
 /// Grounds that never apply at once: what one looks at isn't there where the other applies.
 fn are_apart(function: &str, (first, second): &Pair) -> bool {
     let (one, other) = (number(first), number(second));
-    // The size of the slots is looked at by itself.
-    if *second == OTHER_SLOTS {
+    // How many slots or edges are lent is looked at by itself.
+    if [OTHER_SLOTS, OTHER_EDGES].contains(second) {
         return false;
     }
     match (one, other) {

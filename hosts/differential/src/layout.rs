@@ -17,6 +17,8 @@ pub const CAPTURE: usize = 207;
 pub const TRANSMITTER: usize = 17;
 pub const EARLY: usize = 157;
 pub const WALK: usize = 21;
+pub const MISSING: usize = 37;
+pub const MISSING_TEXT: usize = 204_898;
 pub const SLOTS: usize = 65_536;
 pub const ACCOUNT: usize = 16;
 
@@ -29,7 +31,8 @@ pub const CAPTURE_CODE: u8 = 0xE5;
 pub const TRANSMITTER_CODE: u8 = 0xE6;
 pub const EARLY_CODE: u8 = 0xE7;
 pub const WALK_CODE: u8 = 0xE8;
-pub const CODES: [u8; 8] = [
+pub const MISSING_CODE: u8 = 0xE9;
+pub const CODES: [u8; 9] = [
     CURSOR_CODE,
     RECEIVER_CODE,
     SERVER_CODE,
@@ -38,6 +41,7 @@ pub const CODES: [u8; 8] = [
     TRANSMITTER_CODE,
     EARLY_CODE,
     WALK_CODE,
+    MISSING_CODE,
 ];
 
 /// Where the parts stand that are made by hand: a session's phase, a reading's stage, its receiver, and how many
@@ -46,6 +50,25 @@ pub const PHASE: usize = 19;
 pub const STAGE: usize = 1;
 pub const CAPTURE_RECEIVER: usize = 2;
 pub const RECORDS: usize = 159;
+
+/// The same of a reading for what is missing: how many records are left, its ranges with both edges, and the byte by
+/// which they are refused.
+pub const LEFT: usize = 20;
+pub const CLOSED: usize = 28;
+pub const REFUSED: usize = 36;
+
+/// A reading of a capture for what is missing. The edges of its ranges stand in lent words.
+#[derive(Clone, Debug, PartialEq, Eq)]
+pub struct Noting {
+    pub stage: Stage,
+    pub session: Name,
+    pub highest: u64,
+    /// Records that may still be read.
+    pub left: u32,
+    /// The ranges that have both edges.
+    pub closed: u64,
+    pub refused: bool,
+}
 
 /// A place in a datagram, and how many messages are left from there.
 #[derive(Clone, Copy, Debug, PartialEq, Eq)]
@@ -310,17 +333,60 @@ pub fn client_bytes(client: &Client) -> Vec<u8> {
 
 /// What is open takes records by stage 2, and settings by every other one; what isn't is done by stage 3, and else its
 /// settings are refused.
+fn stage(is_open: bool, byte: u8) -> Stage {
+    match (is_open, byte) {
+        (true, 2) => Stage::Records,
+        (true, _) => Stage::Settings,
+        (false, 3) => Stage::Done,
+        (false, _) => Stage::SettingsRefused,
+    }
+}
+
+/// The first two bytes of a reading.
+fn stage_bytes(own: u8, stage: Stage) -> Vec<u8> {
+    let (is_open, byte) = match stage {
+        Stage::Settings => (true, 1),
+        Stage::Records => (true, 2),
+        Stage::Done => (false, 3),
+        Stage::SettingsRefused => (false, 0),
+    };
+    vec![code(own, is_open), byte]
+}
+
+pub fn noting(bytes: &[u8]) -> Noting {
+    let bytes = whole::<MISSING>(bytes);
+    let left = number64(&bytes, LEFT).min(u64::from(MOST_RECORDS));
+    Noting {
+        stage: stage(bytes[0] == MISSING_CODE, bytes[STAGE]),
+        session: array(&bytes, 2),
+        highest: number64(&bytes, 12),
+        left: left as u32,
+        closed: number64(&bytes, CLOSED),
+        refused: bytes[REFUSED] != 0,
+    }
+}
+
+/// How many records are left stands there only where records come next.
+pub fn noting_bytes(noting: &Noting) -> Vec<u8> {
+    let left = match noting.stage {
+        Stage::Records => noting.left.into(),
+        _ => 0,
+    };
+    let mut bytes = stage_bytes(MISSING_CODE, noting.stage);
+    bytes.extend(noting.session);
+    for number in [noting.highest, left, noting.closed] {
+        bytes.extend(number.to_le_bytes());
+    }
+    bytes.push(u8::from(noting.refused));
+    bytes
+}
+
 pub fn capture(bytes: &[u8], slots: &[u8]) -> Capture {
     let bytes = whole::<CAPTURE>(bytes);
     let records = number64(&bytes, RECORDS).min(u64::from(MOST_RECORDS));
     Capture {
         receiver: early(&bytes[CAPTURE_RECEIVER..], slots),
-        stage: match (bytes[0] == CAPTURE_CODE, bytes[STAGE]) {
-            (true, 2) => Stage::Records,
-            (true, _) => Stage::Settings,
-            (false, 3) => Stage::Done,
-            (false, _) => Stage::SettingsRefused,
-        },
+        stage: stage(bytes[0] == CAPTURE_CODE, bytes[STAGE]),
         records: records as u32,
         delivered: number64(&bytes, 167),
         old: number64(&bytes, 175),
@@ -332,13 +398,7 @@ pub fn capture(bytes: &[u8], slots: &[u8]) -> Capture {
 
 /// The reading behind a call that held some messages anew.
 pub fn capture_bytes(capture: &Capture, before: &[u8], kept: &Kept) -> Vec<u8> {
-    let (open, stage) = match capture.stage {
-        Stage::Settings => (true, 1),
-        Stage::Records => (true, 2),
-        Stage::Done => (false, 3),
-        Stage::SettingsRefused => (false, 0),
-    };
-    let mut bytes = vec![code(CAPTURE_CODE, open), stage];
+    let mut bytes = stage_bytes(CAPTURE_CODE, capture.stage);
     let before = &before[CAPTURE_RECEIVER..];
     bytes.extend(early_bytes(&capture.receiver, before, kept));
     let numbers = [

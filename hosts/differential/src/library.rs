@@ -60,6 +60,7 @@ impl Library for Archive {
         let mut state = Guarded::new(&lent.state, BYTE);
         let mut places = Guarded::new(&lent.places, WORD);
         let mut slots = Guarded::new(&lent.slots, BYTE);
+        let mut edges = Guarded::new(&lent.edges, WORD);
         let code = match *call {
             Call::ReceiverDeliver { datagram } => {
                 raw::receiver_deliver(state.lent(), datagram, words.lent(), places.lent())
@@ -78,6 +79,17 @@ impl Library for Archive {
                 raw::capture_feed(state.lent(), slots.lent(), bytes, words.lent())
             }
             Call::CaptureFinish { bytes } => raw::capture_finish(state.lent(), slots.lent(), bytes),
+            Call::MissingFeed { bytes } => {
+                raw::missing_feed(state.lent(), edges.lent(), bytes, words.lent())
+            }
+            Call::MissingFinish { bytes } => raw::missing_finish(state.lent(), edges.lent(), bytes),
+            Call::MissingCount => raw::missing_count(state.lent(), edges.lent(), words.lent()),
+            Call::MissingRange { place } => {
+                raw::missing_range(state.lent(), edges.lent(), place, words.lent())
+            }
+            Call::MissingWrite => {
+                raw::missing_write(state.lent(), edges.lent(), out.lent(), words.lent())
+            }
             _ => exported(call, words.lent(), out.lent(), state.lent()),
         };
         words.back(&mut lent.words, WORD);
@@ -85,6 +97,7 @@ impl Library for Archive {
         state.back(&mut lent.state, BYTE);
         places.back(&mut lent.places, WORD);
         slots.back(&mut lent.slots, BYTE);
+        edges.back(&mut lent.edges, WORD);
         code
     }
 
@@ -100,7 +113,7 @@ impl Library for Archive {
 const WORD: u64 = 0xA5A5_A5A5_A5A5_A5A5;
 const BYTE: u8 = 0xA5;
 
-/// Every function but those that lay places or write to slots.
+/// Every function but those that are lent places, slots to write to, or edges.
 fn exported(call: &Call, words: &mut [u64], out: &mut [u8], state: &mut [u8]) -> u32 {
     match *call {
         Call::MoldRead { datagram } => raw::mold_read(datagram, words),
@@ -133,7 +146,12 @@ fn exported(call: &Call, words: &mut [u64], out: &mut [u8], state: &mut [u8]) ->
         | Call::EarlyTake { .. }
         | Call::EarlyDeliver { .. }
         | Call::CaptureFeed { .. }
-        | Call::CaptureFinish { .. } => unreachable!("it is lent places or slots too"),
+        | Call::CaptureFinish { .. }
+        | Call::MissingFeed { .. }
+        | Call::MissingFinish { .. }
+        | Call::MissingCount
+        | Call::MissingRange { .. }
+        | Call::MissingWrite => unreachable!("it is lent places, slots or edges too"),
         Call::ReceiverWalk {
             datagram,
             count,
@@ -224,5 +242,6 @@ fn exported(call: &Call, words: &mut [u64], out: &mut [u8], state: &mut [u8]) ->
         Call::CaptureStart => raw::capture_start(state),
         Call::CaptureWrite => raw::capture_write(state, out, words),
         Call::CaptureReport { capture } => raw::capture_report(capture, out, words),
+        Call::MissingStart => raw::missing_start(state),
     }
 }

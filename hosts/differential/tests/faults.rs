@@ -178,6 +178,52 @@ const HANDLING: &[(&str, Fault)] = &[
             }
         },
     ),
+    ("a refusal writes to an edge", |_, _, code, after| {
+        if *code != 0 {
+            touch(after.edges.first_mut());
+        }
+    }),
+    ("a word behind the edges is set", |call, _, code, after| {
+        if matches!(call, Call::MissingFeed { .. }) && *code == 0 {
+            touch(after.edges.last_mut());
+        }
+    }),
+    (
+        "what is only asked moves an edge",
+        |call, _, code, after| {
+            if matches!(call, Call::MissingCount) && *code == 0 {
+                touch(after.edges.first_mut());
+            }
+        },
+    ),
+    (
+        "a feed for what is missing tidies the state",
+        |call, _, code, after| {
+            let fed = matches!(call, Call::MissingFeed { .. }) && *code == 0;
+            if fed && after.words[..2] == [0, 0] {
+                after.state[36] = after.state[36].min(1);
+            }
+        },
+    ),
+    (
+        "a text with little room is written all the same",
+        |call, before, code, after| {
+            let lent = before.state.len() >= 37 && before.edges.len() == 8_193;
+            let asked = matches!(call, Call::MissingWrite) && *code == 41;
+            if asked && lent && !before.words.is_empty() && before.out.len() >= 17 {
+                let mut roomy = before.clone();
+                roomy.out.resize(204_898, 0);
+                *code = StandIn.call(call, &mut roomy);
+                let size = roomy.words[0] as usize;
+                if size <= after.out.len() {
+                    after.words.clone_from(&roomy.words);
+                    after.out[..size].copy_from_slice(&roomy.out[..size]);
+                } else {
+                    *code = 41;
+                }
+            }
+        },
+    ),
     ("a short output is filled", |call, _, code, after| {
         if *code == 41 && call.function() == "capture_report" {
             after.out.fill(b'=');
@@ -729,6 +775,61 @@ const RULES: &[(&str, Fault)] = &[
             if let Call::ReceiverStart { session, .. } = call {
                 if *code == 0 && *session == BLANK {
                     refuse(19, before, code, after);
+                }
+            }
+        },
+    ),
+    (
+        "a missing range ends at its edge",
+        |call, _, code, after| {
+            let found = matches!(call, Call::MissingRange { .. }) && *code == 0;
+            if found && after.words[0] == 1 {
+                after.words[2] = after.words[2].wrapping_add(1);
+            }
+        },
+    ),
+    (
+        "the last missing range isn't counted",
+        |call, _, code, after| {
+            if matches!(call, Call::MissingCount) && *code == 0 {
+                after.words[1] = after.words[1].saturating_sub(1);
+            }
+        },
+    ),
+    ("missing numbers wrap", |call, _, code, after| {
+        if matches!(call, Call::MissingCount) && *code == 0 && after.words[2] == u64::MAX {
+            after.words[2] = 0;
+        }
+    }),
+    ("4,096 ranges are refused", |call, _, code, after| {
+        let fed = matches!(call, Call::MissingFeed { .. }) && *code == 0;
+        if fed && after.state[28..36] == 4_096u64.to_le_bytes() {
+            after.state[36] = 1;
+        }
+    }),
+    (
+        "ranges that are too many are kept",
+        |call, before, code, after| {
+            let fed = matches!(call, Call::MissingFeed { .. }) && *code == 0;
+            if fed && before.state[36] == 0 {
+                after.state[36] = 0;
+            }
+        },
+    ),
+    (
+        "a datagram of another session counts as missing's own",
+        |call, before, code, after| {
+            if let Call::MissingFeed { bytes } = *call {
+                let named = bytes
+                    .get(2..12)
+                    .filter(|name| before.state.get(2..12) != Some(name));
+                let records = before.state.get(1) == Some(&2) && *code == 0;
+                if let (Some(name), true) = (named, records) {
+                    let own = before.state[2..12].to_vec();
+                    after.clone_from(before);
+                    after.state[2..12].copy_from_slice(name);
+                    *code = StandIn.call(call, after);
+                    after.state[2..12].copy_from_slice(&own);
                 }
             }
         },

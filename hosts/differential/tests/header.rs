@@ -57,7 +57,7 @@ fn list_has_what_the_header_names() {
     let list: Vec<(&str, Vec<u32>)> = coverage::functions()
         .map(|(function, outcomes)| (function, listed(&outcomes)))
         .collect();
-    assert_eq!(list.len(), 47);
+    assert_eq!(list.len(), 53);
     assert_eq!(list, declared());
 }
 

@@ -1,8 +1,8 @@
 //! What is missing from a capture: the numbers that no datagram of its session carries.
 //!
-//! Settings and records are those of a [capture](crate::capture). Missing is every number from `next=`
-//! of the settings to just below the highest next number, but for those that a datagram carries,
-//! however early or late it came, after the end of the session too.
+//! Settings and records are those of a [capture](crate::capture). Missing is every number from
+//! `next=` of the settings to just below the highest next number, but for those that a datagram
+//! carries, however early or late it came, after the end of the session too.
 //!
 //! ```
 //! use eiderwagon::missing::Missing;

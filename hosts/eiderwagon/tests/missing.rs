@@ -57,7 +57,10 @@ fn ranges_are_listed() {
     assert!(missing.ranges().rev().eq([10..=11, 5..=7, 1..=2]));
     assert_eq!(missing.ranges().len(), 3);
     assert_eq!(missing.summary(), Some(Summary { ranges: 3, numbers: 7 }));
-    assert_eq!((missing.range(1), missing.range(3), missing.range(u64::MAX)), (Some(5..=7), None, None));
+    assert_eq!(
+        (missing.range(1), missing.range(3), missing.range(u64::MAX)),
+        (Some(5..=7), None, None)
+    );
     let text = "session=READROOM01\nfrom=1\nto=2\nfrom=5\nto=7\nfrom=10\nto=11\nmissing=7\n";
     assert_eq!(missing.text(), text);
     assert_eq!((missing.session(), missing.highest()), (*NAME, 12));

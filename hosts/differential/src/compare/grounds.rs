@@ -5,7 +5,7 @@
 
 use super::store::store_of;
 use super::transmitter::run_of;
-use super::{early, fixed_sizes, receiver};
+use super::{early, edges, fixed_sizes, receiver};
 use crate::call::{Call, Lent};
 use crate::layout;
 use crate::reference::login::{self, Reply};
@@ -29,6 +29,7 @@ pub const LAST_FALLS: &str = "19 falls";
 pub const BAD_SIZE: &str = "19 packet";
 pub const BAD_NUMBERS: &str = "19 numbers";
 pub const OTHER_SLOTS: &str = "19 slots";
+pub const OTHER_EDGES: &str = "19 edges";
 /// Of a receiver that is only read.
 pub const SHORT_RECEIVER: &str = "41 receiver";
 /// While a receiver has no name.
@@ -43,7 +44,7 @@ pub fn number(ground: &str) -> u32 {
 
 /// Whether a ground is one of how much is lent, and not of what it says.
 pub fn is_of_what_is_lent(ground: &str) -> bool {
-    number(ground) == 41 || [SETTING_SIZE, FIELD_SIZE, OTHER_SLOTS].contains(&ground)
+    number(ground) == 41 || [SETTING_SIZE, FIELD_SIZE, OTHER_SLOTS, OTHER_EDGES].contains(&ground)
 }
 
 /// Whether a ground is of a size that the wrapper's types have right.
@@ -75,6 +76,10 @@ pub fn of(call: &Call, lent: &Lent) -> Vec<&'static str> {
         of_state(call, &lent.state, &mut ladder);
     }
     of_slots(call, &lent.slots, &mut ladder);
+    ladder.rung(
+        has_edges(call) && lent.edges.len() != edges::WORDS,
+        OTHER_EDGES,
+    );
     if whole {
         ladder.rung(ends_below(call, &lent.state), "20");
     }
@@ -343,6 +348,18 @@ fn ends_below(call: &Call, state: &[u8]) -> bool {
     fields(datagram).is_some_and(|(_, number, count)| count == END && number < next)
 }
 
+/// Whether a call is lent edges.
+pub fn has_edges(call: &Call) -> bool {
+    matches!(
+        call,
+        Call::MissingFeed { .. }
+            | Call::MissingFinish { .. }
+            | Call::MissingCount
+            | Call::MissingRange { .. }
+            | Call::MissingWrite
+    )
+}
+
 /// Slots of another size; before them comes a receiver that is only read and lacks bytes.
 fn of_slots(call: &Call, lent: &[u8], ladder: &mut Ladder) {
     match *call {
@@ -497,6 +514,8 @@ pub fn output_needed(call: &Call, state: &[u8]) -> usize {
         // A state that is too short reads as one whose settings are refused.
         Call::CaptureWrite => layout::capture(state, &[]).report().len(),
         Call::CaptureReport { capture } => crate::reference::capture::report(capture).len(),
+        // Room for any text, whatever this one is.
+        Call::MissingWrite => layout::MISSING_TEXT,
         _ => 0,
     }
 }

@@ -2,7 +2,9 @@
 
 mod capture;
 mod early;
+pub mod edges;
 pub mod grounds;
+mod missing;
 mod mold;
 mod receiver;
 mod session;
@@ -30,6 +32,8 @@ pub struct Expected {
     pub places: Vec<u64>,
     /// The bytes that are written to the slots, each with its place, in order.
     pub slots: Vec<(usize, Vec<u8>)>,
+    /// The words of edges afterwards, from the first on.
+    pub edges: Vec<u64>,
     /// The state or cursor afterwards; none where it stays.
     pub state: Option<Vec<u8>>,
     /// Whether it is left open where the cursor stands: then its code and what stands behind it are compared.
@@ -45,6 +49,7 @@ impl Expected {
             out: vec![],
             places: vec![],
             slots: vec![],
+            edges: vec![],
             state: None,
             cursor_anywhere: false,
         }
@@ -85,6 +90,7 @@ impl Expected {
         for (at, bytes) in &self.slots {
             lent.slots[*at..][..bytes.len()].copy_from_slice(bytes);
         }
+        lent.edges[..self.edges.len()].copy_from_slice(&self.edges);
         if let Some(state) = &self.state {
             lent.state[..state.len()].copy_from_slice(state);
         }
@@ -130,7 +136,8 @@ pub fn refusal_name(code: Refusal) -> &'static str {
 
 /// How many words and how many bytes of a state or cursor a function has.
 pub fn fixed_sizes(call: &Call) -> (usize, usize) {
-    use crate::layout::{CAPTURE, CLIENT, CURSOR, EARLY, RECEIVER, SERVER, TRANSMITTER, WALK};
+    use crate::layout::{CAPTURE, CLIENT, CURSOR, EARLY, MISSING, RECEIVER, SERVER};
+    use crate::layout::{TRANSMITTER, WALK};
     use Call::*;
     match call {
         MoldRead { .. } | MoldLocate { .. } | SoupRead { .. } | SoupScan { .. } => (3, 0),
@@ -154,6 +161,10 @@ pub fn fixed_sizes(call: &Call) -> (usize, usize) {
         CaptureStart | CaptureFinish { .. } => (0, CAPTURE),
         CaptureFeed { .. } => (2, CAPTURE),
         CaptureWrite => (1, CAPTURE),
+        MissingStart | MissingFinish { .. } => (0, MISSING),
+        MissingFeed { .. } => (2, MISSING),
+        MissingCount | MissingRange { .. } => (3, MISSING),
+        MissingWrite => (1, MISSING),
         _ => (1, 0),
     }
 }
@@ -189,6 +200,7 @@ pub fn answer(call: &Call, lent: &Lent) -> Expected {
         .or_else(|| soup::answer(call))
         .or_else(|| session::answer(call, state))
         .or_else(|| capture::answer(call, lent))
+        .or_else(|| missing::answer(call, lent))
         .expect("every function belongs to one of these")
 }
 

@@ -95,7 +95,7 @@ pub fn by_hand(random: &mut Random, state: &mut [u8], phase: Option<usize>) {
     let any = random.byte();
     match random.below(24) {
         0 => state[0] = random.pick(&CODES),
-        1 => state[0] = random.pick(&[0, 1, 0xE0, 0xE9, any]),
+        1 => state[0] = random.pick(&[0, 1, 0xE0, 0xEA, any]),
         2 => state[phase.unwrap_or(0)] = random.pick(&[0, 1, 2, 3, 4, 255, any]),
         3 => {
             state[0] = random.pick(&CODES);

@@ -1,8 +1,8 @@
 //! The buffers that a call may write, filled with random bytes: exact, longer than needed, and too short.
 
 use crate::call::{Call, Lent};
-use crate::compare::{self, grounds};
-use crate::layout::SLOTS;
+use crate::compare::{self, edges, grounds};
+use crate::layout::{MISSING_TEXT, SLOTS};
 use crate::random::Random;
 use crate::reference::early::SLOT;
 use crate::run::Run;
@@ -10,7 +10,7 @@ use crate::run::Run;
 use super::bytes;
 
 /// The largest output that is lent: what needs more is refused for its size.
-const MOST_ROOM: usize = 65_600;
+const MOST_ROOM: usize = MISSING_TEXT;
 
 fn words(random: &mut Random, size: usize) -> Vec<u64> {
     (0..size).map(|_| random.word()).collect()
@@ -57,6 +57,25 @@ pub fn other_slots(random: &mut Random, slots: &mut Vec<u8>) {
     slots.resize(size, 7);
 }
 
+/// Edges of any words: runs of one, and here and there others.
+pub fn edges(random: &mut Random) -> Vec<u64> {
+    let mut edges = vec![bytes::number(random); edges::WORDS];
+    for _ in 0..random.below(4) {
+        let at = random.below(edges::WORDS - 9);
+        edges[at..at + 9].fill_with(|| bytes::number(random));
+    }
+    edges
+}
+
+/// Edges that are fewer or more.
+fn other_edges(random: &mut Random, lent: &mut Vec<u64>) {
+    let many = edges::WORDS;
+    lent.resize(
+        random.pick(&[0, 1, many - 2, many - 1, many + 1, many + 2]),
+        7,
+    );
+}
+
 /// Whether the function writes to slots.
 fn has_slots(call: &Call) -> bool {
     use Call::{CaptureFeed, CaptureFinish, EarlyDeliver, EarlyTake};
@@ -67,7 +86,7 @@ fn has_slots(call: &Call) -> bool {
 }
 
 /// The sizes that are lent for what is needed: of words and states, of outputs and places; and how often, once in so
-/// many times, slots have another size.
+/// many times, slots or edges have another size.
 struct Sizes {
     fixed: fn(&mut Random, usize) -> usize,
     written: fn(&mut Random, usize) -> usize,
@@ -109,11 +128,18 @@ fn lend(
         state: state_of_size(random, state, state_size),
         places: vec![],
         slots: vec![],
+        edges: vec![],
     };
     if has_slots(call) {
         lent.slots = slots.map_or_else(|| self::slots(random), <[u8]>::to_vec);
         if sizes.other_slots.is_some_and(|often| random.one_in(often)) {
             other_slots(random, &mut lent.slots);
+        }
+    }
+    if grounds::has_edges(call) {
+        lent.edges = self::edges(random);
+        if sizes.other_slots.is_some_and(|often| random.one_in(often)) {
+            other_edges(random, &mut lent.edges);
         }
     }
     let needed = grounds::output_needed(call, &lent.state).min(MOST_ROOM);

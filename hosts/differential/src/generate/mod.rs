@@ -9,6 +9,7 @@ mod early_cases;
 mod early_lists;
 mod feed;
 mod lend;
+mod missing_cases;
 mod mold;
 mod mold_cases;
 mod pairs;
@@ -25,7 +26,7 @@ use crate::run::Run;
 
 /// One case: a kind of input, and some calls with it.
 pub fn case(run: &mut Run, random: &mut Random) {
-    match random.below(114) {
+    match random.below(118) {
         0..13 => mold_cases::read(run, random),
         13..24 => mold_cases::write(run, random),
         24..34 => mold_cases::receive(run, random),
@@ -40,6 +41,7 @@ pub fn case(run: &mut Run, random: &mut Random) {
         96..100 => capture_cases::pieces(run, random),
         100..102 => store_cases::case(run, random),
         102..104 => transmitter_cases::case(run, random),
-        _ => early_cases::case(run, random),
+        104..114 => early_cases::case(run, random),
+        _ => missing_cases::case(run, random),
     }
 }

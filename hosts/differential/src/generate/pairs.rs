@@ -1,7 +1,8 @@
 //! Calls to which several grounds of refusal apply at once, so that every two of a function do: only the first may be
 //! given. Each ground is drawn by itself, every third time or so, and what is lent lacks something as often.
 
-use super::{accounts, bytes, capture, capture_cases, lend, mold, soup};
+use super::feed::Feed;
+use super::{accounts, bytes, capture, capture_cases, lend, missing_cases, mold, soup};
 use crate::call::Call;
 use crate::layout;
 use crate::random::Random;
@@ -333,6 +334,18 @@ fn client(run: &mut Run, random: &mut Random) {
     check(run, random, &call, Some(&state));
 }
 
+/// The same records, for what is missing.
+fn missing(run: &mut Run, random: &mut Random, feed: &Feed, bytes: &[u8]) {
+    let state = missing_cases::by_hand(random, feed);
+    let state = Some(state.as_slice());
+    check(run, random, &Call::MissingStart, None);
+    check(run, random, &Call::MissingFeed { bytes }, state);
+    check(run, random, &Call::MissingFinish { bytes }, state);
+    check(run, random, &Call::MissingCount, state);
+    check(run, random, &Call::MissingRange { place: 0 }, state);
+    check(run, random, &Call::MissingWrite, state);
+}
+
 fn captures(run: &mut Run, random: &mut Random) {
     let feed = capture::feed(random);
     let bytes = capture::records(random, &feed, 3);
@@ -344,4 +357,5 @@ fn captures(run: &mut Run, random: &mut Random) {
     check(run, random, &Call::CaptureFinish { bytes }, state);
     check(run, random, &Call::CaptureWrite, state);
     check(run, random, &Call::CaptureReport { capture: bytes }, None);
+    missing(run, random, &feed, bytes);
 }

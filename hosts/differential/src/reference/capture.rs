@@ -183,13 +183,13 @@ pub fn report(capture: &[u8]) -> Vec<u8> {
 }
 
 /// The datagram of the record at the front, if the record is whole.
-fn record(bytes: &[u8]) -> Option<&[u8]> {
+pub fn record(bytes: &[u8]) -> Option<&[u8]> {
     let length = u16::from_be_bytes([*bytes.first()?, *bytes.get(1)?]);
     bytes.get(2..2 + usize::from(length))
 }
 
 /// Takes the three lines off the front, if they are good.
-fn settings(rest: &mut &[u8]) -> Option<Early> {
+pub fn settings(rest: &mut &[u8]) -> Option<Early> {
     literal(rest, b"session=")?;
     let session = printable_name(rest)?;
     if text::is_blank(&session) {

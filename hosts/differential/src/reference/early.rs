@@ -2,7 +2,7 @@
 //! for.
 
 use super::mold::{self, Datagram, Kind, Message};
-use super::receiver::{Receiver, LARGEST_LIMIT};
+use super::receiver::{may_take, Receiver, LARGEST_LIMIT};
 use super::{Name, Refusal, BLANK};
 use std::collections::BTreeMap;
 
@@ -123,16 +123,7 @@ impl Early {
 
     /// 17, 18, 19 and 20, and then the plain receiver's table.
     fn row(&self, datagram: &Datagram, right_slots: bool) -> Result<Row, Refusal> {
-        let differs = match self.is_named() {
-            true => datagram.session != self.session,
-            false => datagram.session == BLANK,
-        };
-        if differs {
-            return Err(17);
-        }
-        if self.ended {
-            return Err(18);
-        }
+        may_take(&self.session, self.ended, &datagram.session)?;
         if !right_slots {
             return Err(19);
         }

@@ -9,10 +9,13 @@
 //! stops at 2^64 - 1; the cursor over a datagram that would be refused stands at place 20. That a record cut short is
 //! among the records read was changed then too; there the readings decide, as refused records count.
 //! What `transmitter_next` refuses of a state that no start and no turns lead to is the header's rule, not order 14's.
+//! What a reading for what is missing keeps in its words is the header's too, and stands in `compare::edges`; order 11
+//! itself is read here over whole captures, and both have to print the same.
 
 pub mod capture;
 pub mod early;
 pub mod login;
+pub mod missing;
 pub mod mold;
 pub mod receiver;
 pub mod session;

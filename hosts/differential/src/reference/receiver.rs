@@ -32,6 +32,22 @@ pub enum Answer {
     Ended,
 }
 
+/// 17 and 18, of a receiver of either kind: another session than its own, or, while it has no name, a blank one; and
+/// an end that it has come to.
+pub fn may_take(own: &Name, ended: bool, session: &Name) -> Result<(), Refusal> {
+    let differs = match *own == BLANK {
+        true => *session == BLANK,
+        false => session != own,
+    };
+    if differs {
+        return Err(17);
+    }
+    if ended {
+        return Err(18);
+    }
+    Ok(())
+}
+
 impl Receiver {
     pub fn start(session: Name, next: u64, limit: u16) -> Result<Receiver, Refusal> {
         if next == 0 || limit == 0 || limit > LARGEST_LIMIT {
@@ -63,16 +79,7 @@ impl Receiver {
     /// whatever it answers.
     pub fn take(&mut self, datagram: &[u8]) -> Result<Answer, Refusal> {
         let datagram = mold::read(datagram)?;
-        let differs = match self.is_named() {
-            true => datagram.session != self.session,
-            false => datagram.session == BLANK,
-        };
-        if differs {
-            return Err(17);
-        }
-        if self.ended {
-            return Err(18);
-        }
+        may_take(&self.session, self.ended, &datagram.session)?;
         let answer = self.answer(&datagram)?;
         if !self.is_named() {
             self.session = datagram.session;

@@ -3,7 +3,7 @@
 use crate::{ask, data, end, heartbeat};
 use differential::call::Call;
 
-fn record(datagram: &[u8]) -> Vec<u8> {
+pub fn record(datagram: &[u8]) -> Vec<u8> {
     [&(datagram.len() as u16).to_be_bytes()[..], datagram].concat()
 }
 

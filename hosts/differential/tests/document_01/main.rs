@@ -1,10 +1,11 @@
-//! Document 01's own examples and table rows, and order 6's rule, with the values that stand there: of the reference, and
-//! of the library.
+//! Document 01's own examples and table rows, and the rules of orders 6 and 11, with the values that stand there: of
+//! the reference, and of the library.
 
 mod captures;
 mod datagrams;
 mod early;
 mod login;
+mod missing;
 mod packets;
 mod receiver;
 mod sessions;
@@ -24,6 +25,7 @@ struct Answer {
     state: Vec<u8>,
     places: Vec<u64>,
     slots: Vec<u8>,
+    edges: Vec<u64>,
 }
 
 fn lent(state: &[u8]) -> Lent {
@@ -33,6 +35,7 @@ fn lent(state: &[u8]) -> Lent {
         state: state.to_vec(),
         places: vec![7; 8],
         slots: vec![7; 65_536],
+        edges: vec![7; 8_193],
     }
 }
 
@@ -59,6 +62,7 @@ fn ask_with(call: &Call, lent: Lent) -> Answer {
         state: by_library.state,
         places: by_library.places,
         slots: by_library.slots,
+        edges: by_library.edges,
     }
 }
 

@@ -2,7 +2,7 @@
 //! last number.
 
 use crate::login::{login, server, BLANK};
-use crate::{accepted, ask, ask_with, data, end, heartbeat, packet, words, NAME};
+use crate::{accepted, ask, ask_with, data, end, heartbeat, lent, packet, words, NAME};
 use differential::call::{Call, Lent};
 use differential::compare::fixed_sizes;
 
@@ -33,18 +33,21 @@ fn open_states() -> Vec<(&'static str, Vec<u8>)> {
     let reading = ask(&Call::CaptureStart, room).state;
     let bytes = &[&b"session=READROOM01\nnext=1\nlimit=9\n"[..], &[0; 60]].concat();
     let reading = ask(&Call::CaptureFeed { bytes }, &reading).state;
+    let missing = ask(&Call::MissingStart, room).state;
+    let missing = ask(&Call::MissingFeed { bytes }, &missing).state;
     vec![
         ("cursor", ask(&Call::MoldWalk { datagram }, room).state),
         ("receiver", ask(&receiver, room).state),
         ("server", ask(&server, room).state),
         ("client", ask(&client, room).state),
         ("early", ask(&early, room).state),
+        ("missing", missing),
         ("capture", reading),
     ]
 }
 
 /// The code with which an open state of a kind takes what it can, and another one doesn't.
-fn answers(state: &[u8]) -> [(&'static str, bool); 6] {
+fn answers(state: &[u8]) -> [(&'static str, bool); 7] {
     let datagram = &data(1, &[b"a", b"b"]);
     let next = ask(&Call::MoldNext { datagram }, state);
     // The bytes of another kind hardly have this name at its place, so that 17 may come before 18.
@@ -54,6 +57,7 @@ fn answers(state: &[u8]) -> [(&'static str, bool); 6] {
     let accounts = ACCOUNTS;
     let step = ask(&Call::ServerStep { accounts, stream }, state);
     let client = ask(&Call::ClientStep { stream }, state);
+    let missing = ask(&Call::MissingFeed { bytes: &[0; 60] }, state);
     let feed = ask(&Call::CaptureFeed { bytes: &[0; 60] }, state);
     [
         ("cursor", next.words[0] == 1),
@@ -61,6 +65,7 @@ fn answers(state: &[u8]) -> [(&'static str, bool); 6] {
         ("server", step.code == 0),
         ("client", client.code == 0),
         ("early", early.code == 0),
+        ("missing", missing.words[1] == 0),
         ("capture", feed.words[1] == 0),
     ]
 }
@@ -94,6 +99,7 @@ fn no_kind_is_changed_as_another() {
         ("server", Call::ServerStep { accounts, stream }),
         ("server", Call::ServerReply { accounts, stream }),
         ("client", Call::ClientStep { stream }),
+        ("missing", Call::MissingCount),
         ("capture", Call::CaptureWrite),
     ];
     for (kind, state) in open_states() {
@@ -138,7 +144,7 @@ fn one_first_byte_is_open() {
             let open = answers(&made).into_iter().find(|(taker, _)| *taker == kind);
             assert_eq!(open, Some((kind, first == state[0])));
         }
-        assert_eq!(answers(&[0; 220]).map(|(_, open)| open), [false; 6]);
+        assert_eq!(answers(&[0; 220]).map(|(_, open)| open), [false; 7]);
     }
 }
 
@@ -160,9 +166,7 @@ fn lend(words: usize, out: usize, state: &[u8]) -> Lent {
     Lent {
         words: vec![7; words],
         out: vec![7; out],
-        state: state.to_vec(),
-        places: vec![7; 8],
-        slots: vec![7; 65_536],
+        ..lent(state)
     }
 }
 

@@ -6,6 +6,7 @@
 
 mod capture;
 mod early;
+mod missing;
 mod mold;
 mod reach;
 mod session;
@@ -31,6 +32,7 @@ pub fn difference(call: &Call, lent: &Lent) -> Option<String> {
         .or_else(|| soup::difference(call, &expected, &mut out))
         .or_else(|| session::difference(call, &lent.state, &expected, &mut out))
         .or_else(|| capture::difference(call, &expected, &mut out))
+        .or_else(|| missing::difference(call, &expected))
 }
 
 fn same<T: Debug + PartialEq>(what: &str, typed: T, wanted: T) -> Option<String> {
