@@ -288,79 +288,66 @@ unfolding isNone
 none [] e = refl
 none (y ∷ es) e = let z : _≡_ {A = ℕ} 0 1 = cc in absurd (omega arith)
 
--- what is still to be read makes of x what all of l₀ makes of x₀: n₀ was read of l₀, and n of what is left, l
-pub record Going {S : Type 0} (step : S → Event → S) (x₀ : S) (n₀ : Read) (l₀ : List ℕ) (x : S) (n : Read) (l : List ℕ) : Type 0 where
-  pub folds : fold step x (withRest n l .events) ≡ fold step x₀ (withRest n₀ l₀ .events)
-  pub comes : withRest n l .at ≡ withRest n₀ l₀ .at
-  pub uses : length l₀ - length l + withRest n l .used ≡ withRest n₀ l₀ .used
+-- what is still to be read, a and then l, makes of x what a₀ and l₀ make of x₀
+pub record Going {S : Type 0} (step : S → Event → S) (x₀ : S) (a₀ : At) (l₀ : List ℕ) (x : S) (a : At) (l : List ℕ) : Type 0 where
+  pub folds : fold step x (readOn a l .events) ≡ fold step x₀ (readOn a₀ l₀ .events)
+  pub comes : readOn a l .at ≡ readOn a₀ l₀ .at
+  pub uses : length l₀ - length l + readOn a l .used ≡ readOn a₀ l₀ .used
   pub shorter : length l ≤ length l₀
-  pub within : n .used ≤ length l
 
 one : (a : At) (l : List ℕ) → readOn a l ≡ withRest (nextOf a l) l
 unfolding OneByOne
 one = one-by-one
 
--- what follows an event, where m was read next
-rest-is : (a : At) (l : List ℕ) (m : Read) → m ≡ nextOf a l → withRest m l ≡ readOn a l
-rest-is a l m f = ap (λ (r : Read). withRest r l) f ∙ sym (one a l)
+pub going-start : {S : Type 0} (step : S → Event → S) (x : S) (a : At) (l : List ℕ) → Going step x a l x a l
+going-start step x a l = record { folds = refl; comes = refl; uses = omega arith; shorter = omega arith }
 
-module _ {S : Type 0} (step : S → Event → S) (x₀ : S) where
-  pub going-start : (a : At) (n₀ : Read) (l₀ : List ℕ) → n₀ ≡ nextOf a l₀ → Going step x₀ n₀ l₀ x₀ n₀ l₀
-  going-start a n₀ l₀ e = record { folds = refl; comes = refl; uses = omega arith; shorter = omega arith; within = rw e (next-used a l₀) }
+module _ {S : Type 0} (step : S → Event → S) (x₀ : S) (a₀ : At) (l₀ : List ℕ) (x : S) (a : At) (l : List ℕ) (g : Going step x₀ a₀ l₀ x a l) (n : Read) (e : n ≡ nextOf a l) where
+  all-is : readOn a l ≡ withRest n l
+  all-is = one a l ∙ ap (λ (r : Read). withRest r l) (sym e)
 
-  module _ (n₀ : Read) (l₀ : List ℕ) (x : S) (n : Read) (l : List ℕ) (g : Going step x₀ n₀ l₀ x n l) where
-    -- an event was read
-    module _ (s : isNone (n .events) ≡ false) where
-      rest-so : withRest n l ≡ reads (readOn (n .at) (drop (n .used) l) .at) (n .events ++ readOn (n .at) (drop (n .used) l) .events) (n .used + readOn (n .at) (drop (n .used) l) .used)
-      unfolding withRest
-      rest-so = rw s
+  pub going-within : n .used ≤ length l
+  going-within = rw e (next-used a l)
 
-      pub going-next : (y : S) (m : Read) → y ≡ fold step x (n .events) → m ≡ nextOf (n .at) (drop (n .used) l) → Going step x₀ n₀ l₀ y m (drop (n .used) l)
-      going-next y m e f =
-          let l₁ = drop (n .used) l in
-          let o = rest-is (n .at) l₁ m f in
-          let u : withRest n l .used ≡ n .used + readOn (n .at) l₁ .used = ap (λ (r : Read). r .used) rest-so in
-          let v : withRest m l₁ .used ≡ readOn (n .at) l₁ .used = ap (λ (r : Read). r .used) o in
-          let k = length-drop (n .used) l in
-          record {
-            folds =
-                ap (λ (r : Read). fold step y (r .events)) o
-                ∙ ap (λ (z : S). fold step z (readOn (n .at) l₁ .events)) e
-                ∙ sym (fold-joins step x (n .events) (readOn (n .at) l₁ .events))
-                ∙ sym (ap (λ (r : Read). fold step x (r .events)) rest-so)
-                ∙ g .folds;
-            comes = ap (λ (r : Read). r .at) o ∙ sym (ap (λ (r : Read). r .at) rest-so) ∙ g .comes;
-            uses = omega (arith, g .uses, g .shorter, g .within);
-            shorter = omega (arith, g .shorter);
-            within = rw f (next-used (n .at) l₁);
-          }
+  -- an event was read
+  module _ (s : isNone (n .events) ≡ false) where
+    rest-so : readOn a l ≡ reads (readOn (n .at) (drop (n .used) l) .at) (n .events ++ readOn (n .at) (drop (n .used) l) .events) (n .used + readOn (n .at) (drop (n .used) l) .used)
+    unfolding withRest
+    rest-so = all-is ∙ rw s
 
-      pub going-less : (m : Read) → m ≡ nextOf (n .at) (drop (n .used) l)
-          → length (withRest m (drop (n .used) l) .events) < length (withRest n l .events)
-      going-less m f =
-          let l₁ = drop (n .used) l in
-          let a : length (withRest m l₁ .events) ≡ length (readOn (n .at) l₁ .events) = ap (λ (r : Read). length (r .events)) (rest-is (n .at) l₁ m f) in
-          let b : length (withRest n l .events) ≡ length (n .events ++ readOn (n .at) l₁ .events) = ap (λ (r : Read). length (r .events)) rest-so in
-          omega (arith, length-append (n .events) (readOn (n .at) l₁ .events), some (n .events) s)
+    pub going-next : (y : S) → y ≡ fold step x (n .events) → Going step x₀ a₀ l₀ y (n .at) (drop (n .used) l)
+    going-next y f =
+        let l₁ = drop (n .used) l in
+        let u : readOn a l .used ≡ n .used + readOn (n .at) l₁ .used = ap (λ (r : Read). r .used) rest-so in
+        let k = length-drop (n .used) l in
+        record {
+          folds =
+              ap (λ (z : S). fold step z (readOn (n .at) l₁ .events)) f
+              ∙ sym (fold-joins step x (n .events) (readOn (n .at) l₁ .events))
+              ∙ sym (ap (λ (r : Read). fold step x (r .events)) rest-so)
+              ∙ g .folds;
+          comes = sym (ap (λ (r : Read). r .at) rest-so) ∙ g .comes;
+          uses = omega (arith, g .uses, g .shorter, going-within);
+          shorter = omega (arith, g .shorter);
+        }
 
-    -- none was: all is read
-    module _ (s : isNone (n .events) ≡ true) (a : At) (e : n₀ ≡ nextOf a l₀) where
-      all-so : withRest n l ≡ n
-      unfolding withRest
-      all-so = rw s
+    pub going-less : length (readOn (n .at) (drop (n .used) l) .events) < length (readOn a l .events)
+    going-less =
+        let b : length (readOn a l .events) ≡ length (n .events ++ readOn (n .at) (drop (n .used) l) .events) = ap (λ (r : Read). length (r .events)) rest-so in
+        omega (arith, length-append (n .events) (readOn (n .at) (drop (n .used) l) .events), some (n .events) s)
 
-      pub going-folded : x ≡ fold step x₀ (readOn a l₀ .events)
-      unfolding fold
-      going-folded =
-          sym (ap (λ (r : Read). fold step x (r .events)) all-so ∙ ap (fold step x) (none (n .events) s))
-          ∙ g .folds
-          ∙ ap (λ (r : Read). fold step x₀ (r .events)) (rest-is a l₀ n₀ e)
+  -- none was: all is read
+  module _ (s : isNone (n .events) ≡ true) where
+    all-so : readOn a l ≡ n
+    unfolding withRest
+    all-so = all-is ∙ rw s
 
-      pub going-at : n .at ≡ readOn a l₀ .at
-      going-at = sym (ap (λ (r : Read). r .at) all-so) ∙ g .comes ∙ ap (λ (r : Read). r .at) (rest-is a l₀ n₀ e)
+    pub going-folded : x ≡ fold step x₀ (readOn a₀ l₀ .events)
+    unfolding fold
+    going-folded = sym (ap (λ (r : Read). fold step x (r .events)) all-so ∙ ap (fold step x) (none (n .events) s)) ∙ g .folds
 
-      pub going-used : length l₀ - length l + n .used ≡ readOn a l₀ .used
-      going-used =
-          let u : withRest n l .used ≡ n .used = ap (λ (r : Read). r .used) all-so in
-          let v : withRest n₀ l₀ .used ≡ readOn a l₀ .used = ap (λ (r : Read). r .used) (rest-is a l₀ n₀ e) in
-          omega (arith, g .uses)
+    pub going-at : n .at ≡ readOn a₀ l₀ .at
+    going-at = sym (ap (λ (r : Read). r .at) all-so) ∙ g .comes
+
+    pub going-used : length l₀ - length l + n .used ≡ readOn a₀ l₀ .used
+    going-used = let u : readOn a l .used ≡ n .used = ap (λ (r : Read). r .used) all-so in omega (arith, g .uses)

@@ -24,7 +24,7 @@ use Rattle.capture_events.specs.declared.place.Next.{Next}
 use Rattle.capture_events.specs.Events.{Event, opened, bad-settings, datagram, cut-short, fold, At, settings, records, done, refused, readOn, waitsAt, readPiece, endAt, readLast}
 use Rattle.capture_events.specs.Next.{atOf, placeAt, nextOf, isFound, eventsIn, readBy, isNone, withRest, EndsAt}
 use Rattle.capture_events.proofs.EventLaws.{fold-joins}
-use Rattle.capture_events.proofs.NextLaws.{place-at, at-place, Going, going-start, going-next, going-less, going-folded, going-at, going-used}
+use Rattle.capture_events.proofs.NextLaws.{place-at, at-place, Going, going-start, going-within, going-next, going-less, going-folded, going-at, going-used}
 use Rattle.missing_records.specs.declared.Notes.{Notes}
 use Rattle.missing_ranges.specs.Notes.{lent, startIn}
 use Rattle.missing_records.specs.Records.{LentNotes, lentNotes, startNotes, takeOf}
@@ -67,7 +67,7 @@ module _ (x : Notes) (l : List ℕ) (f : Found) (s : declared.Settings) (bs : Li
     unfolding fold eventsIn notedBy
     note-datagram d e h g = rw (e, ← h) g
 
--- ---- the loop: next is what `look` read of the bytes l that are left
+-- ---- the loop: p comes next, the bytes l are left, and n is what `look` reads of them
 
 -- an event is there exactly where one was found
 found-none : (f : Found) (s : declared.Settings) (l : List ℕ) (b : Bool) → b ≡ isFound f → b ≡ false → isNone (eventsIn f s l) ≡ true
@@ -97,60 +97,56 @@ unfolding fold
 fold-long x [] = refl
 fold-long x (e ∷ es) = fold-long (notedBy x e) es ∙ event-long x e
 
-pub record Looping (x₀ : LentNotes) (n₀ : Next) (l₀ : List ℕ) (x : LentNotes) (n : Next) (l : List ℕ) : Type 0 where
-  pub going : Going notedBy x₀ (readBy n₀ l₀) l₀ x (readBy n l) l
+pub record Looping (x₀ : LentNotes) (p₀ : Place) (l₀ : List ℕ) (x : LentNotes) (p : Place) (l : List ℕ) : Type 0 where
+  pub going : Going notedBy x₀ (atOf p₀) l₀ x (atOf p) l
   pub long : length (x .edges) ≡ length (x₀ .edges)
 
-pub loop-start : (x : Notes) (es l : List ℕ) (p : Place) (n : Next) → readBy n l ≡ nextOf (atOf p) l → Looping (lentNotes x es) n l (lentNotes x es) n l
-loop-start x es l p n e = record { going = going-start notedBy (lentNotes x es) (atOf p) (readBy n l) l e; long = refl }
+pub loop-start : (x : Notes) (es l : List ℕ) (p : Place) → Looping (lentNotes x es) p l (lentNotes x es) p l
+loop-start x es l p = record { going = going-start notedBy (lentNotes x es) (atOf p) l; long = refl }
 
-module _ {x₀ : LentNotes} {n₀ : Next} {l₀ : List ℕ} {x : Notes} {es : List ℕ} {n : Next} {l : List ℕ} (g : Looping x₀ n₀ l₀ (lentNotes x es) n l) where
-  pub loop-used : n .used ≤ length l
-  loop-used = g .going .within
-
-  pub loop-part : n .used ≡ length (take (n .used) l)
-  loop-part = sym (length-take-le (n .used) l (g .going .within))
-
+module _ {x₀ : LentNotes} {p₀ : Place} {l₀ : List ℕ} {x : Notes} {es : List ℕ} {p : Place} {l : List ℕ} (g : Looping x₀ p₀ l₀ (lentNotes x es) p l) where
   pub loop-shorter : length l ≤ length l₀
   loop-shorter = g .going .shorter
 
   pub loop-long : length es ≡ length (x₀ .edges)
   loop-long = g .long
 
-  pub loop-fits : length l₀ * 1 < 2 ^ 63 → Fits w64 (length l₀ - length l + n .used)
-  loop-fits h = record { fits = omega (arith, g .going .shorter, g .going .within) }
+  module _ (n : Next) (r : readBy n l ≡ nextOf (atOf p) l) where
+    pub loop-used : n .used ≤ length l
+    loop-used = going-within notedBy x₀ (atOf p₀) l₀ (lentNotes x es) (atOf p) l (g .going) (readBy n l) r
 
-  module _ (b : Bool) (e : b ≡ isFound (n .event)) where
-    module _ (k : Next) (t : b ≡ true)
-        (r : readBy k (take (length l - n .used) (drop (n .used) l)) ≡ nextOf (atOf (n .place)) (take (length l - n .used) (drop (n .used) l))) where
-      then-so : readBy k (drop (n .used) l) ≡ nextOf (atOf (n .place)) (drop (n .used) l)
-      then-so = rw (part-to-end (n .used) l) at r
+    pub loop-part : n .used ≡ length (take (n .used) l)
+    loop-part = sym (length-take-le (n .used) l loop-used)
 
-      some : isNone (readBy n l .events) ≡ false
-      some = found-some (n .event) (n .settings) (take (n .used) l) b e t
+    pub loop-fits : length l₀ * 1 < 2 ^ 63 → Fits w64 (length l₀ - length l + n .used)
+    loop-fits h = record { fits = omega (arith, g .going .shorter, loop-used) }
 
-      pub loop-next : (y : Notes) (m : List ℕ) → lentNotes y m ≡ fold notedBy (lentNotes x es) (eventsIn (n .event) (n .settings) (take (n .used) l))
-          → Looping x₀ n₀ l₀ (lentNotes y m) k (take (length l - n .used) (drop (n .used) l))
-      loop-next y m f =
-          rw (part-to-end (n .used) l)
-          (record {
-            going = going-next notedBy x₀ (readBy n₀ l₀) l₀ (lentNotes x es) (readBy n l) l (g .going) some (lentNotes y m) (readBy k (drop (n .used) l)) f then-so;
-            long = ap (λ (z : LentNotes). length (z .edges)) f ∙ fold-long (lentNotes x es) (readBy n l .events) ∙ g .long;
-          })
+    module _ (b : Bool) (e : b ≡ isFound (n .event)) where
+      module _ (t : b ≡ true) where
+        some : isNone (readBy n l .events) ≡ false
+        some = found-some (n .event) (n .settings) (take (n .used) l) b e t
 
-      pub loop-less : length (withRest (readBy k (take (length l - n .used) (drop (n .used) l))) (take (length l - n .used) (drop (n .used) l)) .events) < length (withRest (readBy n l) l .events)
-      loop-less = rw (part-to-end (n .used) l) (going-less notedBy x₀ (readBy n₀ l₀) l₀ (lentNotes x es) (readBy n l) l (g .going) some (readBy k (drop (n .used) l)) then-so)
+        pub loop-next : (y : Notes) (m : List ℕ) → lentNotes y m ≡ fold notedBy (lentNotes x es) (eventsIn (n .event) (n .settings) (take (n .used) l))
+            → Looping x₀ p₀ l₀ (lentNotes y m) (n .place) (take (length l - n .used) (drop (n .used) l))
+        loop-next y m f =
+            rw (part-to-end (n .used) l)
+            (record {
+              going = going-next notedBy x₀ (atOf p₀) l₀ (lentNotes x es) (atOf p) l (g .going) (readBy n l) r some (lentNotes y m) f;
+              long = ap (λ (z : LentNotes). length (z .edges)) f ∙ fold-long (lentNotes x es) (readBy n l .events) ∙ g .long;
+            })
 
-    pub loop-end : (p : Place) → b ≡ false → readBy n₀ l₀ ≡ nextOf (atOf p) l₀
-        → lentFed (fed (reading (n .place) x) (length l₀ - length l + n .used)) es ≡ fedBy x₀ (readOn (atOf p) l₀)
-    loop-end p t r =
-        let z = found-none (n .event) (n .settings) (take (n .used) l) b e t in
-        let d = going-folded notedBy x₀ (readBy n₀ l₀) l₀ (lentNotes x es) (readBy n l) l (g .going) z (atOf p) r in
-        let a = going-at notedBy x₀ (readBy n₀ l₀) l₀ (lentNotes x es) (readBy n l) l (g .going) z (atOf p) r in
-        let u = going-used notedBy x₀ (readBy n₀ l₀) l₀ (lentNotes x es) (readBy n l) l (g .going) z (atOf p) r in
-        let q : n .place ≡ placeAt (readOn (atOf p) l₀ .at) = sym (place-at (n .place)) ∙ ap placeAt a in
-        ap (λ (y : LentNotes). lentFed (fed (reading (n .place) (y .notes)) (length l₀ - length l + n .used)) (y .edges)) d
-        ∙ rw (q, u)
+        pub loop-less : length (readOn (atOf (n .place)) (take (length l - n .used) (drop (n .used) l)) .events) < length (readOn (atOf p) l .events)
+        loop-less = rw (part-to-end (n .used) l) (going-less notedBy x₀ (atOf p₀) l₀ (lentNotes x es) (atOf p) l (g .going) (readBy n l) r some)
+
+      pub loop-end : b ≡ false → lentFed (fed (reading (n .place) x) (length l₀ - length l + n .used)) es ≡ fedBy x₀ (readOn (atOf p₀) l₀)
+      loop-end t =
+          let z = found-none (n .event) (n .settings) (take (n .used) l) b e t in
+          let d = going-folded notedBy x₀ (atOf p₀) l₀ (lentNotes x es) (atOf p) l (g .going) (readBy n l) r z in
+          let a = going-at notedBy x₀ (atOf p₀) l₀ (lentNotes x es) (atOf p) l (g .going) (readBy n l) r z in
+          let u = going-used notedBy x₀ (atOf p₀) l₀ (lentNotes x es) (atOf p) l (g .going) (readBy n l) r z in
+          let q : n .place ≡ placeAt (readOn (atOf p₀) l₀ .at) = sym (place-at (n .place)) ∙ ap placeAt a in
+          ap (λ (y : LentNotes). lentFed (fed (reading (n .place) (y .notes)) (length l₀ - length l + n .used)) (y .edges)) d
+          ∙ rw (q, u)
 
 -- ---- feeding and finishing
 

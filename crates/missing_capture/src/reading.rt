@@ -88,25 +88,24 @@ impl Reading {
             ≡ fedBy (lentNotes (self .notes) (now (edges .entry)))
             (readOn (atOf (self .place)) (now (bytes .entry))) ⌝ }
     {
-        let start = self.place;
+        let mut place = self.place;
         let mut notes = self.notes;
         let mut rest = bytes;
-        let mut next = start.look(bytes);
-        while next.is_found() {
+        loop {
+            let next = place.look(rest);
             let event = next.event;
             let settings = next.settings;
-            let place = next.place;
             let used = next.used;
+            place = next.place;
+            if !next.is_found() {
+                return Fed {
+                    reading: Reading { place, notes },
+                    used: bytes.len() - rest.len() + used,
+                };
+            }
             let then = note(notes, edges, event, settings, &rest[..used]);
             notes = then;
             rest = &rest[used..];
-            let after = place.look(rest);
-            next = after;
-        }
-        let place = next.place;
-        Fed {
-            reading: Reading { place, notes },
-            used: bytes.len() - rest.len() + next.used,
         }
     }
 

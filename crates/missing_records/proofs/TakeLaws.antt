@@ -5,6 +5,7 @@ use mathlib.Core.Bool.{Bool, true, false}
 use Prim.Native.Nat.{ℕ, _+_, _/_, min}
 use native.Mathlib.Omega.{arith}
 use lib.ListN.{length, take}
+use lib.Dec.{eqb}
 use borrow.Author.Tests.{ne-eqb, eq-eqb}
 use Rattle.wire.specs.Choice.{if_then_else_}
 use Rattle.wire.specs.Bounds.{largestNumber}
@@ -22,7 +23,8 @@ use Rattle.moldudp64.proofs.DownstreamLaws.{sound, data-read, kind-read, refusa
 use Rattle.missing_ranges.specs.declared.ranges.Missing.{Missing}
 use Rattle.missing_ranges.specs.Notes.{missing, Lent, lent, startIn, edgesAfter, topAfter, isKept, noteOf}
 use Rattle.missing_records.specs.declared.Notes.{Notes}
-use Rattle.missing_records.specs.Records.{accepted, nextIn, LentNotes, lentNotes, lentIn, notesWith, startNotes, takeOf, notedIf}
+use Rattle.missing_records.specs.declared.Said.{Said}
+use Rattle.missing_records.specs.Records.{accepted, nextIn, LentNotes, lentNotes, lentIn, notesWith, startNotes, takeOf, notedIf, IsSaid}
 
 abbrev notes : List ℕ → Missing → Notes
 notes name m = record { session = name; missing = m }
@@ -43,50 +45,62 @@ module _ (x : Notes) (l : List ℕ) (ours b : Bool) (f e : ℕ) (p : b ≡ ours)
   unfolding notedIf
   not-ours q = rw (← p, q)
 
--- ---- by what was read
+-- ---- what a datagram says, by what was read
 
--- the numbers of a datagram that was read
-noted-so : (y x : LentNotes) (d : List ℕ) (f e : ℕ) → refusalOf d ≡ 0 → f ≡ numberOf d → e ≡ nextIn d
-    → y ≡ notedIf (sameBytes (take 10 d) (x .notes .session)) x f e → y ≡ takeOf x d
-unfolding takeOf accepted notedIf
-noted-so y x d f e z p q g = g ∙ rw (eq-eqb _ _ z, p, q)
+abbrev said : Bool → SequenceNumber → SequenceNumber → Said
+said b f e = record { read = b; first = f; next = e }
 
-module _ (y x : Notes) (l m d : List ℕ) (p : Downstream) (q : downstreamWords p ≡ downstreamOf d) where
-  pub take-data : (n : SequenceNumber) (c : MessageCount) (e : ℕ) → p ≡ Data n c → e ≡ min largestNumber (n .0 + c .0)
-      → lentNotes y m ≡ notedIf (sameBytes (take 10 d) (x .session)) (lentNotes x l) (n .0) e → lentNotes y m ≡ takeOf (lentNotes x l) d
+said-so : (d : List ℕ) (f e : SequenceNumber) → refusalOf d ≡ 0 → f .0 ≡ numberOf d → e .0 ≡ nextIn d → IsSaid (said true f e) d
+said-so d f e z p q = record { well = sym (eq-eqb _ _ z); numbers = λ t. (p, q) }
+
+module _ (d : List ℕ) (p : Downstream) (q : downstreamWords p ≡ downstreamOf d) where
+  pub said-data : (n : SequenceNumber) (c : MessageCount) (e : SequenceNumber) → p ≡ Data n c → e .0 ≡ min largestNumber (n .0 + c .0) → IsSaid (said true n e) d
   unfolding downstreamWords
-  take-data n c e g h w =
+  said-data n c e g h =
       let k = data-read d (n .0) (c .0) (sym (rw g at q)) in
       let s = sound d (k .well) .numbers-fit in
-      let i : e ≡ nextIn d = omega (arith, k .first, k .blocks) in
-      noted-so (lentNotes y m) (lentNotes x l) d (n .0) e (k .well) (k .first) i w
+      let i : e .0 ≡ nextIn d = omega (arith, k .first, k .blocks) in
+      said-so d n e (k .well) (k .first) i
 
-  pub take-heartbeat : (n : SequenceNumber) → p ≡ Heartbeat n
-      → lentNotes y m ≡ notedIf (sameBytes (take 10 d) (x .session)) (lentNotes x l) (n .0) (n .0) → lentNotes y m ≡ takeOf (lentNotes x l) d
+  pub said-heartbeat : (n : SequenceNumber) → p ≡ Heartbeat n → IsSaid (said true n n) d
   unfolding downstreamWords
-  take-heartbeat n g w =
+  said-heartbeat n g =
       let h = sym (rw g at q) in
       let k = kind-read d heartbeat (n .0 ∷ []) h in
       let v = number-read d heartbeat (n .0) [] h in
       let z = no-blocks d heartbeat (k .1) refl in
-      noted-so (lentNotes y m) (lentNotes x l) d (n .0) (n .0) (k .0) (sym v) (omega arith) w
+      said-so d n n (k .0) (sym v) (omega arith)
 
-  pub take-end : (n : SequenceNumber) → p ≡ EndOfSession n
-      → lentNotes y m ≡ notedIf (sameBytes (take 10 d) (x .session)) (lentNotes x l) (n .0) (n .0) → lentNotes y m ≡ takeOf (lentNotes x l) d
+  pub said-end : (n : SequenceNumber) → p ≡ EndOfSession n → IsSaid (said true n n) d
   unfolding downstreamWords
-  take-end n g w =
+  said-end n g =
       let h = sym (rw g at q) in
       let k = kind-read d end-of-session (n .0 ∷ []) h in
       let v = number-read d end-of-session (n .0) [] h in
       let z = no-blocks d end-of-session (k .1) refl in
-      noted-so (lentNotes y m) (lentNotes x l) d (n .0) (n .0) (k .0) (sym v) (omega arith) w
+      said-so d n n (k .0) (sym v) (omega arith)
 
-pub take-refused : (x : Notes) (l d : List ℕ) (p : Downstream) (r : Refusal) → downstreamWords p ≡ downstreamOf d → p ≡ Refused r
-    → lentNotes x l ≡ takeOf (lentNotes x l) d
-unfolding downstreamWords takeOf accepted
-take-refused x l d p r q g =
-    let z = refusal-read d (r .number) (sym (rw g at q)) in
-    rw (ne-eqb _ _ z)
+  pub said-refused : (r : Refusal) (f e : SequenceNumber) → p ≡ Refused r → IsSaid (said false f e) d
+  unfolding downstreamWords
+  said-refused r f e g =
+      let z = refusal-read d (r .number) (sym (rw g at q)) in
+      record { well = sym (ne-eqb _ _ z); numbers = λ t. let y : _≡_ {A = ℕ} 0 1 = cc in absurd (omega arith) }
+
+-- ---- a datagram
+
+module _ (x : Notes) (l d : List ℕ) (s : Said) (i : IsSaid s d) where
+  pub take-read : (y : Notes) (m : List ℕ) → s .read ≡ true
+      → lentNotes y m ≡ notedIf (sameBytes (take 10 d) (x .session)) (lentNotes x l) (s .first .0) (s .next .0)
+      → lentNotes y m ≡ takeOf (lentNotes x l) d
+  unfolding takeOf accepted notedIf
+  take-read y m t g =
+      let n = i .numbers t in
+      let w : eqb (refusalOf d) 0 ≡ true = sym (i .well) ∙ t in
+      g ∙ rw (w, n .0, n .1)
+
+  pub take-refused : s .read ≡ false → lentNotes x l ≡ takeOf (lentNotes x l) d
+  unfolding takeOf accepted
+  take-refused t = let w : eqb (refusalOf d) 0 ≡ false = sym (i .well) ∙ t in rw w
 
 -- ---- lent words keep their length
 

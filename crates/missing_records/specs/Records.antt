@@ -1,7 +1,8 @@
 -- The missing ranges of a session, from datagram to datagram.
 use Prim.Native.Nat.{ℕ, _+_}
 use mathlib.Core.List.{List, [], _∷_}
-use mathlib.Core.Bool.{Bool, false}
+use mathlib.Core.Bool.{Bool, true, false}
+use mathlib.Core.Path.{_≡_}
 use lib.ListN.{take}
 use Rattle.wire.specs.Choice.{if_then_else_}
 use Rattle.wire.specs.Bounds.{sessionSize}
@@ -10,6 +11,7 @@ use Rattle.moldudp64.specs.Header.{numberOf}
 use Rattle.moldudp64.specs.Downstream.{blockCount, wellFormed}
 use Rattle.missing_ranges.specs.Notes.{Lent, lent, startIn, noteOf}
 use Rattle.missing_records.specs.declared.Notes.{Notes}
+use Rattle.missing_records.specs.declared.Said.{Said}
 
 -- document 02's "accepted here": read without refusal, and of the session's name. The receiver's own grounds, 18 and
 -- 20, are none
@@ -58,3 +60,8 @@ over x (d ∷ ds) = over (takeOf x d) ds
 -- numbers noted where the datagram is ours
 unfoldable pub notedIf : Bool → LentNotes → ℕ → ℕ → LentNotes
 notedIf ours x f e = if ours then notesWith (x .notes .session) (noteOf (lentIn x) f e) else x
+
+-- whether a datagram is read without refusal, and its numbers then
+pub record IsSaid (r : Said) (d : List ℕ) : Type 0 where
+  pub well : r .read ≡ wellFormed d
+  pub numbers : r .read ≡ true → (r .first .0 ≡ numberOf d) × (r .next .0 ≡ nextIn d)

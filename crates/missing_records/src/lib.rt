@@ -9,13 +9,48 @@ ghost use mathlib.Core.Path.{_≡_};
 ghost use Rattle.wire.specs.Bounds.{sessionSize};
 ghost use Rattle.wire.specs.Bytes.{sameBytes};
 ghost use lib.ListN.{take};
-ghost use Rattle.missing_records.specs.Records.{lentNotes, startNotes, takeOf, notedIf};
+ghost use Rattle.missing_records.specs.Records.{lentNotes, startNotes, takeOf, notedIf, IsSaid};
 ghost use Rattle.missing_records.specs.Promises.{DatagramPromises};
 
 // What is noted of a session: its name, and its missing ranges.
 pub struct Notes {
     pub session: [u8; SESSION_SIZE],
     pub missing: Missing,
+}
+
+// What a datagram says: whether it is read without refusal, and then the first number that it carries and the next one
+// that it states or implies. In one place, so that the numbers are noted by one call.
+struct Said {
+    read: bool,
+    first: SequenceNumber,
+    next: SequenceNumber,
+}
+
+fn said_in(datagram: &[u8]) -> Said
+    ensures { λ r. ⌜ IsSaid r (now (datagram .entry)) ⌝ }
+{
+    match downstream::read(datagram) {
+        Downstream::Data { first, count } => Said {
+            read: true,
+            first,
+            next: first.plus(count),
+        },
+        Downstream::Heartbeat { next } => Said {
+            read: true,
+            first: next,
+            next,
+        },
+        Downstream::EndOfSession { next } => Said {
+            read: true,
+            first: next,
+            next,
+        },
+        Downstream::Refused(_) => Said {
+            read: false,
+            first: SequenceNumber(0),
+            next: SequenceNumber(0),
+        },
+    }
 }
 
 impl Notes {
@@ -58,13 +93,10 @@ impl Notes {
             ≡ takeOf (lentNotes self (now (edges .entry))) (now (datagram .entry)) ⌝ }
         ensures promises { λ _. ⌜ DatagramPromises ⌝ }
     {
-        match downstream::read(datagram) {
-            Downstream::Data { first, count } => {
-                self.note(edges, datagram, first, first.plus(count))
-            }
-            Downstream::Heartbeat { next } => self.note(edges, datagram, next, next),
-            Downstream::EndOfSession { next } => self.note(edges, datagram, next, next),
-            Downstream::Refused(_) => self,
+        let said = said_in(datagram);
+        if said.read {
+            return self.note(edges, datagram, said.first, said.next);
         }
+        self
     }
 }

@@ -1,12 +1,12 @@
 // The receiver that keeps early messages.
-use crate::receivers::FILLED;
-use crate::receivers::MOST_PLACES;
-use crate::receivers::WORD_SIZE;
-use crate::receivers::show;
 use exports_early_messages::walks;
 use vector_lines::NO_FUNCTION;
 use vector_lines::narrow::low16;
 use vector_lines::parse::least;
+use vector_lines::wide::FILLED;
+use vector_lines::wide::MOST_WORDS;
+use vector_lines::wide::WORD_SIZE;
+use vector_lines::wide::show;
 
 // Takes a datagram, and shows the places that it lays.
 fn deliver_at(
@@ -54,7 +54,7 @@ pub fn call(
     lent: &mut [u8],
     words: &mut [u64],
 ) -> u32 {
-    let mut room = [FILLED; MOST_PLACES];
+    let mut room = [FILLED; MOST_WORDS];
     match function {
         160 => exports_early::eiderwagon_early_start(a, n, low16(m), lent),
         161 => exports_early::eiderwagon_early_take(lent, c, a, words),

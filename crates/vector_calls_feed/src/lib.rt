@@ -1,6 +1,5 @@
-// The functions of the feed that hosts call, by number: MoldUDP64 packets, both receivers, captures, the store, the
+// The functions of the feed that hosts call, by number: MoldUDP64 packets, both receivers, the store, the
 // transmitter.
-pub mod captures;
 pub mod earlies;
 pub mod mold;
 pub mod receivers;

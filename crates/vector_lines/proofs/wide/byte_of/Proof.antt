@@ -1,8 +1,8 @@
 -- The place moves on by one, up to the last.
 use Prim.Native.Nat.{_-_}
 use Rattle.vector_lines.proofs.Laws.{laws}
-use Rattle.vector_calls_feed.proofs.receivers.byte_of.Statement.{statement}
-use Rattle.vector_calls_feed.proofs.receivers.byte_of.Tie as tie
+use Rattle.vector_lines.proofs.wide.byte_of.Statement.{statement}
+use Rattle.vector_lines.proofs.wide.byte_of.Tie as tie
 
 abbrev Inv-loop : tie.InvT-loop
 Inv-loop word place rest₀ at₀ rest at = Unit

@@ -2,9 +2,9 @@
 use Prim.Native.Nat.{_-_}
 use mathlib.Core.Path.{_≡_}
 use lib.ListN.{length}
 use Rattle.vector_lines.proofs.Laws.{laws}
-use Rattle.vector_calls_feed.proofs.receivers.show.Statement.{statement}
-use Rattle.vector_calls_feed.proofs.receivers.show.Tie as tie
+use Rattle.vector_lines.proofs.wide.show.Statement.{statement}
+use Rattle.vector_lines.proofs.wide.show.Tie as tie
 
 abbrev Inv-loop : tie.InvT-loop
 Inv-loop words out₀ at₀ out at = length out ≡ length out₀
