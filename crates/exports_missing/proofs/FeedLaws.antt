@@ -7,7 +7,6 @@ use native.Mathlib.Omega.{arith}
 use lib.ListN.{length}
 use lib.Dec.{ltb, eqb}
 use borrow.Author.Tests.{lt-ltb, le-ltb, eq-eqb, ne-eqb, eqb-true, not-false}
-use Rattle.wire.specs.Choice.{if_then_else_}
 use Rattle.wire.specs.Bounds.{sessionSize}
 use Rattle.wire.specs.Output.{put}
 use Rattle.wire.proofs.Outputs.{length-put}

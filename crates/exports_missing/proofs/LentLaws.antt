@@ -8,7 +8,7 @@ use lib.Dec.{ltb, eqb}
 use borrow.Author.Tests.{lt-ltb, le-ltb, eq-eqb, ne-eqb}
 use Rattle.wire.proofs.Cases.{below-or-not}
 use Rattle.missing_ranges.specs.Notes.{room}
-use Rattle.host_answers.specs.Answers.{orElse, short, isOneOf, RefusesOnly}
+use Rattle.host_answers.specs.Answers.{short, isOneOf, RefusesOnly}
 use Rattle.host_answers.proofs.AnswerLaws.{or-first, or-next}
 use Rattle.host_answers.proofs.OnlyLaws.{only-if, only-or, only-short}
 use Rattle.host_missing.specs.Reading.{missingSize}

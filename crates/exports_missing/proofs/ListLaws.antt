@@ -1,17 +1,16 @@
 -- What is missing is read out: the ranges that are listed, and the text.
 use Prim.Native.Nat.{ℕ, _+_, _-_, _≤_, _<_}
-use mathlib.Core.List.{List, [], _∷_, _++_, append-nil}
+use mathlib.Core.List.{List, [], _∷_, append-nil}
 use mathlib.Core.Bool.{Bool, true, false, _&&_}
-use mathlib.Core.Path.{_≡_, refl, ap, sym, _∙_}
+use mathlib.Core.Path.{_≡_, refl, ap, _∙_}
 use native.Mathlib.Omega.{arith}
-use lib.ListN.{length, take, drop, length-drop, drop-of-length-le}
+use lib.ListN.{length, drop, length-drop, drop-of-length-le}
 use lib.Dec.{ltb, leb, eqb}
 use borrow.Rule.Slice.PartMut.{midOf, putMid}
-use borrow.Author.Tests.{lt-ltb, le-ltb, eq-eqb, ne-eqb}
+use borrow.Author.Tests.{lt-ltb, le-ltb, ne-eqb}
 use Rattle.wire.specs.Choice.{if_then_else_}
 use Rattle.wire.specs.Output.{writtenWords, writeRefusal, Writes}
 use Rattle.wire.specs.declared.output.Written.{Written}
-use Rattle.wire.proofs.Cases.{zero-or-not}
 use Rattle.wire.proofs.Numbers.{part-to-end}
 use Rattle.capture_events.specs.declared.place.Place.{Place}
 use Rattle.capture_events.specs.declared.place.Place.the-variants.{Settings, Records, Done, Refused}
@@ -23,8 +22,8 @@ use Rattle.missing_ranges.specs.Listing.{IsRange}
 use Rattle.missing_text.specs.Text.{room, roomGround}
 use Rattle.missing_capture.specs.declared.reading.Reading.{Reading}
 use Rattle.missing_capture.specs.Reading.{lentReading, textOf}
-use Rattle.host_answers.specs.Answers.{orElse, short, flag, onSuccess, padded, lentFrom, isOneOf, RefusesOnly, AnswersWith, AnswersWriting}
-use Rattle.host_answers.proofs.AnswerLaws.{or-first, or-next, or-none, no-success}
+use Rattle.host_answers.specs.Answers.{orElse, short, flag, padded, lentFrom, isOneOf, RefusesOnly, AnswersWith, AnswersWriting}
+use Rattle.host_answers.proofs.AnswerLaws.{or-first, or-next, no-success}
 use Rattle.host_answers.proofs.OnlyLaws.{answers-only, only-if, reported-only}
 use Rattle.host_answers.proofs.WritingLaws.{writing-plain}
 use Rattle.host_missing.specs.Reading.{readingIn}

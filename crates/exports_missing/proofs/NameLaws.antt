@@ -1,8 +1,8 @@
 -- The session's name stays one of ten bytes: settings alone give it one, and theirs has ten. The words of the edges stay as many.
-use mathlib.Core.Path.{_≡_, refl, ap, sym, _∙_}
-use mathlib.Core.List.{List, [], _∷_, _++_}
+use mathlib.Core.Path.{_≡_, refl, ap, _∙_}
+use mathlib.Core.List.{List, []}
 use mathlib.Core.Bool.{Bool, true, false}
-use Prim.Native.Nat.{ℕ, zero, suc, _+_, _-_}
+use Prim.Native.Nat.{ℕ, zero, suc, _-_}
 use lib.ListN.{length}
 use Rattle.wire.specs.Choice.{if_then_else_}
 use Rattle.wire.proofs.Cases.{zero-or-not}

@@ -1,5 +1,5 @@
-// What is missing from a capture, for hosts in other languages. `include/eiderwagon.h` says what each function takes and
-// answers.
+// What is missing from a capture, for hosts in other languages. `include/eiderwagon.h` says what each function takes
+// and answers.
 use capture_events::place::Place;
 use host_answers::SHORT;
 use host_answers::WRITTEN_WORDS;

@@ -27,7 +27,7 @@ use Rattle.host_answers.specs.Answers.{flag}
 use Rattle.host_states.specs.Little.{little, littleBytes}
 use Rattle.host_states.specs.States.{missingCode, isOpen, openByte, onCode, StatePromises}
 use Rattle.host_states.proofs.LittleLaws.{length-little}
-use Rattle.host_states.proofs.StateLaws.{open-back, put-next, put-behind, keeps-not, keeps-laid, laid-front, past-field, little-past-field, byte-past-field, little-in-front, name-in-front, state-promises}
+use Rattle.host_states.proofs.StateLaws.{open-back, put-next, put-behind, keeps-not, keeps-laid, laid-front, little-past-field, byte-past-field, little-in-front, name-in-front, state-promises}
 use Rattle.host_missing.specs.Reading.{missingSize, placeOf, stageByte, leftOf, rangeBytes, missingBytes, refusedReading, readingIn, KeepsMissing, readingOf, LaysMissing}
 
 -- ---- the place
@@ -145,7 +145,7 @@ module _ (t n c : ℕ) (b : Bool) where
       let f₂ = put-behind l l₁ l₂ _ (littleBytes 8 c) 12 28 (omega (arith, length-2)) (omega (arith, length-little 8 c)) f₁ e₂ in
       put-behind l l₂ l₃ _ (flag b ∷ []) 12 36 (omega (arith, length-3)) (omega arith) f₂ (rw g at e₃)
 
-pub missing-length : (x : Reading) → length (x .notes .session) ≡ sessionSize → length (missingBytes x) ≡ missingSize
+missing-length : (x : Reading) → length (x .notes .session) ≡ sessionSize → length (missingBytes x) ≡ missingSize
 unfolding missingBytes
 missing-length x ten =
     let m = x .notes .missing in
