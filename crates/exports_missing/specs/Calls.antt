@@ -13,10 +13,12 @@ use Rattle.capture_events.specs.declared.place.Place.the-variants.{Settings, Re
 use Rattle.capture_events.specs.Events.{isOverAt}
 use Rattle.capture_events.specs.Next.{atOf}
 use Rattle.missing_ranges.specs.Edges.{Range, totalFrom}
-use Rattle.missing_ranges.specs.Notes.{isUsable, rangesIn, rangeAt}
+use Rattle.missing_ranges.specs.declared.ranges.Missing.{Missing}
+use Rattle.missing_ranges.specs.Notes.{missing, isUsable, rangesIn, rangeAt}
 use Rattle.missing_ranges.specs.Notes as ranges
 use Rattle.missing_records.specs.Records.{lentIn}
 use Rattle.missing_text.specs.Text.{roomGround}
+use Rattle.missing_capture.specs.declared.reading.Reading.{Reading}
 use Rattle.missing_capture.specs.declared.reading.Fed.{Fed}
 use Rattle.missing_capture.specs.Reading.{startReading, LentReading, notesIn, LentFed, fedReading, feedOf, finishOf, textOf}
 use Rattle.host_answers.specs.Answers.{orElse, short, flag, onSuccess, AnswersWith, AnswersWriting}
@@ -127,3 +129,9 @@ unfoldable pub MissingHandsOn : Type 0
 MissingHandsOn = (l es m et : List ℕ) (ds : List (List ℕ)) → missingSize ≤ length l → length es ≡ ranges.room
     → Handed l es ds m et
     → lentReadingIn m et ≡ readingAfter (lentReadingIn l es) ds
+
+-- ---- for private helpers alone; no exported function promises it
+
+-- the ranges that are listed: refused ones while no settings were read
+unfoldable pub listedOf : Reading → Missing
+listedOf x = if isOpened (x .place) then x .notes .missing else missing true 0 0

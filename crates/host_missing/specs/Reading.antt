@@ -2,7 +2,7 @@
 -- next number, how many records may still be read, how many ranges have both edges, and whether they are refused.
 use Prim.Native.Nat.{ℕ, _+_, min}
 use mathlib.Core.List.{List, [], _∷_, _++_}
-use mathlib.Core.Bool.{Bool, true, false, not}
+use mathlib.Core.Bool.{Bool, not}
 use lib.ListN.{length, getD, drop}
 use lib.Dec.{ltb, eqb}
 use Rattle.wire.specs.Choice.{if_then_else_}
@@ -19,7 +19,7 @@ use Rattle.missing_capture.specs.declared.reading.Reading as declared
 use Rattle.missing_capture.specs.Reading.{reading, noNotes, LentReading, lentReading}
 use Rattle.host_answers.specs.Answers.{flag}
 use Rattle.host_states.specs.Little.{little, littleBytes}
-use Rattle.host_states.specs.States.{missingCode, codeSize, phaseSize, isOpen, openByte, Keeps}
+use Rattle.host_states.specs.States.{missingCode, codeSize, phaseSize, isOpen, openByte, Keeps, Lays}
 
 -- ---- the layout
 
@@ -104,3 +104,12 @@ lentReadingIn l es = lentReading (readingIn l) es
 
 abbrev pub KeepsMissing : Bool → List ℕ → List ℕ → declared.Reading → Type 0
 KeepsMissing lays l m x = Keeps lays l m missingSize readingIn (missingBytes x) x
+
+-- ---- for private helpers alone; no public promise uses it
+
+-- a reading of its parts
+abbrev pub readingOf : Place → List ℕ → Missing → declared.Reading
+readingOf p name m = reading p (record { session = name; missing = m })
+
+abbrev pub LaysMissing : List ℕ → List ℕ → declared.Reading → Type 0
+LaysMissing l m x = Lays l m readingIn (missingBytes x) x

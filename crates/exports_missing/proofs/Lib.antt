@@ -1,0 +1,5 @@
+pub mod LentLaws
+pub mod NameLaws
+pub mod FeedLaws
+pub mod ListLaws
+pub mod Rules
