@@ -18,7 +18,7 @@ use Rattle.missing_ranges.specs.Notes.{room}
 use Rattle.missing_capture.specs.declared.reading.Reading.{Reading}
 use Rattle.missing_capture.specs.declared.reading.Fed.{Fed}
 use Rattle.missing_capture.specs.Reading.{startReading, LentReading, lentReading, readingWith, notesIn, LentFed, lentFed, fedReading, feedOf, finishOf}
-use Rattle.missing_capture.proofs.ReadLaws.{place-at, at-place}
+use Rattle.capture_events.proofs.NextLaws.{place-at, at-place}
 use Rattle.host_answers.specs.Answers.{orElse, short, flag, onSuccess, isOneOf, RefusesOnly, AnswersWith}
 use Rattle.host_answers.proofs.AnswerLaws.{or-first, or-next, or-none, no-success}
 use Rattle.host_answers.proofs.OnlyLaws.{only-ending}

@@ -14,7 +14,7 @@ use Rattle.capture_events.specs.Next.{atOf}
 use Rattle.capture_events.proofs.EventLaws.{fold-joins, settings-so, settings-bad, behind}
 use Rattle.missing_records.specs.Records.{LentNotes}
 use Rattle.missing_records.proofs.OverLaws.{session-stays}
-use Rattle.missing_capture.specs.Reading.{LentReading, notesIn, noted, feedOf, finishOf}
+use Rattle.missing_capture.specs.Reading.{LentReading, notesIn, notedBy, feedOf, finishOf}
 use Rattle.missing_capture.proofs.ReadLaws.{fold-long, end-notes}
 use Rattle.missing_capture.proofs.FoldLaws.{fold-datagrams}
 
@@ -27,39 +27,39 @@ unfolding readTo
 to-events zero ds rest l = refl
 to-events (suc n) ds rest l = refl
 
-records-name : (x : LentNotes) (k : ℕ) (l : List ℕ) → nameOf (fold noted x (readRecords k l .events)) ≡ nameOf x
+records-name : (x : LentNotes) (k : ℕ) (l : List ℕ) → nameOf (fold notedBy x (readRecords k l .events)) ≡ nameOf x
 unfolding readRecords
 records-name x k l =
     let ds = datagramsOf k l in
-    ap (λ (es : List Event). nameOf (fold noted x es)) (to-events (k - length ds) ds (restOf k l) l)
+    ap (λ (es : List Event). nameOf (fold notedBy x es)) (to-events (k - length ds) ds (restOf k l) l)
     ∙ ap nameOf (fold-datagrams x ds)
     ∙ session-stays x ds
 
-on-ten : (x : LentNotes) (a : At) (l : List ℕ) → length (nameOf x) ≡ 10 → length (nameOf (fold noted x (readOn a l .events))) ≡ 10
-unfolding readOn fold noted
+on-ten : (x : LentNotes) (a : At) (l : List ℕ) → length (nameOf x) ≡ 10 → length (nameOf (fold notedBy x (readOn a l .events))) ≡ 10
+unfolding readOn fold notedBy
 on-ten x settings l e =
     zero-or-not _ (settingsOf l .refusal .number)
     (λ z. rw (settings-so l z)
-    (ap length (records-name (noted x (opened (settingsOf l .settings))) mostRecords (behind l)) ∙ settings-promises .reads-exactly .only l z .good .ten-bytes))
+    (ap length (records-name (notedBy x (opened (settingsOf l .settings))) mostRecords (behind l)) ∙ settings-promises .reads-exactly .only l z .good .ten-bytes))
     (λ z. rw (settings-bad l z) e)
 on-ten x (records k) l e = ap length (records-name x k l) ∙ e
 on-ten x done l e = e
 on-ten x refused l e = e
 
-piece-ten : (x : LentNotes) (a : At) (l : List ℕ) → length (nameOf x) ≡ 10 → length (nameOf (fold noted x (readPiece a l .events))) ≡ 10
+piece-ten : (x : LentNotes) (a : At) (l : List ℕ) → length (nameOf x) ≡ 10 → length (nameOf (fold notedBy x (readPiece a l .events))) ≡ 10
 unfolding readPiece fold
 piece-ten x a l e = go (waitsAt a (length l))
   where
-    go : (b : Bool) → length (nameOf (fold noted x ((if b then reads a [] 0 else readOn a l) .events))) ≡ 10
+    go : (b : Bool) → length (nameOf (fold notedBy x ((if b then reads a [] 0 else readOn a l) .events))) ≡ 10
     go true = e
     go false = on-ten x a l e
 
-last-ten : (x : LentNotes) (a : At) (l : List ℕ) → length (nameOf x) ≡ 10 → length (nameOf (fold noted x (readLast a l .events))) ≡ 10
+last-ten : (x : LentNotes) (a : At) (l : List ℕ) → length (nameOf x) ≡ 10 → length (nameOf (fold notedBy x (readLast a l .events))) ≡ 10
 unfolding readLast
 last-ten x a l e =
     let r : Read = readOn a l in
     let n : ℕ = length l - r .used in
-    ap (λ (y : LentNotes). length (nameOf y)) (fold-joins noted x (r .events) (endAt (r .at) n .events) ∙ end-notes (fold noted x (r .events)) (r .at) n) ∙ on-ten x a l e
+    ap (λ (y : LentNotes). length (nameOf y)) (fold-joins notedBy x (r .events) (endAt (r .at) n .events) ∙ end-notes (fold notedBy x (r .events)) (r .at) n) ∙ on-ten x a l e
 
 -- ---- a reading that is fed or finished
 
