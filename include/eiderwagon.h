@@ -73,7 +73,7 @@ enum {
     EIDERWAGON_REFUSED_SESSION_DIFFERS = 17,    /* the session differs */
     EIDERWAGON_REFUSED_SESSION_ENDED = 18,      /* the session has already ended */
     EIDERWAGON_REFUSED_BAD_SETTING = 19,        /* a bad starting setting, an account table over 1,024, or a packet's
-                                                   size, a store's numbers or slots out of bounds */
+                                                   size, a store's numbers, slots or edges out of bounds */
     EIDERWAGON_REFUSED_END_BELOW_EXPECTED = 20, /* an end of session below the expected number */
     EIDERWAGON_REFUSED_LENGTH_ZERO = 21,        /* a packet's length is 0 */
     EIDERWAGON_REFUSED_PAYLOAD_LONG = 22,       /* a payload above 4,096 bytes */
@@ -122,7 +122,7 @@ static inline const char *eiderwagon_ground(uint32_t code) {
     case EIDERWAGON_REFUSED_SESSION_ENDED:
         return "the session has already ended";
     case EIDERWAGON_REFUSED_BAD_SETTING:
-        return "a bad starting setting, an account table over 1,024, or a packet's size, a store's numbers or slots out of bounds";
+        return "a bad starting setting, an account table over 1,024, or a packet's size, a store's numbers, slots or edges out of bounds";
     case EIDERWAGON_REFUSED_END_BELOW_EXPECTED:
         return "an end of session below the expected number";
     case EIDERWAGON_REFUSED_LENGTH_ZERO:

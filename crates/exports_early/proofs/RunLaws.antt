@@ -169,7 +169,7 @@ module _ (l ss : List ℕ) (d : Datagram) (h : 157 ≤ length l) (k : length ss 
   unfolding short orElse walkBy
   got g =
       let z : g .code ≡ 0 = g .call .returns ∙ rw (le-ltb (length l) 157 h, right ss k, le-ltb (length (g .before)) 21 (g .room)) refl in
-      let size : length (g .set) ≡ length (g .before) = kept-size (g .call .keeps) z in
+      let size : length (g .walk-set) ≡ length (g .before) = kept-size (g .call .keeps) z in
       walk 0 (omega (arith, g .room)) (g .call .keeps .reads-back (eq-eqb _ 0 z) (g .room)) (g .walked) ∙ ap (messagesAt s d 0) (all-left (deliveredCount s d))
     where
       all-left : (n : ℕ) → n - 0 ≡ n

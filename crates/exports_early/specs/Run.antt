@@ -38,10 +38,10 @@ pub data Walked (l ss : List ℕ) (d : Datagram) : List ℕ → List Message →
 pub record Gets (l ss : List ℕ) (d : Datagram) (ms : List Message) : Type 0 where
   pub code : ℕ
   pub before : List ℕ
-  pub set : List ℕ
+  pub walk-set : List ℕ
   pub room : walkSize ≤ length before
-  pub call : SetsWalk code l ss d before set
-  pub walked : Walked l ss d set ms
+  pub call : SetsWalk code l ss d before walk-set
+  pub walked : Walked l ss d walk-set ms
 
 -- a call that is lent its seven words: the state's bytes l become m, the slots ss become ss′, and the host gets the
 -- messages ms

@@ -33,7 +33,7 @@ sessionDiffers = 17
 abbrev pub sessionEnded : ℕ
 sessionEnded = 18
 
--- a bad starting setting, an account table over 1,024, or a packet's size, a store's numbers or slots out of bounds
+-- a bad starting setting, an account table over 1,024, or a packet's size, a store's numbers, slots or edges out of bounds
 abbrev pub badSetting : ℕ
 badSetting = 19
 

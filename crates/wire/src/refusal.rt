@@ -32,7 +32,8 @@ pub const SESSION_DIFFERS: Refusal = Refusal { number: 17 };
 // The session has already ended.
 pub const SESSION_ENDED: Refusal = Refusal { number: 18 };
 
-// A bad starting setting, an account table over 1,024, or a packet's size, a store's numbers or slots out of bounds.
+// A bad starting setting, an account table over 1,024, or a packet's size, a store's numbers, slots or edges out of
+// bounds.
 pub const BAD_SETTING: Refusal = Refusal { number: 19 };
 
 // An end of session below the expected number.

@@ -135,7 +135,7 @@ constants! {
     REFUSED_SESSION_DIFFERS: u32 = 17;
     /// The session has already ended.
     REFUSED_SESSION_ENDED: u32 = 18;
-    /// A bad starting setting, an account table over 1,024, or a packet's size, a store's numbers or slots out of bounds.
+    /// A bad starting setting, an account table over 1,024, or a packet's size, a store's numbers, slots or edges out of bounds.
     REFUSED_BAD_SETTING: u32 = 19;
     /// An end of session below the expected number.
     REFUSED_END_BELOW_EXPECTED: u32 = 20;

@@ -72,7 +72,7 @@ grounds! {
     SessionDiffers = 17, "the session differs";
     SessionEnded = 18, "the session has already ended";
     BadSetting = 19,
-        "a bad starting setting, an account table over 1,024, or a packet's size, a store's numbers or slots out of bounds";
+        "a bad starting setting, an account table over 1,024, or a packet's size, a store's numbers, slots or edges out of bounds";
     EndBelowExpected = 20, "an end of session below the expected number";
     LengthZero = 21, "a packet's length is 0";
     PayloadLong = 22, "a payload above 4,096 bytes";
