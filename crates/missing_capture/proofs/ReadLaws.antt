@@ -22,7 +22,7 @@ use Rattle.capture_events.specs.declared.place.Found.{Found}
 use Rattle.capture_events.specs.declared.place.Found.the-variants as found
 use Rattle.capture_events.specs.declared.place.Next.{Next}
 use Rattle.capture_events.specs.Events.{Event, opened, bad-settings, datagram, cut-short, fold, At, settings, records, done, refused, readOn, waitsAt, readPiece, endAt, readLast}
-use Rattle.capture_events.specs.Next.{atOf, placeAt, nextOf, isFound, eventsIn, readBy, isNone, withRest, EndsAt}
+use Rattle.capture_events.specs.Next.{atOf, placeAt, nextOf, isFound, eventsIn, readBy, isNone, EndsAt}
 use Rattle.capture_events.proofs.EventLaws.{fold-joins}
 use Rattle.capture_events.proofs.NextLaws.{place-at, at-place, Going, going-start, going-within, going-next, going-less, going-folded, going-at, going-used}
 use Rattle.missing_records.specs.declared.Notes.{Notes}

@@ -1,15 +1,13 @@
+-- The start of the ranges, with the name.
 use Rattle.missing_records.proofs.Rules.{taking}
 use Rattle.missing_records.proofs.Notes.start.Statement.{statement}
 use Rattle.missing_records.proofs.Notes.start.Tie as tie
 
-start-requires : tie.Need-start-requires
-start-requires c κs = search taking
-
-same-length : tie.Need-same-length
-same-length c = search taking
-
-returns : tie.Need-returns
-returns c = search taking
-
 pub start-spec : {M : Type 1} → statement M
-start-spec = tie.close (tie.spec start-requires same-length returns)
+start-spec =
+    tie.close
+    (tie.spec
+    (λ c κs. search taking)  -- start-requires
+    (λ c. search taking)  -- same-length
+    (λ c. search taking)  -- returns
+    )

@@ -1,18 +1,14 @@
+-- What comes next at the end doesn't hang on what is left, and what is left is noted nowhere.
 use Rattle.missing_capture.proofs.Rules.{feeding}
 use Rattle.missing_capture.proofs.reading.Reading.finish.Statement.{statement}
 use Rattle.missing_capture.proofs.reading.Reading.finish.Tie as tie
 
-advance-requires : tie.Need-advance-requires
-advance-requires c κs = search feeding
-
-end-requires : tie.Need-end-requires
-end-requires c κs = search feeding
-
-same-length : tie.Need-same-length
-same-length c = search feeding
-
-returns : tie.Need-returns
-returns c = search feeding
-
 pub finish-spec : {M : Type 1} → statement M
-finish-spec = tie.close (tie.spec advance-requires end-requires same-length returns)
+finish-spec =
+    tie.close
+    (tie.spec
+    (λ c κs. search feeding)  -- advance-requires
+    (λ c κs. search feeding)  -- end-requires
+    (λ c. search feeding)  -- same-length
+    (λ c. search feeding)  -- returns
+    )

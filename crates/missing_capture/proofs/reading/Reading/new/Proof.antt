@@ -1,9 +1,11 @@
+-- The fields are the definition's.
 use Rattle.missing_capture.proofs.Rules.{noting}
 use Rattle.missing_capture.proofs.reading.Reading.new.Statement.{statement}
 use Rattle.missing_capture.proofs.reading.Reading.new.Tie as tie
 
-returns : tie.Need-returns
-returns c = search noting
-
 pub new-spec : {M : Type 1} → statement M
-new-spec = tie.close (tie.spec returns)
+new-spec =
+    tie.close
+    (tie.spec
+    (λ c. search noting)  -- returns
+    )
