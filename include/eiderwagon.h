@@ -30,7 +30,8 @@
  *   made by hand. Numbers are little-endian, but for the lengths of held messages. A state is open exactly when its
  *   first byte is its kind's code (_OPEN). No two kinds have the same code, and none is 0: a state that is lent to a
  *   function of another kind isn't open there.
- *   (It may be laid over, though: a start, a walk, eiderwagon_server_set_last and a feed of a capture lay their own.)
+ *   (It may be laid over, though: a start, a walk, eiderwagon_server_set_last, and a feed and a finish of a capture lay
+ *   their own.)
  *   With every other first byte, 0 too, a receiver of either kind is ended, a session is closed or ended, a reading is
  *   done or its settings are refused, a cursor and a walk have no messages left and a transmitter no packet. So bytes
  *   of zero are never open.
@@ -182,7 +183,7 @@ enum {
     EIDERWAGON_LARGEST_REPORT = 256,     /* a buffer that every capture's report fits */
     EIDERWAGON_SLOT_SIZE = 1024,         /* a slot, and the longest message that is held in one */
     EIDERWAGON_SLOTS_SIZE = 65536,       /* the 64 slots of a receiver that keeps early messages */
-    EIDERWAGON_MISSING_TEXT = 204898     /* a buffer that the text of what is missing needs, however short it is */
+    EIDERWAGON_MISSING_TEXT = 204898     /* the buffer that the text of what is missing needs, however short that is */
 };
 
 /* ---- States and cursors: where each part stands, and how many bytes it has --------------------------------------- */
@@ -912,10 +913,10 @@ uint32_t eiderwagon_client_step(uint8_t *state, size_t state_size, const uint8_t
  *   refusals:  41 */
 uint32_t eiderwagon_capture_start(uint8_t *state, size_t state_size);
 
-/* The words of eiderwagon_capture_feed. */
+/* The words of eiderwagon_capture_feed and of eiderwagon_missing_feed. */
 enum {
     EIDERWAGON_FEED_USED = 0, /* how many bytes were used */
-    EIDERWAGON_FEED_OVER = 1, /* 1 once the reading is over, so that nothing that follows changes the report, else 0 */
+    EIDERWAGON_FEED_OVER = 1, /* 1 once the reading is over, so that nothing that follows changes it, else 0 */
     EIDERWAGON_FEED_WORDS = 2 /* how many words */
 };
 
@@ -967,10 +968,10 @@ uint32_t eiderwagon_capture_report(const uint8_t *capture, size_t capture_size,
  * a gap.
  *
  * The edges are EIDERWAGON_MISSING_EDGES words that you keep beside the state, of any numbers at first. Lend them to
- * each call as the one before left them, and let nothing else write there; fewer or more are refused with 19. The first
- * 2 k + 1 rise, k being the ranges that have both edges (EIDERWAGON_MISSING_CLOSED_AT): each is from an edge to just
- * below the next, and from the last edge on nothing is carried. With words of your own nothing undefined happens, and
- * what is said is about those. */
+ * each call as the one before left them, and let nothing else write there; fewer or more are refused with 19. Once
+ * settings were read the first 2 k + 1 rise, k being the ranges that have both edges (EIDERWAGON_MISSING_CLOSED_AT):
+ * the range at place i is from edge 2 i to just below edge 2 i + 1, and from edge 2 k on nothing is carried. With words
+ * of your own nothing undefined happens, and what is said is about those. */
 
 /* Starts the reading of a capture for what is missing. Until settings are read its session is ten spaces, all of its
  * numbers are 0, and its ranges are refused. No edges are needed yet.
@@ -979,7 +980,8 @@ uint32_t eiderwagon_capture_report(const uint8_t *capture, size_t capture_size,
 uint32_t eiderwagon_missing_start(uint8_t *state, size_t state_size);
 
 /* Feeds some bytes, after which more may come: the words, which bytes are used and when it is over are as at
- * eiderwagon_capture_feed.
+ * eiderwagon_capture_feed, with eiderwagon_missing_finish for its end. Settings that are read start it anew. Ranges that
+ * are refused don't end it: bytes are used as before, and nothing more is noted.
  *   state:     EIDERWAGON_MISSING_SIZE bytes, read and written
  *   edges:     EIDERWAGON_MISSING_EDGES words, read and written
  *   words:     EIDERWAGON_FEED_WORDS

@@ -34,6 +34,8 @@ MANY = 70_000
 def buffer_of(program):
     """The bytes of its buffer, as its source says."""
     source = (ROOT / "crates" / program / "src" / "main.rt").read_text()
+    # no run uses these up, so none can show that they are fewer
+    assert "let mut turns: u64 = u64::MAX;" in source, f"{program}: turns that a run may use up"
     return max(int(size) for size in re.findall(r"\[0u8; (\d+)\]", source))
 
 
@@ -99,7 +101,7 @@ def of_ranges():
     yield "no records", capture()
     yield "bad settings", lines(limit=65535)
     yield "a cut record", capture(data_of(2, 1), after=b"\x00\x17" + data_of(9, 1)[:-1])
-    yield "an ended session with datagrams after it", capture(data_of(1, 1), end(2), data_of(4, 1), end(3), heartbeat(9))
+    yield "datagrams after an end of session", capture(data_of(1, 1), end(2), data_of(4, 1), end(3), heartbeat(9))
 
 
 def captures(program):

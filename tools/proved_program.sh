@@ -29,4 +29,5 @@ if [ "${PIPESTATUS[0]}" -ne 0 ]; then
     tail -n 20 "$log" >&2
     exit 1
 fi
+rm -f "$log"
 exec "$top/target/bin/$program" <"$capture"

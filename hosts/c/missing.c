@@ -8,6 +8,7 @@
 
 #include <inttypes.h>
 #include <stdio.h>
+#include <stdlib.h>
 #include <string.h>
 
 static const uint8_t session[EIDERWAGON_SESSION_SIZE] = {'R', 'E', 'A', 'D', 'R', 'O', 'O', 'M', '0', '1'};
@@ -27,8 +28,12 @@ static void take(const uint8_t *piece, size_t size) {
     uint64_t words[EIDERWAGON_FEED_WORDS];
     memcpy(kept + kept_size, piece, size);
     kept_size += size;
-    eiderwagon_missing_feed(reading, sizeof reading, edges, EIDERWAGON_MISSING_EDGES, kept, kept_size, words,
-                            EIDERWAGON_FEED_WORDS);
+    uint32_t code = eiderwagon_missing_feed(reading, sizeof reading, edges, EIDERWAGON_MISSING_EDGES, kept, kept_size,
+                                            words, EIDERWAGON_FEED_WORDS);
+    if (EIDERWAGON_NUMBER(code) != EIDERWAGON_OK) {
+        fprintf(stderr, "no feed: %s\n", eiderwagon_ground(code));
+        exit(1);
+    }
     kept_size -= (size_t)words[EIDERWAGON_FEED_USED];
     memmove(kept, kept + words[EIDERWAGON_FEED_USED], kept_size);
 }

@@ -186,7 +186,7 @@ def rule(r):
         ("all of it, and no more", (heartbeat(20), (10, 19)), (data_of(10, 10),)),
         ("all of it, and more", (heartbeat(20), (10, 19)), (data_of(8, 14),)),
         ("all but the ends", (heartbeat(20), (10, 19)), (data_of(11, 8), (10, 10), (19, 19))),
-        ("two ranges, joined by what is behind", (data_of(12, 1), (10, 11)), (heartbeat(15), (10, 11), (13, 14))),
+        ("a second range behind what is present", (data_of(12, 1), (10, 11)), (heartbeat(15), (10, 11), (13, 14))),
         ("numbers that touch", (data_of(12, 1), (10, 11)), (data_of(13, 1), (10, 11)), (data_of(11, 1), (10, 10))),
         ("what is present twice", (data_of(12, 3), (10, 11)), (data_of(13, 1), (10, 11)), (data_of(12, 3), (10, 11))),
         ("numbers below the start", (data_of(3, 4),), (heartbeat(9),), (data_of(9, 1),), (heartbeat(11), (10, 10))),

@@ -23,7 +23,7 @@ def said_by(session, datagram):
 
 
 def carry(runs, first, after):
-    """Puts the numbers from first to just below after to runs of numbers that rise and don't touch, in place."""
+    """Adds the numbers from first to just below after to runs of numbers that rise and don't touch, in place."""
     if first == after:
         return
     low = bisect.bisect_left(runs, first, key=lambda run: run[1])

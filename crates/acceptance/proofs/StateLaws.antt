@@ -12,8 +12,11 @@ use Rattle.soupbintcp_server.specs.declared.server.ServerState.the-variants as 
 use Rattle.soupbintcp_client.specs.declared.client.ClientState.the-variants as client
 use Rattle.capture.specs.declared.reading.Stage.the-variants as stage
 use Rattle.capture.specs.Reading.{isOver}
+use Rattle.capture_events.specs.declared.place.Place.the-variants as place
+use Rattle.capture_events.specs.Events.{isOverAt}
+use Rattle.capture_events.specs.Next.{atOf}
 use Rattle.host_answers.specs.Answers.{isOneOf}
-use Rattle.host_states.specs.States.{cursorCode, receiverCode, serverCode, clientCode, readingCode, transmitterCode, earlyCode, walkCode, isOpen}
+use Rattle.host_states.specs.States.{cursorCode, receiverCode, serverCode, clientCode, readingCode, transmitterCode, earlyCode, walkCode, missingCode, isOpen}
 use Rattle.host_cursor.specs.Cursor.{cursorSize, cursorIn}
 use Rattle.host_cursor.proofs.CursorLaws.{cursor-promises}
 use Rattle.host_receiver.specs.Receiver.{receiverSize, receiverIn}
@@ -31,6 +34,8 @@ use Rattle.host_client.specs.Client.{clientStateOf, clientIsOpen, clientIn}
 use Rattle.host_client.proofs.ClientLaws as kept-client
 use Rattle.host_capture.specs.Reading.{readingSize, stageOf, readingIn}
 use Rattle.host_capture.proofs.ReadingLaws.{reading-promises}
+use Rattle.host_missing.specs.Reading as missing
+use Rattle.host_missing.proofs.ReadingLaws as kept-missing
 use Rattle.acceptance.specs.States.{HostStates, OpenExactly, allDifferent, OpenByCode}
 
 pub host-states : HostStates
@@ -44,6 +49,7 @@ host-states =
       server = kept-server.server-promises;
       client = kept-client.client-promises;
       reading = reading-promises;
+      missing = kept-missing.reading-promises;
     }
 
 -- ---- by its first byte
@@ -127,6 +133,27 @@ reading-open =
       too-few = λ l h. rw (lt-ltb (length l) readingSize h);
     }
 
+missing-so : (b : Bool) (n left : ℕ) → not (isOverAt (atOf (missing.placeOf b n left))) ≡ b
+unfolding missing.placeOf isOverAt atOf
+missing-so true n left = go (eqb n 2)
+  where
+    go : (c : Bool) → not (isOverAt (atOf (if c then place.Records left else place.Settings))) ≡ true
+    go true = refl
+    go false = refl
+missing-so false n left = go (eqb n 3)
+  where
+    go : (c : Bool) → not (isOverAt (atOf (if c then place.Done else place.Refused))) ≡ false
+    go true = refl
+    go false = refl
+
+missing-open : OpenExactly missing.readingIn (λ x. not (isOverAt (atOf (x .place)))) missing.missingSize missingCode
+unfolding missing.readingIn isOpen isOverAt atOf
+missing-open =
+    record {
+      by-code = λ l h. rw (le-ltb (length l) missing.missingSize h) (missing-so (eqb (getD l 0 0) missingCode) _ _);
+      too-few = λ l h. rw (lt-ltb (length l) missing.missingSize h);
+    }
+
 cursor-none : (l : List ℕ) → (getD l 0 0 ≡ cursorCode → ⊥) → cursorIn l .left .0 ≡ 0
 unfolding cursorIn isOpen
 cursor-none l e =
@@ -166,6 +193,7 @@ open-by-code =
       server = server-open;
       client = client-open;
       reading = reading-open;
+      missing = missing-open;
       cursor = cursor-none;
       cursor-too-few = cursor-few;
       walk = walk-none;

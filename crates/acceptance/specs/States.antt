@@ -7,9 +7,11 @@ use lib.ListN.{length, getD}
 use lib.Dec.{eqb}
 use Rattle.wire.specs.Choice.{if_then_else_}
 use Rattle.capture.specs.Reading.{isOver}
+use Rattle.capture_events.specs.Events.{isOverAt}
+use Rattle.capture_events.specs.Next.{atOf}
 use Rattle.host_answers.specs.Answers.{isOneOf}
 use Rattle.host_states.specs.States.{cursorCode, receiverCode, serverCode, clientCode, readingCode, transmitterCode}
-use Rattle.host_states.specs.States.{earlyCode, walkCode, StatePromises}
+use Rattle.host_states.specs.States.{earlyCode, walkCode, missingCode, StatePromises}
 use Rattle.host_cursor.specs.Cursor.{cursorSize, cursorBytes, cursorIn, KeepsCursor}
 use Rattle.host_receiver.specs.Receiver.{receiverSize, receiverBytes, receiverIn, KeepsReceiver}
 use Rattle.host_early.specs.Early.{earlySize, keptBytes, earlyIn, KeepsKept}
@@ -19,6 +21,7 @@ use Rattle.host_session.specs.Session.{sessionStateSize}
 use Rattle.host_server.specs.Server.{serverIsOpen, serverBytes, serverIn, KeepsServer}
 use Rattle.host_client.specs.Client.{clientIsOpen, clientBytes, clientIn, KeepsClient}
 use Rattle.host_capture.specs.Reading.{readingSize, readingBytes, readingIn, KeepsReading}
+use Rattle.host_missing.specs.Reading as missing
 
 -- of each state: a refusal changes no byte of it; what is laid are its bytes, and no other
 pub record HostStates : Type 0 where
@@ -30,6 +33,7 @@ pub record HostStates : Type 0 where
   pub server : StatePromises KeepsServer sessionStateSize serverBytes
   pub client : StatePromises KeepsClient sessionStateSize clientBytes
   pub reading : StatePromises KeepsReading readingSize readingBytes
+  pub missing : StatePromises missing.KeepsMissing missing.missingSize missing.missingBytes
 
 -- ---- open by the first byte: zeros are no open state, and neither are another kind's bytes
 
@@ -44,12 +48,13 @@ allDifferent [] = true
 allDifferent (x ∷ xs) = if isOneOf x xs then false else allDifferent xs
 
 pub record OpenByCode : Type 0 where
-  -- a receiver that isn't ended, a session that waits, has asked or is in, a reading that isn't over
+  -- a receiver that isn't ended, a session that waits, has asked or is in, a reading of either kind that isn't over
   pub receiver : OpenExactly receiverIn (λ r. not (r .ended)) receiverSize receiverCode
   pub early : OpenExactly earlyIn (λ r. not (r .base .ended)) earlySize earlyCode
   pub server : OpenExactly serverIn (λ s. serverIsOpen (s .state)) sessionStateSize serverCode
   pub client : OpenExactly clientIn (λ c. clientIsOpen (c .state)) sessionStateSize clientCode
   pub reading : OpenExactly readingIn (λ x. not (isOver (x .stage))) readingSize readingCode
+  pub missing : OpenExactly missing.readingIn (λ x. not (isOverAt (atOf (x .place)))) missing.missingSize missingCode
   -- bytes whose first isn't a cursor's code, and too few, have no messages left
   pub cursor : (l : List ℕ) → (getD l 0 0 ≡ cursorCode → ⊥) → cursorIn l .left .0 ≡ 0
   pub cursor-too-few : (l : List ℕ) → length l < cursorSize → cursorIn l .left .0 ≡ 0
@@ -63,5 +68,6 @@ pub record OpenByCode : Type 0 where
   pub apart :
       allDifferent (0 ∷ cursorCode ∷ receiverCode ∷ serverCode ∷ clientCode ∷ readingCode ∷ transmitterCode ∷ earlyCode
       ∷ walkCode
+      ∷ missingCode
       ∷ [])
       ≡ true

@@ -15,8 +15,8 @@ use Rattle.capture_events.specs.declared.place.Place.the-variants.{Setti
 use Rattle.capture_events.specs.declared.place.Found.{Found}
 use Rattle.capture_events.specs.declared.place.Found.the-variants.{Nothing, Opened, BadSettings, Datagram}
 use Rattle.capture_events.specs.declared.place.Next.{Next}
-use Rattle.capture_events.specs.Events.{Event, opened, bad-settings, datagram, At, settings, records, done, refused}
-use Rattle.capture_events.specs.Events.{Read, reads, readOn, endAt}
+use Rattle.capture_events.specs.Events.{Event, opened, bad-settings, datagram, At, settings, records, done}
+use Rattle.capture_events.specs.Events.{refused, Read, reads, readOn, endAt}
 
 -- what comes next of a capture
 unfoldable pub atOf : Place → At

@@ -30,7 +30,7 @@ pub enum Found {
     Datagram,
 }
 
-// An event; the settings, which mean something where they were opened alone; what comes next then; and how many bytes
+// An event; the settings, which mean something only where they were opened; what comes next then; and how many bytes
 // were used.
 pub struct Next {
     pub event: Found,

@@ -20,7 +20,8 @@ use Rattle.missing_records.specs.Records.{lentIn}
 use Rattle.missing_text.specs.Text.{roomGround}
 use Rattle.missing_capture.specs.declared.reading.Reading.{Reading}
 use Rattle.missing_capture.specs.declared.reading.Fed.{Fed}
-use Rattle.missing_capture.specs.Reading.{startReading, LentReading, notesIn, LentFed, fedReading, feedOf, finishOf, textOf}
+use Rattle.missing_capture.specs.Reading.{startReading, LentReading, notesIn, LentFed, fedReading}
+use Rattle.missing_capture.specs.Reading.{feedOf, finishOf, textOf}
 use Rattle.host_answers.specs.Answers.{orElse, short, flag, onSuccess, AnswersWith, AnswersWriting}
 use Rattle.host_states.specs.States.{onCode}
 use Rattle.host_missing.specs.Reading.{missingSize, lentReadingIn, KeepsMissing}

@@ -1,5 +1,6 @@
--- A reading of what is missing from a capture, as bytes: its code while it isn't over, its stage, its session, the highest
--- next number, how many records may still be read, how many ranges have both edges, and whether they are refused.
+-- A reading of what is missing from a capture, as bytes: its code while it isn't over, its stage, its session, the
+-- highest next number, how many records may still be read, how many ranges have both edges, and whether they are
+-- refused.
 use Prim.Native.Nat.{ℕ, _+_, min}
 use mathlib.Core.List.{List, [], _∷_, _++_}
 use mathlib.Core.Bool.{Bool, not}
@@ -95,7 +96,8 @@ readingIn l =
     (placeOf (isOpen missingCode l) (getD l stageAt 0) (min (little l leftAt countSize) mostRecords))
     (record {
       session = firstBytes sessionSize (drop sessionAt l);
-      missing = missing (not (eqb (getD l refusedAt 0) 0)) (little l closedAt countSize) (little l highestAt numberSize);
+      missing =
+          missing (not (eqb (getD l refusedAt 0) 0)) (little l closedAt countSize) (little l highestAt numberSize);
     })
 
 -- the reading in the bytes, with the words es lent beside them

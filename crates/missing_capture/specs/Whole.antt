@@ -20,8 +20,8 @@ use Rattle.missing_ranges.specs.Notes as ranges
 use Rattle.missing_records.specs.Records.{lentNotes, startNotes, over}
 use Rattle.missing_records.specs.Promises.{highestOf, ListsMissing, NeedsMoreWithin}
 use Rattle.missing_text.specs.Text.{listText, tooManyText, room}
-use Rattle.missing_capture.specs.Reading.{noNotes, startReading, LentReading, lentReading, readingWith, fedReading}
-use Rattle.missing_capture.specs.Reading.{fedWith, feedOf, finishOf, textOf}
+use Rattle.missing_capture.specs.Reading.{noNotes, startReading, LentReading, lentReading, readingWith}
+use Rattle.missing_capture.specs.Reading.{fedReading, fedWith, feedOf, finishOf, textOf}
 use Rattle.missing_capture.specs.Turning.{startTurning, LentTurning, lentTurning, turnedOf, byTurns}
 
 -- ---- what a capture means
@@ -48,7 +48,8 @@ unfoldable pub missingCaptureText : List ℕ → List ℕ
 missingCaptureText l = textOf (missingCaptureOf (replicate ranges.room 0) l)
 
 -- what is printed of every capture, in three cases that exclude each other: that its settings are refused; the list of
--- what is missing, with how many numbers that is; or that after some of its records more ranges are missing than are kept
+-- what is missing, with how many numbers that is; or that after some of its records more ranges are missing than are
+-- kept
 pub data PrintedMissing (l : List ℕ) : Type 0 where
   bad : (settingsOf l .refusal .number ≡ 0 → ⊥) → missingCaptureText l ≡ settingsRefused → PrintedMissing l
   listed : (rs : List Range) → settingsOf l .refusal .number ≡ 0

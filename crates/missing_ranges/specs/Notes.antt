@@ -7,7 +7,8 @@ use lib.ListN.{length, take, getD}
 use lib.Dec.{ltb, leb, eqb}
 use Rattle.wire.specs.Choice.{if_then_else_}
 use Rattle.wire.specs.Output.{put}
-use Rattle.missing_ranges.specs.Edges.{Range, range, rangesOf, totalFrom, mostRanges, placePast, placeOf, middle, without}
+use Rattle.missing_ranges.specs.Edges.{Range, range, rangesOf, totalFrom, mostRanges}
+use Rattle.missing_ranges.specs.Edges.{placePast, placeOf, middle, without}
 use Rattle.missing_ranges.specs.declared.ranges.Missing.{Missing}
 use Rattle.missing_ranges.specs.declared.ranges.Plan.{Plan}
 
@@ -104,7 +105,7 @@ pub record Ready (x : Lent) (f e top : ℕ) : Type 0 where
   pub highest-is : top ≡ topAfter x e
   pub carried : f < e
 
--- the two places of numbers from f to just below e among n edges, and how many edges there are then and the last of them
+-- the two places of numbers from f to just below e among n edges, how many edges there are then, and the last of them
 pub record Plans (r : Plan) (l : List ℕ) (n f e : ℕ) : Type 0 where
   pub second : r .j ≡ placePast e l n
   pub first : r .i ≡ placeOf f l (r .j)

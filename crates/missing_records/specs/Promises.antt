@@ -101,8 +101,8 @@ exampleDatagrams =
 pub record NotVacuous : Type 0 where
   pub lists : ListsMissing readroom 1 exampleDatagrams (range 3 4 ∷ range 6 6 ∷ range 8 8 ∷ [])
 
--- a tool that lists nothing, one that lists ranges that touch, and one that forgets a range when it is split, as 7 splits
--- 6 to 8, each break it
+-- a tool that lists nothing, one that lists ranges that touch, and one that forgets a range when it is split, as 7
+-- splits 6 to 8, each break it
 pub record NotWeak : Type 0 where
   pub lists-nothing : ListsMissing readroom 1 exampleDatagrams [] → ⊥
   pub ranges-touch : ListsMissing readroom 1 exampleDatagrams (range 3 3 ∷ range 4 4 ∷ range 6 6 ∷ range 8 8 ∷ []) → ⊥

@@ -18,8 +18,8 @@ use Rattle.missing_records.specs.declared.Said.{Said}
 unfoldable pub accepted : List ℕ → List ℕ → Bool
 accepted name d = if wellFormed d then sameBytes (take sessionSize d) name else false
 
--- the next number that it states or implies: data has as many numbers as blocks, from its own on; a heartbeat and an end
--- of session have none, and state theirs
+-- the next number that it states or implies: data has as many numbers as blocks, from its own on; a heartbeat and an
+-- end of session have none, and state theirs
 abbrev pub nextIn : List ℕ → ℕ
 nextIn d = numberOf d + blockCount d
 

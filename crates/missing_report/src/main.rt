@@ -7,11 +7,13 @@ use missing_capture::turning::Turning;
 use missing_ranges::ranges::ROOM;
 ghost use mathlib.Core.Path.{_≡_};
 ghost use mathlib.Core.Bool.{true};
-ghost use Prim.Native.Nat.{_<_};
+ghost use Prim.Native.Nat.{_<_, _≤_};
 ghost use lib.ListN.{length};
 ghost use Rattle.capture_events.specs.Events.{isOverAt};
 ghost use Rattle.capture_events.specs.Next.{atOf};
 ghost use Rattle.capture_events.specs.Turns.{mostKept};
+ghost use Rattle.missing_ranges.specs.Notes as ranges;
+ghost use Rattle.missing_text.specs.Text.{room};
 
 // Reads once behind the bytes that are kept, where there is room for one more at the least, and answers how many came:
 // none where the input ends or the read fails.
@@ -42,15 +44,18 @@ fn read_all(edges: &mut [u64], buf: &mut [u8]) -> Reading
     state.turn(edges, buf, 0).reading
 }
 
-// Prints what a capture came to. The buffer has room for any text.
-fn print(reading: Reading, edges: &[u64], buf: &mut [u8]) {
+// Prints what a capture came to, in a buffer that has room for any text.
+fn print(reading: Reading, edges: &[u64], buf: &mut [u8])
+    requires { ⌜ room ≤ length (now buf) ⌝ }
+{
     let size = reading.printed(edges, buf);
     io::write_all(STDOUT_FILENO, &buf[..size]);
 }
 
-// Reads and prints, in the memory that is lent: the words of the edges, and the buffer.
+// Reads and prints, in the memory that is lent: words enough for the edges, and the buffer.
 fn run(edges: &mut [u64], buf: &mut [u8])
-    requires { ⌜ mostKept < length (now buf) ⌝ }
+    requires { ⌜ ranges.room ≤ length (now edges) ⌝ }
+    requires { ⌜ room ≤ length (now buf) ⌝ }
 {
     let reading = read_all(edges, buf);
     print(reading, edges, buf);

@@ -200,7 +200,7 @@ constants! {
     SLOT_SIZE: usize = 1024;
     /// The 64 slots of a receiver that keeps early messages, in bytes.
     SLOTS_SIZE: usize = 65536;
-    /// A buffer that the text of what is missing needs, however short it is, in bytes.
+    /// The buffer that the text of what is missing needs, however short that is, in bytes.
     MISSING_TEXT: usize = 204898;
 
     /// Offset in a cursor: its code, or no messages are left (1).
