@@ -34,7 +34,7 @@ use Rattle.host_client.specs.Client.{clientStateOf, clientIsOpen, clientIn}
 use Rattle.host_client.proofs.ClientLaws as kept-client
 use Rattle.host_capture.specs.Reading.{readingSize, stageOf, readingIn}
 use Rattle.host_capture.proofs.ReadingLaws.{reading-promises}
-use Rattle.host_missing.specs.Reading as missing
+use Rattle.host_missing.specs.Reading as host-missing
 use Rattle.host_missing.proofs.ReadingLaws as kept-missing
 use Rattle.acceptance.specs.States.{HostStates, OpenExactly, allDifferent, OpenByCode}
 
@@ -133,8 +133,8 @@ reading-open =
       too-few = λ l h. rw (lt-ltb (length l) readingSize h);
     }
 
-missing-so : (b : Bool) (n left : ℕ) → not (isOverAt (atOf (missing.placeOf b n left))) ≡ b
-unfolding missing.placeOf isOverAt atOf
+missing-so : (b : Bool) (n left : ℕ) → not (isOverAt (atOf (host-missing.placeOf b n left))) ≡ b
+unfolding host-missing.placeOf isOverAt atOf
 missing-so true n left = go (eqb n 2)
   where
     go : (c : Bool) → not (isOverAt (atOf (if c then place.Records left else place.Settings))) ≡ true
@@ -146,12 +146,12 @@ missing-so false n left = go (eqb n 3)
     go true = refl
     go false = refl
 
-missing-open : OpenExactly missing.readingIn (λ x. not (isOverAt (atOf (x .place)))) missing.missingSize missingCode
-unfolding missing.readingIn isOpen isOverAt atOf
+missing-open : OpenExactly host-missing.readingIn (λ x. not (isOverAt (atOf (x .place)))) host-missing.missingSize missingCode
+unfolding host-missing.readingIn isOpen isOverAt atOf
 missing-open =
     record {
-      by-code = λ l h. rw (le-ltb (length l) missing.missingSize h) (missing-so (eqb (getD l 0 0) missingCode) _ _);
-      too-few = λ l h. rw (lt-ltb (length l) missing.missingSize h);
+      by-code = λ l h. rw (le-ltb (length l) host-missing.missingSize h) (missing-so (eqb (getD l 0 0) missingCode) _ _);
+      too-few = λ l h. rw (lt-ltb (length l) host-missing.missingSize h);
     }
 
 cursor-none : (l : List ℕ) → (getD l 0 0 ≡ cursorCode → ⊥) → cursorIn l .left .0 ≡ 0

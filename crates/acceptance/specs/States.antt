@@ -21,7 +21,7 @@ use Rattle.host_session.specs.Session.{sessionStateSize}
 use Rattle.host_server.specs.Server.{serverIsOpen, serverBytes, serverIn, KeepsServer}
 use Rattle.host_client.specs.Client.{clientIsOpen, clientBytes, clientIn, KeepsClient}
 use Rattle.host_capture.specs.Reading.{readingSize, readingBytes, readingIn, KeepsReading}
-use Rattle.host_missing.specs.Reading as missing
+use Rattle.host_missing.specs.Reading as host-missing
 
 -- of each state: a refusal changes no byte of it; what is laid are its bytes, and no other
 pub record HostStates : Type 0 where
@@ -33,7 +33,7 @@ pub record HostStates : Type 0 where
   pub server : StatePromises KeepsServer sessionStateSize serverBytes
   pub client : StatePromises KeepsClient sessionStateSize clientBytes
   pub reading : StatePromises KeepsReading readingSize readingBytes
-  pub missing : StatePromises missing.KeepsMissing missing.missingSize missing.missingBytes
+  pub missing : StatePromises host-missing.KeepsMissing host-missing.missingSize host-missing.missingBytes
 
 -- ---- open by the first byte: zeros are no open state, and neither are another kind's bytes
 
@@ -54,7 +54,8 @@ pub record OpenByCode : Type 0 where
   pub server : OpenExactly serverIn (λ s. serverIsOpen (s .state)) sessionStateSize serverCode
   pub client : OpenExactly clientIn (λ c. clientIsOpen (c .state)) sessionStateSize clientCode
   pub reading : OpenExactly readingIn (λ x. not (isOver (x .stage))) readingSize readingCode
-  pub missing : OpenExactly missing.readingIn (λ x. not (isOverAt (atOf (x .place)))) missing.missingSize missingCode
+  pub missing : OpenExactly host-missing.readingIn (λ x. not (isOverAt (atOf (x .place)))) host-missing.missingSize
+      missingCode
   -- bytes whose first isn't a cursor's code, and too few, have no messages left
   pub cursor : (l : List ℕ) → (getD l 0 0 ≡ cursorCode → ⊥) → cursorIn l .left .0 ≡ 0
   pub cursor-too-few : (l : List ℕ) → length l < cursorSize → cursorIn l .left .0 ≡ 0
