@@ -149,6 +149,16 @@ pub struct Coverage {
 type Pair = (&'static str, &'static str);
 
 impl Coverage {
+    /// Adds what another run drew.
+    pub fn join(&mut self, other: Coverage) {
+        for (outcome, times) in other.drawn {
+            *self.drawn.entry(outcome).or_insert(0) += times;
+        }
+        for (pair, times) in other.pairs {
+            *self.pairs.entry(pair).or_insert(0) += times;
+        }
+    }
+
     pub fn note(&mut self, function: &'static str, outcome: &'static str) {
         *self.drawn.entry((function, outcome)).or_insert(0) += 1;
     }

@@ -24,3 +24,12 @@ pub const INPUTS: u64 = 6_000_000;
 pub fn run(seed: u64, inputs: u64) -> Report {
     run_with(&mut library::Archive, seed, inputs)
 }
+
+/// The same, in two halves at a time: one from the seed, and one from the next.
+pub fn run_halves(seed: u64, inputs: u64) -> Report {
+    std::thread::scope(|scope| {
+        let second = scope.spawn(|| run(seed + 1, inputs / 2));
+        let first = run(seed, inputs - inputs / 2);
+        first.joined(second.join().expect("the second half found no difference"))
+    })
+}

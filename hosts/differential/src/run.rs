@@ -19,6 +19,17 @@ pub struct Report {
     pub coverage: Coverage,
 }
 
+impl Report {
+    /// Both runs as one, by the seed of the first.
+    pub fn joined(mut self, other: Report) -> Report {
+        self.cases += other.cases;
+        self.inputs += other.inputs;
+        self.time = self.time.max(other.time);
+        self.coverage.join(other.coverage);
+        self
+    }
+}
+
 /// The run as a case sees it.
 pub struct Run<'l> {
     library: &'l mut dyn Library,
