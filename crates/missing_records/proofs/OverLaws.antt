@@ -16,7 +16,7 @@ use Rattle.moldudp64.specs.Header.{numberOf, countOf, header}
 use Rattle.moldudp64.specs.Blocks.{blockLength, fits, allFit, afterBlocks, blocksRefusal, blocksOf}
 use Rattle.moldudp64.specs.Downstream.{kindOfCount, blockCount, refusalOf}
 use Rattle.moldudp64.specs.Written.{encoded, encodedEnd}
-use Rattle.moldudp64.proofs.DownstreamLaws.{sound}
+use Rattle.moldudp64.proofs.DownstreamLaws.{sound, count-sound}
 use Rattle.missing_ranges.specs.Edges.{Range, range, rangesOf, totalFrom, listedBelow, mostRanges, isOdd, halved, placePast, placeOf, middle, replaced, without}
 use Rattle.missing_ranges.specs.Notes.{Lent, isUsable, rangesIn, room, later, startIn, noteOf}
 use Rattle.missing_ranges.specs.Meaning as said
@@ -25,7 +25,7 @@ use Rattle.missing_ranges.proofs.OneLaws.{same-list}
 use Rattle.missing_ranges.proofs.HoldLaws.{noted-holds, noted-ranges, words-agree}
 use Rattle.missing_ranges.proofs.PromiseLaws.{missing-promises}
 use Rattle.missing_records.specs.Records.{accepted, nextIn, LentNotes, lentIn, notesWith, startNotes, takeOf, over}
-use Rattle.missing_records.specs.Promises.{carries, isCarried, highestOf, ListsMissing, ListsWhatIsMissing, TotalIsExact, JustOne, NeedsMore, NeedsMoreWithin, exampleDatagrams, NotWeak, DatagramPromises}
+use Rattle.missing_records.specs.Promises.{carries, CarriesItsMessages, isCarried, highestOf, ListsMissing, ListsWhatIsMissing, TotalIsExact, JustOne, NeedsMore, NeedsMoreWithin, exampleDatagrams, NotWeak, DatagramPromises}
 
 -- ---- what the accepted ones of a list say
 
@@ -107,6 +107,10 @@ accepted-well name d e = eqb-true _ _ (first (eqb (refusalOf d) 0) (sameBytes (t
     first : (b c : Bool) → (if b then c else false) ≡ true → b ≡ true
     first true c f = refl
     first false c f = f
+
+carries-its-messages : CarriesItsMessages
+unfolding CarriesItsMessages
+carries-its-messages name d e = ap (λ (k : ℕ). numberOf d + k) (sym (count-sound d (accepted-well name d e)))
 
 all-numbers : (name : List ℕ) (ds : List (List ℕ)) → said.AllNumbers (saidsOf name ds)
 unfolding said.AllNumbers saidsOf saidsIf
@@ -325,6 +329,7 @@ not-weak =
 pub datagram-promises : DatagramPromises
 datagram-promises =
     record {
+      carries-its-messages = carries-its-messages;
       lists-what-is-missing = lists-what-is-missing;
       just-one = just-one;
       total-is-exact = total-is-exact;

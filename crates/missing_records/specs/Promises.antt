@@ -1,5 +1,5 @@
 -- What is promised of the missing ranges of every list of datagrams.
-use Prim.Native.Nat.{ℕ, _≤_, _<_}
+use Prim.Native.Nat.{ℕ, _+_, _≤_, _<_}
 use mathlib.Core.List.{List, [], _∷_}
 use mathlib.Core.Bool.{Bool, true, false, not, _&&_}
 use mathlib.Core.Path.{_≡_}
@@ -9,6 +9,7 @@ use Rattle.wire.specs.Choice.{if_then_else_}
 use Rattle.wire.specs.Bounds.{largestNumber}
 use Rattle.wire.specs.Text.{ascii, readroom}
 use Rattle.moldudp64.specs.Header.{numberOf}
+use Rattle.moldudp64.specs.Downstream.{messagesOf}
 use Rattle.moldudp64.specs.Written.{encoded, encodedEnd}
 use Rattle.missing_ranges.specs.Edges.{Range, range, isListed, risesFrom, totalFrom, listedBelow, mostRanges}
 use Rattle.missing_ranges.specs.Notes.{rangesIn, room, later}
@@ -17,6 +18,10 @@ use Rattle.missing_records.specs.Records.{accepted, nextIn, LentNotes, l
 -- an accepted datagram carries the number x
 unfoldable pub carries : List ℕ → ℕ → List ℕ → Bool
 carries name x d = if accepted name d then leb (numberOf d) x && ltb x (nextIn d) else false
+
+-- as many numbers as it has messages, from its own on: the next number that it states or implies lies just behind them
+unfoldable pub CarriesItsMessages : Type 0
+CarriesItsMessages = (name d : List ℕ) → accepted name d ≡ true → nextIn d ≡ numberOf d + length (messagesOf d)
 
 -- one of them does
 unfoldable pub isCarried : List ℕ → ℕ → List (List ℕ) → Bool
@@ -46,12 +51,12 @@ unfoldable pub ListsWhatIsMissing : Type 0
 ListsWhatIsMissing = (name l : List ℕ) (n : ℕ) (ds : List (List ℕ)) → room ≤ length l → isRefused name l n ds ≡ false
     → ListsMissing name n ds (rangesAfter name l n ds)
 
--- no two lists do
+-- no two lists list just what is missing
 unfoldable pub JustOne : Type 0
 JustOne = (name : List ℕ) (n : ℕ) (ds : List (List ℕ)) (rs qs : List Range) → ListsMissing name n ds rs
     → ListsMissing name n ds qs → rs ≡ qs
 
--- and the sum of their sizes, which is never capped, is how many numbers they list
+-- unless refused, the sum of the ranges' sizes, which is never capped, is how many numbers they list
 unfoldable pub TotalIsExact : Type 0
 TotalIsExact = (name l : List ℕ) (n : ℕ) (ds : List (List ℕ)) → room ≤ length l → n ≤ largestNumber
     → isRefused name l n ds ≡ false
@@ -109,6 +114,7 @@ pub record NotWeak : Type 0 where
   pub forgets-a-half : ListsMissing readroom 1 exampleDatagrams (range 3 4 ∷ range 8 8 ∷ []) → ⊥
 
 pub record DatagramPromises : Type 0 where
+  pub carries-its-messages : CarriesItsMessages
   pub lists-what-is-missing : ListsWhatIsMissing
   pub just-one : JustOne
   pub total-is-exact : TotalIsExact
