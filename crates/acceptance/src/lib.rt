@@ -1,6 +1,8 @@
 // What the tender asks for, by name. The functions have nothing to do: each promises one condition, so that the gate
 // can't pass without its proof, and `specs/Conditions.antt` is the one file to open; `specs/Orders.antt` has later
 // orders.
+#![tactic(auto)]
+
 ghost use Rattle.receiver.specs.Calls.{CallsDeliverTrue};
 ghost use Rattle.exports_receiver.specs.Run.{HostGetsTrue};
 ghost use Rattle.acceptance.specs.Conditions.{Condition1, Condition2, Condition2IsMeant};

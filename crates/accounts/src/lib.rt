@@ -1,4 +1,6 @@
 // Accounts that are kept in a lent table of account records: the login lookup, and the server's step over such a table.
+#![tactic(auto)]
+
 ghost use Rattle.std.specs.Prelude.{◌≡◌, take};
 ghost use Rattle.login.specs.Account.{found_in};
 ghost use Rattle.login.specs.Statements.{FoundDecides};

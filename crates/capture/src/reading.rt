@@ -22,7 +22,7 @@ use wire::kinds::{LENGTH_SIZE, MessageCount, SequenceNumber};
 use wire::output::Written;
 
 // What comes next of a capture: its settings, or records; or nothing, at its end or where its settings are refused.
-#[derive(Drop)]
+#[derive(Clone, Copy)]
 pub enum Stage {
     Settings,
     Records,
@@ -31,21 +31,21 @@ pub enum Stage {
 }
 
 // How far a capture was read.
-#[derive(Drop)]
+#[derive(Clone, Copy)]
 pub struct Reading {
     pub stage: Stage,
     pub report: Report,
 }
 
 // What a reading prints: so many bytes at the front.
-#[derive(Drop)]
+#[derive(Clone, Copy)]
 pub struct Printed {
     pub text: [u8; ROOM],
     pub size: usize,
 }
 
 // A reading after some bytes, and how many of them were used.
-#[derive(Drop)]
+#[derive(Clone, Copy)]
 pub struct Fed {
     pub reading: Reading,
     pub used: usize,

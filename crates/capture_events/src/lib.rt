@@ -1,5 +1,7 @@
 // A capture as events, one by one, and the turns of a program that reads one over a lent buffer, whatever it makes of
 // them.
+#![tactic(auto)]
+
 pub mod place;
 
 ghost use Rattle.std.specs.Prelude.{◌≡◌, ◌+◌, min};

@@ -12,7 +12,7 @@ use wire::kinds::{MessageCount, SequenceNumber};
 
 // What comes next of a capture: its settings, or records, so many at most; or nothing, at its end or where its settings
 // are refused.
-#[derive(Drop)]
+#[derive(Clone, Copy)]
 pub enum Place {
     Settings,
     Records { left: u32 },
@@ -21,7 +21,7 @@ pub enum Place {
 }
 
 // The event in front of some bytes.
-#[derive(Drop)]
+#[derive(Clone, Copy)]
 pub enum Found {
     // None: a record that isn't whole yet, or bytes that are passed over.
     Nothing,
@@ -33,7 +33,7 @@ pub enum Found {
 
 // An event; the settings, which mean something only where they were opened; what comes next then; and how many bytes
 // were used.
-#[derive(Drop)]
+#[derive(Clone, Copy)]
 pub struct Next {
     pub event: Found,
     pub settings: Settings,

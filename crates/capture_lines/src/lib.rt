@@ -1,4 +1,6 @@
 // Lines of text laid into a lent output, each at a place: where one has no room it is refused and nothing is laid.
+#![tactic(auto)]
+
 ghost use Rattle.std.specs.Prelude.{◌≡◌};
 ghost use Rattle.wire.specs.Output.{Writes};
 ghost use Rattle.capture_settings.specs.Statements.{line};

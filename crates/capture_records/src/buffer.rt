@@ -5,7 +5,7 @@ ghost use Rattle.capture_records.specs.Buffer.{are_places, kept_size, kept_of};
 use wire::kinds::ByteOffset;
 
 // Whether the places that were asked for are there, and how many bytes between them were kept: perhaps none.
-#[derive(Drop)]
+#[derive(Clone, Copy)]
 pub struct Kept {
     pub there: bool,
     pub size: usize,

@@ -9,7 +9,7 @@ use wire::number;
 pub const MOST_RECORDS: u32 = u32::MAX;
 
 // What stands in front.
-#[derive(Drop)]
+#[derive(Clone, Copy)]
 pub enum Front {
     // A whole record of so many bytes, its length with them: the datagram is what follows the length.
     Whole { size: usize },

@@ -1,5 +1,7 @@
 // The capture program: a capture on standard input, its report on standard output. The library says what it means, what
 // a turn over the buffer keeps and when the last one was made; the program reads, turns and prints.
+#![tactic(auto)]
+
 ghost use Rattle.std.specs.Prelude.{◌≡◌, true, ◌<◌, ◌≤◌, length};
 ghost use Rattle.capture_events.specs.Turns.{most_kept};
 ghost use Rattle.capture_text.specs.Text.{room};

@@ -10,7 +10,7 @@ pub(crate) const LINE_FEED: u8 = 10;
 
 // A number of at least 1 up to a line feed: its value, 0 where there is none, and how many bytes it takes with the
 // line feed.
-#[derive(Drop)]
+#[derive(Clone, Copy)]
 pub struct Line {
     pub value: u64,
     pub size: usize,

@@ -9,7 +9,7 @@ use wire::refusal::Refusal;
 use wire::{compare, kinds, parts, refusal};
 
 // The name of the session, the number that it is followed from, and the asking limit.
-#[derive(Drop)]
+#[derive(Clone, Copy)]
 pub struct Settings {
     pub session: [u8; SESSION_SIZE],
     pub next: SequenceNumber,
@@ -17,7 +17,7 @@ pub struct Settings {
 }
 
 // What reading settings gives: 19, or none; the settings; and how many bytes they take.
-#[derive(Drop)]
+#[derive(Clone, Copy)]
 pub struct Opened {
     pub refusal: Refusal,
     pub settings: Settings,

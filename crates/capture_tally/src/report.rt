@@ -8,7 +8,7 @@ use capture_records::records;
 use early_holding::holding::EarlyReceiver;
 use early_receiver::early;
 
-#[derive(Drop)]
+#[derive(Clone, Copy)]
 pub struct Report {
     pub receiver: EarlyReceiver,
     // Records read, the refused among them.

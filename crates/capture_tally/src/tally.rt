@@ -7,7 +7,7 @@ use early_receiver::early::{Answer, Request};
 use wire::counts::sum;
 
 // Messages delivered, and datagrams that are old, quiet, draw a request, or are refused.
-#[derive(Drop)]
+#[derive(Clone, Copy)]
 pub struct Tally {
     pub delivered: u64,
     pub old: u64,

@@ -5,7 +5,7 @@ ghost use Rattle.decimal.specs.Decimal.{appended_words, append_of, AppendedApart
 use wire::kinds;
 
 // What one more byte makes of a number.
-#[derive(Drop)]
+#[derive(Clone, Copy)]
 pub enum Appended {
     Value { value: u64 },
     NoDigit,

@@ -1,5 +1,7 @@
 // The start of the receiver that keeps early messages, which promises order 6's rule and condition 3, and that swapped
 // neighbours do no harm (order 13).
+#![tactic(auto)]
+
 ghost use Rattle.early_receiver.specs.Early.{lent_after};
 ghost use Rattle.early_messages.specs.Delivery.{delivery};
 ghost use Rattle.early_condition_3.specs.Start.{StartsEarly};
@@ -17,7 +19,7 @@ use wire::kinds::{MessageCount, SESSION_SIZE, SequenceNumber};
 use wire::refusal::Refusal;
 
 // The refusal of a start, its number 0 where there is none, and the receiver.
-#[derive(Drop)]
+#[derive(Clone, Copy)]
 pub struct Started {
     pub refusal: Refusal,
     pub receiver: EarlyReceiver,

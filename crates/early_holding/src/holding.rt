@@ -21,14 +21,14 @@ pub const SLOT_BYTES: usize = 64 * SLOT_SIZE;
 pub const LENGTH_BYTES: usize = 64 * COUNT_SIZE;
 
 // The plain receiver, and the numbers that are held: the lowest bit stands for the number after the next.
-#[derive(Drop)]
+#[derive(Clone, Copy)]
 pub struct EarlyReceiver {
     pub base: Receiver,
     pub held: Held,
 }
 
 // The expected number and the held numbers, moved on.
-#[derive(Drop)]
+#[derive(Clone, Copy)]
 pub struct Moved {
     pub next: SequenceNumber,
     pub held: Held,

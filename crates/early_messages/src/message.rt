@@ -15,7 +15,7 @@ use wire::kinds::{ByteOffset, COUNT_SIZE, MessageCount, MessagePlace, SequenceNu
 use wire::number;
 
 // Whether the message is there, whether it lies in the slots, and its offset and length there or in the datagram.
-#[derive(Drop)]
+#[derive(Clone, Copy)]
 pub struct Part {
     pub exists: bool,
     pub held: bool,

@@ -12,7 +12,7 @@ use wire::kinds::{MessageCount, SequenceNumber};
 use wire::number;
 
 // The number of the message to come, how many are left, and the place in the datagram.
-#[derive(Drop)]
+#[derive(Clone, Copy)]
 pub struct Walk {
     pub number: SequenceNumber,
     pub left: MessageCount,

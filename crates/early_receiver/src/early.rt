@@ -26,7 +26,7 @@ use wire::refusal;
 use wire::refusal::Refusal;
 
 // What the receiver answers to a datagram, by the table.
-#[derive(Drop)]
+#[derive(Clone, Copy)]
 pub enum Answer {
     // Messages to deliver: the number of the first, how many, held ones too, and how many of the datagram's are skipped
     // before it.
@@ -44,7 +44,7 @@ pub enum Answer {
 }
 
 // A request to send, beside the answer.
-#[derive(Drop)]
+#[derive(Clone, Copy)]
 pub enum Request {
     Nothing,
     // The first number wanted, and how many.
@@ -55,7 +55,7 @@ pub enum Request {
 }
 
 // The answer to a datagram, the request that it draws, and the receiver to use next.
-#[derive(Drop)]
+#[derive(Clone, Copy)]
 pub struct Taken {
     pub answer: Answer,
     pub request: Request,
@@ -108,7 +108,7 @@ pub fn take_read(
 
 // What a datagram comes to where that can be told without what is lent: whether it can, and then all of it. Where it
 // can't, the receiver as it was.
-#[derive(Drop)]
+#[derive(Clone, Copy)]
 pub struct Settled {
     pub applies: bool,
     pub taken: Taken,

@@ -1,5 +1,7 @@
 // The word of 64 bits that marks the numbers of held messages: what stands at its low end, a bit tested and set, and
 // its low bits dropped. Its lowest bit stands for the number after the expected one.
+#![tactic(auto)]
+
 ghost use Rattle.std.specs.Prelude.{◌≡◌, eqb};
 ghost use Rattle.early_word.specs.Word.{bit, run, lowest, past, marked};
 
@@ -8,7 +10,7 @@ use wire::kinds::{MessageCount, MessagePlace};
 // The bits of a word.
 const BITS: u16 = 64;
 
-#[derive(Drop)]
+#[derive(Clone, Copy)]
 pub struct Held(pub u64);
 
 impl Held {

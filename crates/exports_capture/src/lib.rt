@@ -1,4 +1,6 @@
 // Captures for hosts in other languages. `include/eiderwagon.h` says what each function takes and answers.
+#![tactic(auto)]
+
 ghost use Rattle.std.specs.Prelude.{◌≡◌, [], ◌∷◌, ◌≤◌, length, ltb};
 ghost use Rattle.capture.specs.Reading.{text_of};
 ghost use Rattle.capture.specs.Whole.{capture_text};

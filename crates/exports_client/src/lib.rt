@@ -1,5 +1,7 @@
 // The SoupBinTCP session at the client for hosts in other languages. `include/eiderwagon.h` says what each function
 // takes and answers.
+#![tactic(auto)]
+
 ghost use Rattle.std.specs.Prelude.{[], ◌∷◌};
 ghost use Rattle.host_answers.specs.Answers.{RefusesOnly};
 ghost use Rattle.host_session.specs.Replies.{SessionNumbersApart};

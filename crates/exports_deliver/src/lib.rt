@@ -1,6 +1,8 @@
 // A datagram taken by the receiver and the places of all messages that it delivers, in one call, for hosts in other
 // languages. It has a crate of its own, so that the reader has one caller there and is compiled into it.
 // `include/eiderwagon.h` says what the function takes and answers.
+#![tactic(auto)]
+
 ghost use Rattle.std.specs.Prelude.{◌≡◌, [], ◌∷◌, true, ◌+◌, ◌-◌, ◌*◌, ◌≤◌, length, drop, ltb};
 ghost use Rattle.wire.specs.Bounds.{length_size};
 ghost use Rattle.wire.specs.Output.{put};
@@ -26,7 +28,7 @@ use wire::refusal::Refusal;
 const PLACE_WORDS: usize = 2;
 
 // How much an answer delivers: so many messages, behind so many that are skipped.
-#[derive(Drop)]
+#[derive(Clone, Copy)]
 struct Delivery {
     count: MessageCount,
     skipped: MessagePlace,

@@ -1,5 +1,7 @@
 // The receiver that keeps early messages for hosts in other languages: started, and given datagrams.
 // `include/eiderwagon.h` says what each function takes and answers.
+#![tactic(auto)]
+
 ghost use Rattle.std.specs.Prelude.{◌≡◌, [], ◌∷◌, ◌≤◌, length};
 ghost use Rattle.moldudp64.specs.Downstream.{downstream_of, downstream_words};
 ghost use Rattle.host_answers.specs.Answers.{or_else, RefusesOnly};

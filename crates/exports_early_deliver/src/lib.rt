@@ -1,5 +1,7 @@
 // A datagram taken by the receiver that keeps early messages and the places of all messages that it delivers, in one
 // call, for hosts in other languages. `include/eiderwagon.h` says what the function takes and answers.
+#![tactic(auto)]
+
 ghost use Rattle.std.specs.Prelude.{◌≡◌, [], ◌∷◌, ◌+◌, ◌*◌, ◌≤◌, length, ltb};
 ghost use Rattle.wire.specs.Output.{put};
 ghost use Rattle.early_holding.specs.Holding.{lent};

@@ -1,6 +1,8 @@
 // What a datagram will deliver, before the receiver that keeps early messages takes it: how many messages, each by its
 // place, and all in one walk, for hosts in other languages. `include/eiderwagon.h` says what each function takes and
 // answers.
+#![tactic(auto)]
+
 pub mod walks;
 
 ghost use Rattle.std.specs.Prelude.{◌≡◌, [], ◌∷◌};

@@ -1,5 +1,7 @@
 // What is missing from a capture, for hosts in other languages. `include/eiderwagon.h` says what each function takes
 // and answers.
+#![tactic(auto)]
+
 ghost use Rattle.std.specs.Prelude.{◌≡◌, [], ◌∷◌, ◌≤◌, length};
 ghost use Rattle.host_answers.specs.Answers.{RefusesOnly};
 ghost use Rattle.host_missing.specs.Reading.{reading_in};

@@ -20,7 +20,7 @@ const END_OF_SESSION: u64 = 3;
 const DATAGRAM_WORDS: usize = 3;
 
 // A datagram as a host gets it: its refusal, or its words.
-#[derive(Drop)]
+#[derive(Clone, Copy)]
 struct SaidDatagram {
     refusal: Refusal,
     words: [u64; DATAGRAM_WORDS],

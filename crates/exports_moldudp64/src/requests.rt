@@ -12,7 +12,7 @@ use wire::refusal::Refusal;
 const REQUEST_WORDS: usize = 2;
 
 // A request as a host gets it: its refusal, or its words.
-#[derive(Drop)]
+#[derive(Clone, Copy)]
 struct SaidRequest {
     refusal: Refusal,
     words: [u64; REQUEST_WORDS],

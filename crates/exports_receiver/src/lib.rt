@@ -1,5 +1,7 @@
 // The receiver for hosts in other languages: started, given datagrams, and what it delivers of them.
 // `include/eiderwagon.h` says what each function takes and answers.
+#![tactic(auto)]
+
 ghost use Rattle.std.specs.Prelude.{◌≡◌, [], ◌∷◌, ◌≤◌, length};
 ghost use Rattle.moldudp64.specs.Downstream.{downstream_of, downstream_words};
 ghost use Rattle.receiver.specs.Delivery.{delivery_cursor};

@@ -1,5 +1,7 @@
 // The SoupBinTCP session at the server with its reply, for hosts in other languages. `include/eiderwagon.h` says what
 // the function takes and answers. (A crate of its own: with one caller a step is compiled into it.)
+#![tactic(auto)]
+
 ghost use Rattle.std.specs.Prelude.{[], ◌∷◌};
 ghost use Rattle.login.specs.Table.{accounts_of};
 ghost use Rattle.host_answers.specs.Answers.{RefusesOnly};

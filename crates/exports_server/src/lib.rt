@@ -1,5 +1,7 @@
 // The SoupBinTCP session at the server for hosts in other languages. `include/eiderwagon.h` says what each function
 // takes and answers.
+#![tactic(auto)]
+
 ghost use Rattle.std.specs.Prelude.{[], ◌∷◌};
 ghost use Rattle.login.specs.Table.{accounts_of};
 ghost use Rattle.host_answers.specs.Answers.{RefusesOnly};

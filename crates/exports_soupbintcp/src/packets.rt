@@ -16,7 +16,7 @@ use wire::refusal::Refusal;
 const PACKET_WORDS: usize = 3;
 
 // An answer as a host gets it: its refusal, or its words.
-#[derive(Drop)]
+#[derive(Clone, Copy)]
 struct Said {
     refusal: Refusal,
     words: [u64; PACKET_WORDS],

@@ -1,5 +1,7 @@
 // A branch store for hosts in other languages. `include/eiderwagon.h` says what the function takes and answers.
 // Document 02 has no ground for a session of another size: it is 41 here.
+#![tactic(auto)]
+
 ghost use Rattle.std.specs.Prelude.{[], ◌∷◌, true, ◌≡◌};
 ghost use Rattle.wire.specs.Bounds.{session_size};
 ghost use Rattle.wire.specs.Output.{written_words};

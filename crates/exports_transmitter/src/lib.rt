@@ -1,5 +1,7 @@
 // The transmitter for hosts in other languages: a run of messages cut into packets, asked for by place or one after
 // another. `include/eiderwagon.h` says what each function takes and answers.
+#![tactic(auto)]
+
 ghost use Rattle.std.specs.Prelude.{[], ◌∷◌};
 ghost use Rattle.wire.specs.Bounds.{session_size};
 ghost use Rattle.wire.specs.Parts.{first_bytes};

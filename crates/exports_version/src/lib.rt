@@ -1,4 +1,6 @@
 // The version of the library for hosts in other languages.
+#![tactic(auto)]
+
 ghost use Rattle.std.specs.Prelude.{◌≡◌};
 ghost use Rattle.exports_version.specs.Version.{version};
 

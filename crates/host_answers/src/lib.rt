@@ -1,5 +1,7 @@
 // What every exported function answers with: a code, 0 or the number of a refusal, and values laid into lent words on
 // success alone. 41, for lent memory that is too short, comes behind every other ground.
+#![tactic(auto)]
+
 ghost use Rattle.std.specs.Prelude.{◌≡◌, ◌≤◌, length};
 ghost use Rattle.wire.specs.Output.{put, written_words};
 ghost use Rattle.host_answers.specs.Answers.{or_else, short, unless_sized, flag, padded, AnswersWith};

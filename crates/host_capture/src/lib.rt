@@ -1,5 +1,7 @@
 // A reading of a capture, as a host keeps it. The bytes of its receiver stand in it, and are those of a receiver that
 // keeps early messages: its lengths are lent from there.
+#![tactic(auto)]
+
 ghost use Rattle.std.specs.Prelude.{◌≡◌, ◌≤◌, min, [], ◌∷◌, not, length, ltb};
 ghost use Rattle.wire.specs.Output.{put};
 ghost use Rattle.early_holding.specs.Holding.{early};

@@ -1,4 +1,6 @@
 // The SoupBinTCP session at the client, as a host keeps it.
+#![tactic(auto)]
+
 ghost use Rattle.std.specs.Prelude.{◌≡◌, length, ltb};
 ghost use Rattle.host_answers.specs.Answers.{or_else, short};
 ghost use Rattle.host_states.specs.States.{StatePromises, on_code};

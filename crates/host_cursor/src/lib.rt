@@ -1,4 +1,6 @@
 // A cursor over the messages of a datagram, as a host keeps it.
+#![tactic(auto)]
+
 ghost use Rattle.std.specs.Prelude.{◌≡◌, ◌≤◌, length, ltb};
 ghost use Rattle.moldudp64_messages.specs.Cursor.{cursor};
 ghost use Rattle.host_answers.specs.Answers.{or_else, short};

@@ -30,7 +30,7 @@ pub const ANSWER_WORDS: usize = ROW_WORDS + REQUEST_WORDS;
 const PART_WORDS: usize = 4;
 
 // An answer as a host gets it: its refusal, or its words.
-#[derive(Drop)]
+#[derive(Clone, Copy)]
 pub struct SaidAnswer {
     pub refusal: Refusal,
     pub words: [u64; ROW_WORDS],

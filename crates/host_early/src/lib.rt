@@ -1,6 +1,8 @@
 // A receiver that keeps early messages, as a host keeps it: the lengths of the messages in its slots stand behind its
 // other fields, and are lent from there. What it answers a host is in `answers`, a walk over what a datagram will
 // deliver in `walk`.
+#![tactic(auto)]
+
 pub mod answers;
 pub mod walk;
 

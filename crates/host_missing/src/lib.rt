@@ -1,4 +1,6 @@
 // A reading of what is missing from a capture, as a host keeps it. The words of the edges are lent beside it.
+#![tactic(auto)]
+
 ghost use Rattle.std.specs.Prelude.{◌≡◌, ◌∷◌, ◌≤◌, min, length, ltb};
 ghost use Rattle.wire.specs.Output.{put};
 ghost use Rattle.capture_records.specs.Records.{most_records};

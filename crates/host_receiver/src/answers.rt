@@ -23,7 +23,7 @@ const ENDED: u64 = 5;
 const ANSWER_WORDS: usize = 4;
 
 // An answer as a host gets it: its refusal, or its words.
-#[derive(Drop)]
+#[derive(Clone, Copy)]
 pub struct SaidAnswer {
     pub refusal: Refusal,
     pub words: [u64; ANSWER_WORDS],

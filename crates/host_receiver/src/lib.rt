@@ -1,4 +1,6 @@
 // A receiver, as a host keeps it; what it answers a host is in `answers`.
+#![tactic(auto)]
+
 pub mod answers;
 
 ghost use Rattle.std.specs.Prelude.{◌≡◌, ◌≤◌, length, ltb};

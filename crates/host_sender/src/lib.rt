@@ -1,4 +1,6 @@
 // Who sends a SoupBinTCP stream, as a host says it.
+#![tactic(auto)]
+
 ghost use Rattle.std.specs.Prelude.{◌≡◌};
 ghost use Rattle.host_sender.specs.Sender.{sender_of};
 

@@ -1,4 +1,6 @@
 // The SoupBinTCP session at the server, as a host keeps it.
+#![tactic(auto)]
+
 ghost use Rattle.std.specs.Prelude.{◌≡◌, length, ltb};
 ghost use Rattle.soupbintcp_server.specs.Server.{server};
 ghost use Rattle.host_answers.specs.Answers.{or_else, short};

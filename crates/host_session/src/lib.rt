@@ -1,4 +1,6 @@
 // What the SoupBinTCP sessions of both ends share for hosts: the bytes of a state, and the words of an answer.
+#![tactic(auto)]
+
 pub mod replies;
 
 ghost use Rattle.std.specs.Prelude.{◌≡◌, ◌≤◌, length, ltb};

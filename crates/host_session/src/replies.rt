@@ -31,7 +31,7 @@ const END_OF_SESSION: u64 = 8;
 const ANSWER_WORDS: usize = 5;
 
 // An answer as a host gets it: its refusal, or its words.
-#[derive(Drop)]
+#[derive(Clone, Copy)]
 pub struct SaidAnswer {
     pub refusal: Refusal,
     pub words: [u64; ANSWER_WORDS],

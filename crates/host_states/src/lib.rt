@@ -1,5 +1,7 @@
 // What the states that a host keeps share. A state is bytes of a fixed layout, and any bytes are one. Its first byte is
 // its kind's code while it is open, and another one, 0, once it is closed, ended or refused.
+#![tactic(auto)]
+
 pub mod little;
 
 ghost use Rattle.std.specs.Prelude.{◌≡◌, ltb};

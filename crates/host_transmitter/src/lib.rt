@@ -1,4 +1,6 @@
 // The progress of a transmitter, as a host keeps it.
+#![tactic(auto)]
+
 ghost use Rattle.std.specs.Prelude.{◌≡◌, ◌≤◌, length, ltb};
 ghost use Rattle.transmitter.specs.Turns.{progress};
 ghost use Rattle.host_answers.specs.Answers.{or_else, short};

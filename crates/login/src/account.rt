@@ -6,7 +6,7 @@ use text_fields::letters::lower;
 use text_fields::sound;
 use text_fields::sound::{PASSWORD_SIZE, USERNAME_SIZE};
 
-#[derive(Drop)]
+#[derive(Clone, Copy)]
 pub struct Account {
     pub username: [u8; USERNAME_SIZE],
     pub password: [u8; PASSWORD_SIZE],
@@ -18,7 +18,7 @@ pub const MOST_ACCOUNTS: usize = 1024;
 const SPACE: u8 = b' ';
 
 // What a lookup finds. Whoever made it up, it lets no one in but an entry with this record's username and password.
-#[derive(Drop)]
+#[derive(Clone, Copy)]
 pub struct Found {
     // The record that decides; a blank one, which is of nobody, where there is none.
     pub account: Account,

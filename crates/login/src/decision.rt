@@ -13,7 +13,7 @@ use wire::refusal::Refusal;
 use wire::{compare, kinds, refusal};
 
 // What is decided on a login that was asked for.
-#[derive(Drop)]
+#[derive(Clone, Copy)]
 pub enum Decision {
     // It is accepted; the number is that of the next message to send.
     Accepted { number: SequenceNumber },

@@ -23,14 +23,14 @@ use wire::output::Written;
 use wire::{kinds, refusal};
 
 // How far a capture was read, and what is noted of its session.
-#[derive(Drop)]
+#[derive(Clone, Copy)]
 pub struct Reading {
     pub place: Place,
     pub notes: Notes,
 }
 
 // A reading after some bytes, and how many of them were used.
-#[derive(Drop)]
+#[derive(Clone, Copy)]
 pub struct Fed {
     pub reading: Reading,
     pub used: usize,

@@ -14,7 +14,7 @@ use capture_records::buffer;
 use wire::kinds::ByteOffset;
 
 // How far a capture was read, and how many bytes are kept at the buffer's front.
-#[derive(Drop)]
+#[derive(Clone, Copy)]
 pub struct Turning {
     pub reading: Reading,
     pub have: usize,

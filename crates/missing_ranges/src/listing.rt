@@ -9,7 +9,7 @@ use wire::counts;
 use wire::kinds::SequenceNumber;
 
 // The range at a place, both numbers missing themselves, and whether one is there.
-#[derive(Drop)]
+#[derive(Clone, Copy)]
 pub struct Listed {
     pub exists: bool,
     pub from: SequenceNumber,

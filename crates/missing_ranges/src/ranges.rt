@@ -8,7 +8,7 @@ use crate::edges;
 use wire::kinds::SequenceNumber;
 
 // What is known of a session's numbers. The edges of its missing ranges stand in lent words.
-#[derive(Drop)]
+#[derive(Clone, Copy)]
 pub struct Missing {
     // Nothing is noted: more ranges were needed than are kept or than the lent words hold, or it never started.
     pub refused: bool,
@@ -64,7 +64,7 @@ fn size_after(n: usize, i: usize, j: usize) -> usize
 }
 
 // Where the edges of new numbers stand, how many there are then, and the last.
-#[derive(Drop)]
+#[derive(Clone, Copy)]
 struct Plan {
     i: usize,
     j: usize,

@@ -1,4 +1,6 @@
 // The missing ranges of a session, from datagram to datagram. The edges of the ranges stand in lent words.
+#![tactic(auto)]
+
 ghost use Rattle.std.specs.Prelude.{◌≡◌, take};
 ghost use Rattle.wire.specs.Bounds.{session_size};
 ghost use Rattle.wire.specs.Bytes.{same_bytes};
@@ -11,7 +13,7 @@ use moldudp64::{downstream, header};
 use wire::kinds::{SESSION_SIZE, SequenceNumber};
 
 // What is noted of a session: its name, and its missing ranges.
-#[derive(Drop)]
+#[derive(Clone, Copy)]
 pub struct Notes {
     pub session: [u8; SESSION_SIZE],
     pub missing: Missing,
@@ -19,7 +21,7 @@ pub struct Notes {
 
 // What a datagram says: whether it is read without refusal, and then the first number that it carries and the next one
 // that it states or implies. In one place, so that the numbers are noted by one call.
-#[derive(Drop)]
+#[derive(Clone, Copy)]
 struct Said {
     read: bool,
     first: SequenceNumber,

@@ -1,5 +1,7 @@
 // The checking program: a capture on standard input, what is missing from it on standard output. The library says what
 // that means, what a turn over the buffer keeps and when the last one was made; the program reads, turns and prints.
+#![tactic(auto)]
+
 ghost use Rattle.std.specs.Prelude.{◌≡◌, true, ◌<◌, ◌≤◌, length};
 ghost use Rattle.capture_events.specs.Events.{is_over_at};
 ghost use Rattle.capture_events.specs.Next.{at_of};

@@ -12,7 +12,7 @@ use wire::refusal::Refusal;
 use wire::{compare, refusal};
 
 // What a datagram says.
-#[derive(Drop)]
+#[derive(Clone, Copy)]
 pub enum Downstream {
     // Messages, the first with this number, and how many.
     Data {

@@ -10,7 +10,7 @@ use wire::refusal;
 use wire::refusal::Refusal;
 
 // What a request says.
-#[derive(Drop)]
+#[derive(Clone, Copy)]
 pub enum Request {
     // The first number wanted, and how many.
     Wanted {

@@ -11,7 +11,7 @@ use wire::kinds::{ByteOffset, LENGTH_SIZE, MessageCount, MessagePlace};
 
 // Whether a message is there, with the offset of its first data byte in the datagram and its length. Where none is,
 // both numbers are 0.
-#[derive(Drop)]
+#[derive(Clone, Copy)]
 pub struct Located {
     pub exists: bool,
     pub offset: ByteOffset,
@@ -19,7 +19,7 @@ pub struct Located {
 }
 
 // The place of a block's length field, and how many blocks are left from there on.
-#[derive(Drop)]
+#[derive(Clone, Copy)]
 pub struct Cursor {
     pub at: ByteOffset,
     pub left: MessageCount,

@@ -1,5 +1,7 @@
 // A reader that keeps hold of a lent datagram and of its place there, for display code. Each function takes it apart
 // and calls the cursor's walk.
+#![tactic(auto)]
+
 ghost use Rattle.std.specs.Prelude.{◌≡◌};
 ghost use Rattle.moldudp64_messages.specs.Cursor.{located, advanced, start_of, part};
 ghost use Rattle.receiver.specs.Delivery.{delivery_cursor, DeliveryVisits};
@@ -9,14 +11,14 @@ use moldudp64_messages::cursor::{Cursor, Located};
 use receiver::delivery;
 use wire::kinds::{MessageCount, MessagePlace};
 
-#[derive(Drop)]
+#[derive(Clone, Copy)]
 pub struct Reader<'a> {
     pub cursor: Cursor,
     pub datagram: &'a [u8],
 }
 
 // Where the message is, how many are left from it on, and the place of the next one.
-#[derive(Drop)]
+#[derive(Clone, Copy)]
 pub struct Shown {
     pub located: Located,
     pub left: MessageCount,

@@ -3,7 +3,7 @@ ghost use Rattle.std.specs.Prelude.{◌≡◌, ◌≤◌, min, length};
 ghost use Rattle.moldudp64_writer.specs.Writer.{total, add_up, left_after};
 
 // Whether so many bytes were enough for messages, and what they leave of them.
-#[derive(Drop)]
+#[derive(Clone, Copy)]
 pub struct Left {
     pub enough: bool,
     pub bytes: usize,

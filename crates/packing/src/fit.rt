@@ -5,7 +5,7 @@ ghost use Rattle.packing.specs.Fit.{fitting, PackingPromises};
 use wire::kinds::LENGTH_SIZE;
 
 // How many messages, and the bytes of their data.
-#[derive(Drop)]
+#[derive(Clone, Copy)]
 pub struct Fit {
     pub count: usize,
     pub bytes: usize,

@@ -22,7 +22,7 @@ use wire::{compare, kinds, parts, refusal};
 const LAST_OF_NAME: usize = SESSION_SIZE - 1;
 
 // The number stands in front of the name, so that no padding is copied between them.
-#[derive(Drop)]
+#[derive(Clone, Copy)]
 pub struct Receiver {
     // The number of the next message to deliver.
     pub next: SequenceNumber,
@@ -34,7 +34,7 @@ pub struct Receiver {
 }
 
 // What the receiver answers to a datagram.
-#[derive(Drop)]
+#[derive(Clone, Copy)]
 pub enum Answer {
     // Messages to deliver: the number of the first, how many, and the place of the first in its datagram, which is how
     // many are skipped before it.
@@ -55,14 +55,14 @@ pub enum Answer {
 }
 
 // The answer to a datagram, and the receiver to use next.
-#[derive(Drop)]
+#[derive(Clone, Copy)]
 pub struct Taken {
     pub answer: Answer,
     pub receiver: Receiver,
 }
 
 // The refusal of a start, its number 0 where there is none, and the receiver.
-#[derive(Drop)]
+#[derive(Clone, Copy)]
 pub struct Started {
     pub refusal: Refusal,
     pub receiver: Receiver,

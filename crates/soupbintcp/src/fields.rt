@@ -14,7 +14,7 @@ use wire::kinds::{ByteOffset, LEAST_NUMBER, LENGTH_SIZE, SESSION_SIZE, SequenceN
 use wire::parts;
 
 // What the fields make: a packet, or one of them is bad.
-#[derive(Drop)]
+#[derive(Clone, Copy)]
 pub enum Fields {
     Good { packet: Packet },
     Bad,

@@ -16,7 +16,7 @@ use wire::refusal::Refusal;
 use wire::{parts, refusal};
 
 // What stands at the front of a stream.
-#[derive(Drop)]
+#[derive(Clone, Copy)]
 pub enum Front {
     // A packet, and how many bytes it takes.
     Whole { packet: Packet, size: usize },

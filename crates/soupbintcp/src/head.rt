@@ -9,7 +9,7 @@ use wire::refusal::Refusal;
 use wire::{number, refusal};
 
 // A whole packet of so many bytes, need more, or a refusal.
-#[derive(Drop)]
+#[derive(Clone, Copy)]
 pub enum Head {
     Whole { size: usize },
     NeedMore,

@@ -5,7 +5,7 @@ ghost use Rattle.soupbintcp.specs.Letters.{row, letter_row, sent_in, allowed_in}
 use crate::packet::{ACCEPTED_PAYLOAD, LOGIN_PAYLOAD, MOST_PAYLOAD, REJECTED_PAYLOAD, Sender};
 
 // A row: who sends the letter, and the fewest and most bytes of its payload.
-#[derive(Drop)]
+#[derive(Clone, Copy)]
 pub struct Row {
     pub server: bool,
     pub client: bool,

@@ -7,14 +7,14 @@ use text_fields::sound::{PASSWORD_SIZE, USERNAME_SIZE};
 use wire::kinds::{ByteOffset, LENGTH_SIZE, SESSION_SIZE, SequenceNumber};
 
 // Who sends a stream.
-#[derive(Drop)]
+#[derive(Clone, Copy)]
 pub enum Sender {
     Server,
     Client,
 }
 
 // A packet. Its payload, its session and what else it holds as bytes are had as parts of the stream.
-#[derive(Drop)]
+#[derive(Clone, Copy)]
 pub enum Packet {
     Debug,
     Accepted { number: SequenceNumber },

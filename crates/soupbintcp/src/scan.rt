@@ -12,14 +12,14 @@ use wire::refusal;
 use wire::refusal::Refusal;
 
 // What stopped a scan: too few bytes, or the refusal of the packet there.
-#[derive(Drop)]
+#[derive(Clone, Copy)]
 pub enum Stop {
     NeedMore,
     Refused(Refusal),
 }
 
 // How many good packets a scan passed, their bytes, and what stopped it.
-#[derive(Drop)]
+#[derive(Clone, Copy)]
 pub struct Scanned {
     pub packets: usize,
     pub bytes: usize,

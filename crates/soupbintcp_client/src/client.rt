@@ -20,7 +20,7 @@ use wire::kinds::{ByteOffset, SESSION_SIZE, SequenceNumber};
 use wire::refusal::Refusal;
 use wire::{compare, kinds, parts, refusal};
 
-#[derive(Drop)]
+#[derive(Clone, Copy)]
 pub enum ClientState {
     // A login was asked for.
     Asked,
@@ -29,7 +29,7 @@ pub enum ClientState {
     Closed,
 }
 
-#[derive(Drop)]
+#[derive(Clone, Copy)]
 pub struct Client {
     // Until A comes: the session and number that are asked for, blank for any session and 0 for any number. From A
     // on: the session's name, and the number of the next message.
@@ -39,14 +39,14 @@ pub struct Client {
 }
 
 // The refusal of a start, its number 0 where there is none, and the client.
-#[derive(Drop)]
+#[derive(Clone, Copy)]
 pub struct Started {
     pub refusal: Refusal,
     pub client: Client,
 }
 
 // The answer to the front of a stream, how many bytes it took, and the client to use next.
-#[derive(Drop)]
+#[derive(Clone, Copy)]
 pub struct Stepped {
     pub answer: Answer,
     pub size: usize,

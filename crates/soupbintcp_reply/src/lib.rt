@@ -1,5 +1,7 @@
 // The session at the server with its reply as bytes: a step that writes A, with the server's session and the granted
 // number, or J with its reason.
+#![tactic(auto)]
+
 ghost use Rattle.std.specs.Prelude.{◌≡◌};
 ghost use Rattle.login.specs.Table.{accounts_of};
 ghost use Rattle.soupbintcp_session.specs.declared.answer.Answer.TheVariants.{Refused};
@@ -15,7 +17,7 @@ use wire::refusal::Refusal;
 
 // The answer to the front of a stream, how many bytes it took, how many bytes of the output the reply has, and the
 // server to use next.
-#[derive(Drop)]
+#[derive(Clone, Copy)]
 pub struct Replied {
     pub answer: Answer,
     pub size: usize,

@@ -29,7 +29,7 @@ use wire::kinds::{ByteOffset, SESSION_SIZE, SequenceNumber};
 use wire::refusal::Refusal;
 use wire::{kinds, parts, refusal};
 
-#[derive(Drop)]
+#[derive(Clone, Copy)]
 pub enum ServerState {
     // No login yet.
     Waiting,
@@ -37,7 +37,7 @@ pub enum ServerState {
     Closed,
 }
 
-#[derive(Drop)]
+#[derive(Clone, Copy)]
 pub struct Server {
     pub session: [u8; SESSION_SIZE],
     // The highest message number, 0 if there is none.
@@ -46,7 +46,7 @@ pub struct Server {
 }
 
 // A refusal, its number 0 where there is none, and the server.
-#[derive(Drop)]
+#[derive(Clone, Copy)]
 pub struct Started {
     pub refusal: Refusal,
     pub server: Server,
@@ -54,7 +54,7 @@ pub struct Started {
 
 // The answer to the front of a stream, how many bytes it took, and the server to use next. An accepted login is
 // answered to the client with that server's session and the granted number.
-#[derive(Drop)]
+#[derive(Clone, Copy)]
 pub struct Stepped {
     pub answer: Answer,
     pub size: usize,

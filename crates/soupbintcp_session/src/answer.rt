@@ -6,7 +6,7 @@ use wire::kinds::{ByteOffset, SequenceNumber};
 use wire::parts;
 use wire::refusal::Refusal;
 
-#[derive(Drop)]
+#[derive(Clone, Copy)]
 pub enum Answer {
     NeedMore,
     // A login is accepted, from this number on. The session's name stands in the session that is handed back.

@@ -48,7 +48,7 @@ pub fn write_logout(out: &mut [u8]) -> Written
 }
 
 // What a login request asks with.
-#[derive(Drop)]
+#[derive(Clone, Copy)]
 pub struct Login {
     pub username: [u8; USERNAME_SIZE],
     pub password: [u8; PASSWORD_SIZE],

@@ -9,7 +9,7 @@ use wire::refusal::Refusal;
 use wire::{compare, refusal};
 
 // Which messages are wanted: the first one's number and its place, and how many at most; none where it is refused.
-#[derive(Drop)]
+#[derive(Clone, Copy)]
 pub(crate) struct Asked {
     pub refusal: Refusal,
     pub number: SequenceNumber,

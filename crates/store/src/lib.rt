@@ -1,5 +1,7 @@
 // A branch store that answers re-requests. It is lent: a session, the first message's number, the messages' lengths and
 // their joined data.
+#![tactic(auto)]
+
 mod ask;
 mod pick;
 mod send;

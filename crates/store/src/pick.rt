@@ -8,7 +8,7 @@ use packing::fit::{Fit, most_that_fit};
 
 // Whether the lengths add up to the data, and if so where the data of the messages taken begins, how many they are and
 // how many bytes they have.
-#[derive(Drop)]
+#[derive(Clone, Copy)]
 pub(crate) struct Picked {
     pub whole: bool,
     pub from: usize,

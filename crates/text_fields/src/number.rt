@@ -16,7 +16,7 @@ use wire::output::Written;
 pub const NUMBER_FIELD_SIZE: usize = 20;
 
 // What the bytes of a field so far are: spaces alone, digits after them with their value, or no number.
-#[derive(Drop)]
+#[derive(Clone, Copy)]
 pub enum NumberState {
     Blank,
     Digits { value: u64 },
@@ -24,7 +24,7 @@ pub enum NumberState {
 }
 
 // What a field is.
-#[derive(Drop)]
+#[derive(Clone, Copy)]
 pub enum Number {
     Value { number: SequenceNumber },
     Bad,

@@ -5,7 +5,7 @@ ghost use Rattle.text_fields.specs.Session.{session_step, session_good, good_ses
 use crate::letters;
 
 // What the bytes of a field so far are: spaces alone, a name after them, or no session.
-#[derive(Drop)]
+#[derive(Clone, Copy)]
 pub enum SessionState {
     Blank,
     Named,

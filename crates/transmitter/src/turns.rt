@@ -19,21 +19,21 @@ use wire::refusal::Refusal;
 use wire::{parts, refusal};
 
 // How many messages earlier packets took, and the bytes of their data.
-#[derive(Drop)]
+#[derive(Clone, Copy)]
 pub struct Progress {
     pub messages: usize,
     pub bytes: usize,
 }
 
 // A start that isn't refused begins at the first message.
-#[derive(Drop)]
+#[derive(Clone, Copy)]
 pub struct Started {
     pub refusal: Refusal,
     pub progress: Progress,
 }
 
 // What a turn wrote, and the progress then.
-#[derive(Drop)]
+#[derive(Clone, Copy)]
 pub struct Turn {
     pub written: Written,
     pub progress: Progress,

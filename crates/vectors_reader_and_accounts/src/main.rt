@@ -1,6 +1,8 @@
 // Runs recorded vectors through what no exported function reaches: a reader over a datagram, and the lookup and the
 // server's step over account records. `vector_lines` tells the form of a vector. A caller of a function over a `Reader`
 // or over `&[Account]` needs a proof by hand, so the plain functions are called that go through these.
+#![tactic(auto)]
+
 mod lookups;
 mod shows;
 mod steps;

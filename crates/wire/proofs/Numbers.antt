@@ -65,7 +65,11 @@ number-bytes (suc n) v h a b =
     let g = number-bytes n (v / 256) (omega (arith, pow-suc 256 n)) a (v % 256 ∷ b) in
     let e = get_or-append-add a (bytes n (v / 256) ++ (v % 256 ∷ b)) n 0 in
     let d = get_or_at (bytes n (v / 256)) (v % 256) b 0 n (length-bytes n (v / 256)) in
-    rw (f, g, e, d) (omega arith)
+    let l : a ++ (bytes (suc n) v ++ b) ≡ a ++ (bytes n (v / 256) ++ (v % 256 ∷ b)) =
+        ap (λ (r : List ℕ). a ++ r) f in
+    let high : number (a ++ (bytes (suc n) v ++ b)) (length a) n ≡ v / 256 = rw l g in
+    let low : get_or (a ++ (bytes (suc n) v ++ b)) (length a + n) 0 ≡ v % 256 = rw (l, e) d in
+    rw (high, low) (omega arith)
 
 -- and the bytes of a number that was read are the bytes that it was read from
 pub bytes-number : (n : ℕ) (l : List ℕ) → AreBytes l → n ≤ length l → bytes n (number l 0 n) ≡ take n l

@@ -4,19 +4,19 @@ ghost use Rattle.std.specs.Prelude.{◌≡◌, ◌+◌, ◌-◌, min, ltb, leb, 
 ghost use Rattle.wire.specs.Bounds.{largest_number, largest_count};
 
 // The number of a message in its session, from 1.
-#[derive(Drop)]
+#[derive(Clone, Copy)]
 pub struct SequenceNumber(pub u64);
 
 // How many messages.
-#[derive(Drop)]
+#[derive(Clone, Copy)]
 pub struct MessageCount(pub u16);
 
 // A message's place in its datagram, from 0: how many stand before it.
-#[derive(Drop)]
+#[derive(Clone, Copy)]
 pub struct MessagePlace(pub u16);
 
 // A place in a slice of bytes, from 0.
-#[derive(Drop)]
+#[derive(Clone, Copy)]
 pub struct ByteOffset(pub usize);
 
 // The smallest number that a message has, and that a receiver starts at.

@@ -1,5 +1,7 @@
 // What every crate above shares: the three kinds of number, the refusals by name, big-endian numbers and bytes, read
 // from a lent slice and laid into a lent output.
+#![tactic(auto)]
+
 pub mod compare;
 pub mod counts;
 pub mod kinds;

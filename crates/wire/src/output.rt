@@ -7,7 +7,7 @@ use crate::refusal;
 use crate::refusal::Refusal;
 
 // What a writer answers: how many bytes it wrote, or why it wrote none.
-#[derive(Drop)]
+#[derive(Clone, Copy)]
 pub enum Written {
     Wrote { size: usize },
     Refused(Refusal),

@@ -1,7 +1,7 @@
 // Every refusal of documents 01 and 02, by name, with its ground.
 
 // A refusal is handed up untouched by every caller. It holds its number.
-#[derive(Drop)]
+#[derive(Clone, Copy)]
 pub struct Refusal {
     pub number: u8,
 }

@@ -6,10 +6,10 @@ use Rattle.wire.proofs.Copy.{Copied}
 use Rattle.wire.proofs.output.put_bytes.Statement.{statement}
 use Rattle.wire.proofs.output.put_bytes.Tie as tie
 
-abbrev invariant-loop : tie.invariant-loop
+abbrev invariant-loop : tie.invariant-loop-i
 invariant-loop out₀ src from size i₀ out i = Copied out₀ from src out i
 
-abbrev decreases-loop : tie.decreases-loop
+abbrev decreases-loop : tie.decreases-loop-i
 decreases-loop out₀ src from size i₀ out i = length src - i
 
 pub put_bytes_spec : {M : Type 1} → statement M

@@ -4,10 +4,10 @@ use Rattle.wire.proofs.Rules.{outputs}
 use Rattle.wire.proofs.output.put_number.Statement.{statement}
 use Rattle.wire.proofs.output.put_number.Tie as tie
 
-abbrev invariant-loop : tie.invariant-loop
+abbrev invariant-loop : tie.invariant-loop-left
 invariant-loop out₀ number size from rest₀ left₀ out rest left = Lowering out₀ from size number out left rest
 
-abbrev decreases-loop : tie.decreases-loop
+abbrev decreases-loop : tie.decreases-loop-left
 decreases-loop out₀ number size from rest₀ left₀ out rest left = left
 
 pub put_number_spec : {M : Type 1} → statement M
