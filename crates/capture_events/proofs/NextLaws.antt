@@ -32,12 +32,12 @@ next f s p n = record { event = f; settings = s; place = p; used = n }
 
 -- ---- places
 
-pub place_at : (p : Place) → place_at (at_of p) ≡ p
+pub place_at-at_of : (p : Place) → place_at (at_of p) ≡ p
 unfolding place_at at_of
-place_at Settings = refl
-place_at (Records k) = refl
-place_at Done = refl
-place_at Refused = refl
+place_at-at_of Settings = refl
+place_at-at_of (Records k) = refl
+place_at-at_of Done = refl
+place_at-at_of Refused = refl
 
 pub at_place : (a : At) → at_of (place_at a) ≡ a
 unfolding place_at at_of

@@ -27,9 +27,9 @@ pub record GoesOn (v b : ℕ) : Type 0 where
   pub fits : with_digit v b ≤ largest_number
   pub some : 0 < with_digit v b
 
-pub goes_on : (v b : ℕ) → GoesOn v b → goes_on v b ≡ true
+pub goes_on-so : (v b : ℕ) → GoesOn v b → goes_on v b ≡ true
 unfolding goes_on is_digit
-goes_on v b g =
+goes_on-so v b g =
     let z : with_digit v b ≡ 0 → ⊥ = λ (e : with_digit v b ≡ 0). omega (arith, g.some) in
     simp (le-ltb _ _ g.least, le-leb _ _ g.most, le-leb _ _ g.fits, ne_eqb _ _ z)
 
@@ -58,7 +58,7 @@ line_step v b l n k g e =
     let z : b ≡ 10 → ⊥ = λ (f : b ≡ 10). omega (arith, g.least) in
     let y : k + 1 ≡ 0 → ⊥ = λ (f : k + 1 ≡ 0). omega arith in
     let s : 1 + (k + 1) ≡ suc k + 1 = omega arith in
-    simp (ne_eqb _ _ z, goes_on v b g) (rw (e, ne_eqb _ _ y, s))
+    simp (ne_eqb _ _ z, goes_on-so v b g) (rw (e, ne_eqb _ _ y, s))
 
 line-text : (v : ℕ) (t rest : List ℕ) → 0 < v → are_digits t ≡ true → value_from v t ≤ largest_number
     → line_from v (t ++ (line_feed ∷ rest)) ≡ record { value = value_from v t; size = length t + 1 }

@@ -36,9 +36,9 @@ appended-apart = read_back appended_words (λ w. answered w.which w.values) back
 
 -- ---- one digit
 
-pub is_digit : (b : ℕ) → 48 ≤ b → b ≤ 57 → is_digit b ≡ true
+pub is_digit-within : (b : ℕ) → 48 ≤ b → b ≤ 57 → is_digit b ≡ true
 unfolding is_digit
-is_digit b h g = simp (le-ltb _ _ h, le-leb _ _ g)
+is_digit-within b h g = simp (le-ltb _ _ h, le-leb _ _ g)
 
 pub record Digit (b : ℕ) : Type 0 where
   pub least : 48 ≤ b
@@ -196,7 +196,7 @@ up-digits zero n = are-none
 up-digits (suc f) n = go (ltb n 10) (up-digits f (n / 10))
   where
     last : are_digits ((48 + n % 10) ∷ []) ≡ true
-    last = are-one (48 + n % 10) (is_digit (48 + n % 10) (omega arith) (omega arith))
+    last = are-one (48 + n % 10) (is_digit-within (48 + n % 10) (omega arith) (omega arith))
 
     go : (x : Bool) → are_digits (digits_up_to f (n / 10)) ≡ true → are_digits ((if x then [] else digits_up_to f (n / 10)) ++ ((48 + n % 10) ∷ [])) ≡ true
     go true h = last

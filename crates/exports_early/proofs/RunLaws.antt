@@ -5,7 +5,7 @@ use mathlib.Core.Bool.{Bool, true, false, true≢false}
 use mathlib.Core.Path.{◌≡◌, refl, ap, ap₂, sym, ◌∙◌, subst}
 use native.Mathlib.Omega.{arith}
 use lib.ListN.{length, get_or, take, drop, get_or-append}
-use lib.Seq.{take_all}
+use lib.Seq.{take_all as take_whole}
 use lib.Dec.{eqb}
 use lib.Pow.{pow_pos}
 use borrow.Author.Tests.{lt-ltb, le-ltb, eqb-true, eq-eqb, ne_eqb}
@@ -274,7 +274,7 @@ good name start limit l m s = go (eqb (length name) session_size) refl (first-ze
 
 own_name : (name : List ℕ) → length name ≡ session_size → first_bytes session_size name ≡ name
 unfolding first_bytes
-own_name name ten = rw (le-ltb (length name) session_size (omega arith)) (take_all session_size name (omega arith))
+own_name name ten = rw (le-ltb (length name) session_size (omega arith)) (take_whole session_size name (omega arith))
 
 -- the receiver in a started state's bytes, and condition 3 of it
 module _ {s : Session} {start : ℕ} {m ss : List ℕ} {refused naming : List Datagram} (c : StartCall s start m ss refused naming) where

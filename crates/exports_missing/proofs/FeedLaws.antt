@@ -18,7 +18,7 @@ use Rattle.missing_ranges.specs.Notes.{room}
 use Rattle.missing_capture.specs.declared.reading.Reading.{Reading}
 use Rattle.missing_capture.specs.declared.reading.Fed.{Fed}
 use Rattle.missing_capture.specs.Reading.{start_reading, LentReading, lent_reading, reading_with, notes_in, LentFed, lent_fed, fed_reading, feed_of, finish_of}
-use Rattle.capture_events.proofs.NextLaws.{place_at, at_place}
+use Rattle.capture_events.proofs.NextLaws.{place_at-at_of, at_place}
 use Rattle.host_answers.specs.Answers.{or_else, short, flag, on_success, is_one_of, RefusesOnly, AnswersWith}
 use Rattle.host_answers.proofs.AnswerLaws.{or-first, or-next, or-none, no-success}
 use Rattle.host_answers.proofs.OnlyLaws.{only_ending}
@@ -68,7 +68,7 @@ feed-stays x l b =
     let n = both-none (not (eqb (read_piece a l).used 0)) _ b in
     let e = eqb-true _ _ (not-false (eqb (read_piece a l).used 0) n.0) in
     let o : is_over_at (read_piece a l).at ≡ false = ap is_over_at (sym (at_place (read_piece a l).at)) ∙ n.1 in
-    rw (piece-stays a l e o) (ap (λ (p : Place). reading_with p (notes_in x)) (place_at x.reading.place))
+    rw (piece-stays a l e o) (ap (λ (p : Place). reading_with p (notes_in x)) (place_at-at_of x.reading.place))
 
 on_none : (code : ℕ) (f : Fed) → moves f ≡ false → on_feed code f ≡ false
 unfolding on_feed

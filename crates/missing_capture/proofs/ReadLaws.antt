@@ -24,7 +24,7 @@ use Rattle.capture_events.specs.declared.place.Next.{Next}
 use Rattle.capture_events.specs.Events.{Event, opened, bad_settings, datagram, cut_short, fold, At, settings, records, done, refused, read_on, waits_at, read_piece, end_at, read_last}
 use Rattle.capture_events.specs.Next.{at_of, place_at, next_of, is_found, events_in, read_by, is_none, EndsAt}
 use Rattle.capture_events.proofs.EventLaws.{fold-joins}
-use Rattle.capture_events.proofs.NextLaws.{place_at, at_place, Going, going_start, going-within, going_next, going_less, going-folded, going-at, going-used}
+use Rattle.capture_events.proofs.NextLaws.{place_at-at_of, at_place, Going, going_start, going-within, going_next, going_less, going-folded, going-at, going-used}
 use Rattle.missing_records.specs.declared.Notes.{Notes}
 use Rattle.missing_ranges.specs.Notes.{lent, start_in}
 use Rattle.missing_records.specs.Records.{LentNotes, lent_notes, start_notes, take_of}
@@ -144,7 +144,7 @@ module _ {x₀ : LentNotes} {p₀ : Place} {l₀ : List ℕ} {x : Notes} {es : L
           let d = going-folded noted_by x₀ (at_of p₀) l₀ (lent_notes x es) (at_of p) l g.going (read_by n l) r z in
           let a = going-at noted_by x₀ (at_of p₀) l₀ (lent_notes x es) (at_of p) l g.going (read_by n l) r z in
           let u = going-used noted_by x₀ (at_of p₀) l₀ (lent_notes x es) (at_of p) l g.going (read_by n l) r z in
-          let q : n.place ≡ place_at (read_on (at_of p₀) l₀).at = sym (place_at n.place) ∙ ap place_at a in
+          let q : n.place ≡ place_at (read_on (at_of p₀) l₀).at = sym (place_at-at_of n.place) ∙ ap place_at a in
           ap (λ (y : LentNotes). lent_fed (fed (reading n.place y.notes) (length l₀ - length l + n.used)) y.edges) d
           ∙ rw (q, u)
 
@@ -153,7 +153,7 @@ module _ {x₀ : LentNotes} {p₀ : Place} {l₀ : List ℕ} {x : Notes} {es : L
 module _ (s : Reading) (es l : List ℕ) (w : Bool) (e : w ≡ waits_at (at_of s.place) (length l)) where
   pub feed-waits : w ≡ true → lent_fed (fed s 0) es ≡ feed_of (lent_reading s es) l
   unfolding feed_of read_piece fold
-  feed-waits h = rw (← e, h) (ap (λ (p : Place). lent_fed (fed (reading p s.notes) 0) es) (sym (place_at s.place)))
+  feed-waits h = rw (← e, h) (ap (λ (p : Place). lent_fed (fed (reading p s.notes) 0) es) (sym (place_at-at_of s.place)))
 
   pub feed-advances : (f : Fed) (m : List ℕ) → w ≡ false → lent_fed f m ≡ fed_by (lent_notes s.notes es) (read_on (at_of s.place) l)
       → lent_fed f m ≡ feed_of (lent_reading s es) l
@@ -180,7 +180,7 @@ finish-so s es m l f p e h =
     let q : f.reading.place ≡ place_at r.at = ap (λ (g : LentFed). g.fed.reading.place) e in
     let a : at_of f.reading.place ≡ r.at = ap at_of q ∙ at_place r.at in
     let b : p ≡ place_at (end_at r.at n).at =
-    sym (place_at p) ∙ ap place_at (h n ∙ ap (λ (c : At). (end_at c n).at) a) in
+    sym (place_at-at_of p) ∙ ap place_at (h n ∙ ap (λ (c : At). (end_at c n).at) a) in
     let d : lent_notes f.reading.notes m ≡ y = ap (λ (g : LentFed). lent_notes g.fed.reading.notes g.edges) e in
     ap (λ (v : LentNotes). lent_reading (reading p v.notes) v.edges) (d ∙ sym z) ∙ rw b
 

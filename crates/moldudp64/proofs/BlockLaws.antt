@@ -13,9 +13,9 @@ use Rattle.wire.specs.Bytes.{number}
 use Rattle.wire.proofs.Numbers.{part_to_end}
 use Rattle.moldudp64.specs.Blocks.{block_length, block_size, fits, after_block, all_fit, after_blocks, messages, blocks_refusal}
 
-pub block_size : (l : List ℕ) (r : ℕ) → r ≡ number l 0 2 → r + 2 ≡ block_size l
+pub block_size-fits : (l : List ℕ) (r : ℕ) → r ≡ number l 0 2 → r + 2 ≡ block_size l
 unfolding block_length
-block_size l r e = ap (λ (k : ℕ). k + 2) e
+block_size-fits l r e = ap (λ (k : ℕ). k + 2) e
 
 pub fits-so : (l : List ℕ) → block_size l ≤ length l → fits l ≡ true
 unfolding fits

@@ -3,13 +3,13 @@ use borrow.Author.Rules.{rules}
 use mathlib.Core.Path.{refl}
 use Rattle.wire.proofs.TestLaws.{tests}
 use Rattle.moldudp64.proofs.HeaderLaws.{sequence-read, count-read}
-use Rattle.moldudp64.proofs.BlockLaws.{block_size, walk_step, walk-short, walk-stub, walk-all, walk_more}
+use Rattle.moldudp64.proofs.BlockLaws.{block_size-fits, walk_step, walk-short, walk-stub, walk-all, walk_more}
 use Rattle.moldudp64.proofs.DownstreamLaws.{none-follow, all-follow, refusal-13, refusal-14, refusal-walk, read-refused, read-11, read-12, read-heartbeat, read-end, read-data, tells_apart, in-data, in-heartbeat, in_end, in-refused, refusal-found, sound-length, sound-ten, session-refused, session-read, session-ten}
 use Rattle.moldudp64.proofs.RequestLaws.{ground-13, ground-none, ground-end, ground-good, refusal-47, refusal-ground, request-ten, request-refused, request-wanted, request-tells-apart, request-no-session, session_of_request}
 
 pub ruleset headers = (sequence-read, count-read, rules)
 
-pub ruleset blocks = (block_size, walk_step, walk-short, walk-stub, walk-all, walk_more, refl, tests, rules)
+pub ruleset blocks = (block_size-fits, walk_step, walk-short, walk-stub, walk-all, walk_more, refl, tests, rules)
 
 pub ruleset downstreams = (none-follow, all-follow, refusal-13, refusal-14, refusal-walk, read-refused, read-11, read-12, read-heartbeat, read-end, read-data, tells_apart, in-data, in-heartbeat, in_end, in-refused, refusal-found, sound-length, sound-ten, session-refused, session-read, session-ten, tests, rules)
 

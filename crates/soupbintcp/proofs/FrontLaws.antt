@@ -114,16 +114,16 @@ packet-back Unsequenced = refl
 packet-back ClientHeartbeat = refl
 packet-back Logout = refl
 
-front_of : Case FrontKind → ℕ → List ℕ → Front
-front_of (answer (packet k)) r vs = Whole (packet-of k (get_or vs 1 0)) (get_or vs 0 0)
-front_of (answer wants_more) r vs = NeedMore
-front_of refused r vs = Refused (record { number = r })
+made_front : Case FrontKind → ℕ → List ℕ → Front
+made_front (answer (packet k)) r vs = Whole (packet-of k (get_or vs 1 0)) (get_or vs 0 0)
+made_front (answer wants_more) r vs = NeedMore
+made_front refused r vs = Refused (record { number = r })
 
 pub front-tells-apart : Injective front_words
-unfolding front_words front_of
-front-tells-apart = read_back front_words (λ w. front_of w.which w.refusal w.values) back
+unfolding front_words made_front
+front-tells-apart = read_back front_words (λ w. made_front w.which w.refusal w.values) back
   where
-    back : (x : Front) → front_of (front_words x).which (front_words x).refusal (front_words x).values ≡ x
+    back : (x : Front) → made_front (front_words x).which (front_words x).refusal (front_words x).values ≡ x
     back (Whole p k) = ap (λ (q : Packet). Whole q k) (packet-back p)
     back NeedMore = refl
     back (Refused r) = refl

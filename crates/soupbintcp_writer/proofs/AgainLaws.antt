@@ -36,9 +36,9 @@ use Rattle.soupbintcp_writer.specs.RoundTrips.{WithPayload, LetterAlone, EveryPa
 
 -- ---- the packet is written of its letter and what stands behind the head
 
-head_bytes : (l : List ℕ) → AreBytes l → 2 ≤ length l → bytes 2 (packet_length l) ≡ take 2 l
+head_bytes-read : (l : List ℕ) → AreBytes l → 2 ≤ length l → bytes 2 (packet_length l) ≡ take 2 l
 unfolding packet_length
-head_bytes l small h = bytes-number 2 l small h
+head_bytes-read l small h = bytes-number 2 l small h
 
 head_three : (l : List ℕ) (c : ℕ) → 3 ≤ length l → letter_of l ≡ c → take 2 l ++ (c ∷ []) ≡ take 3 l
 unfolding letter_of
@@ -57,7 +57,7 @@ module _ (s : Sender) (l : List ℕ) (k : PacketKind) (size : ℕ) (vs : List �
       let z = o.size in
       let t : length (take size l) ≡ size = length-take-le size l b in
       let n : length (drop 3 (take size l)) + 1 ≡ packet_length l = omega (arith, length-drop 3 (take size l)) in
-      let f : bytes 2 (packet_length l) ≡ take 2 l = head_bytes l small (omega arith) in
+      let f : bytes 2 (packet_length l) ≡ take 2 l = head_bytes-read l small (omega arith) in
       let g : take 2 l ++ (letter_for k ∷ []) ≡ take 3 l = head_three l (letter_for k) (omega arith) (its-letter s l k size vs e) in
       let h : take 3 l ≡ take 3 (take size l) = sym (take-take 3 size l (omega arith)) in
       rw (n, f, g, h) (take-append-drop 3 (take size l))

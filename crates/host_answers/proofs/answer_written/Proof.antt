@@ -13,7 +13,6 @@ answer_written_spec =
     (λ c. search answers)  -- answer-requires
     (λ c. search answers)  -- enum-known-written-2
     (λ c. search answers)  -- or-short-requires-2
-    (λ c. search answers)  -- slice-aggregate-answer-2
     (λ c. search answers)  -- answer-requires-2
     (λ c. search answers)  -- same-length
     (λ c. search answers)  -- returns

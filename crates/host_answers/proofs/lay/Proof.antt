@@ -6,10 +6,10 @@ use Rattle.host_answers.proofs.Rules.{layings}
 use Rattle.host_answers.proofs.lay.Statement.{statement}
 use Rattle.host_answers.proofs.lay.Tie as tie
 
-abbrev invariant-loop : tie.invariant-loop
+abbrev invariant-loop : tie.invariant-loop-i
 invariant-loop words₀ values i₀ words i = Copied words₀ 0 values words i
 
-abbrev decreases-loop : tie.decreases-loop
+abbrev decreases-loop : tie.decreases-loop-i
 decreases-loop words₀ values i₀ words i = length values - i
 
 pub lay_spec : {M : Type 1} → statement M

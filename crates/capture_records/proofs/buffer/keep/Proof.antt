@@ -5,10 +5,10 @@ use Rattle.capture_records.proofs.Rules.{buffers}
 use Rattle.capture_records.proofs.buffer.keep.Statement.{statement}
 use Rattle.capture_records.proofs.buffer.keep.Tie as tie
 
-abbrev invariant-loop : tie.invariant-loop
+abbrev invariant-loop : tie.invariant-loop-i
 invariant-loop buf₀ first end size i₀ buf i = Kept buf₀ first size buf i
 
-abbrev decreases-loop : tie.decreases-loop
+abbrev decreases-loop : tie.decreases-loop-i
 decreases-loop buf₀ first end size i₀ buf i = size - i
 
 pub keep_spec : {M : Type 1} → statement M

@@ -5,10 +5,10 @@ use Rattle.missing_ranges.proofs.Rules.{places}
 use Rattle.missing_ranges.proofs.edges.place_past.Statement.{statement}
 use Rattle.missing_ranges.proofs.edges.place_past.Tie as tie
 
-abbrev invariant-loop : tie.invariant-loop
+abbrev invariant-loop : tie.invariant-loop-low
 invariant-loop edges n e low₀ high₀ low high = Halving e edges n low high
 
-abbrev decreases-loop : tie.decreases-loop
+abbrev decreases-loop : tie.decreases-loop-low
 decreases-loop edges n e low₀ high₀ low high = high - low
 
 pub place_past_spec : {M : Type 1} → statement M

@@ -5,10 +5,10 @@ use Rattle.missing_ranges.proofs.Rules.{totals}
 use Rattle.missing_ranges.proofs.listing.total_of.Statement.{statement}
 use Rattle.missing_ranges.proofs.listing.total_of.Tie as tie
 
-abbrev invariant-loop : tie.invariant-loop
+abbrev invariant-loop : tie.invariant-loop-rest
 invariant-loop edges top rest₀ n₀ rest n = Counting top edges n rest
 
-abbrev decreases-loop : tie.decreases-loop
+abbrev decreases-loop : tie.decreases-loop-rest
 decreases-loop edges top rest₀ n₀ rest n = length rest
 
 pub total_of_spec : {M : Type 1} → statement M

@@ -5,10 +5,10 @@ use Rattle.moldudp64.proofs.Rules.{blocks}
 use Rattle.moldudp64.proofs.blocks.walk.Statement.{statement}
 use Rattle.moldudp64.proofs.blocks.walk.Tie as tie
 
-abbrev invariant-loop : tie.invariant-loop
+abbrev invariant-loop : tie.invariant-loop-left
 invariant-loop blocks rest₀ left₀ rest left = blocks_refusal left.0 rest ≡ blocks_refusal left₀.0 blocks
 
-abbrev decreases-loop : tie.decreases-loop
+abbrev decreases-loop : tie.decreases-loop-left
 decreases-loop blocks rest₀ left₀ rest left = left.0
 
 pub walk_spec : {M : Type 1} → statement M

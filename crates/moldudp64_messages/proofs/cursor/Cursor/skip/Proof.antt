@@ -5,11 +5,11 @@ use Rattle.moldudp64_messages.proofs.Rules.{skipping}
 use Rattle.moldudp64_messages.proofs.cursor.Cursor.skip.Statement.{statement}
 use Rattle.moldudp64_messages.proofs.cursor.Cursor.skip.Tie as tie
 
-abbrev invariant-loop : tie.invariant-loop
+abbrev invariant-loop : tie.invariant-loop-moves
 invariant-loop datagram at rest₀ left₀ moves₀ rest left moves =
     Skipping datagram (advanced_by moves₀.0 datagram (cursor at left₀.0)) rest left.0 moves.0
 
-abbrev decreases-loop : tie.decreases-loop
+abbrev decreases-loop : tie.decreases-loop-moves
 decreases-loop datagram at rest₀ left₀ moves₀ rest left moves = moves.0
 
 pub skip_spec : {M : Type 1} → statement M
