@@ -7,10 +7,10 @@ use Rattle.capture_settings.proofs.Rules.{parts}
 use Rattle.capture_settings.proofs.lines.is_printable.Statement.{statement}
 use Rattle.capture_settings.proofs.lines.is_printable.Tie as tie
 
-abbrev invariant-loop : tie.invariant-loop
+abbrev invariant-loop : tie.invariant-loop-i
 invariant-loop s i₀ i = is_printable (drop i s) ≡ is_printable s
 
-abbrev decreases-loop : tie.decreases-loop
+abbrev decreases-loop : tie.decreases-loop-i
 decreases-loop s i₀ i = length s - i
 
 pub is_printable_spec : {M : Type 1} → statement M

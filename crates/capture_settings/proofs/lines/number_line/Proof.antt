@@ -7,10 +7,10 @@ use Rattle.capture_settings.proofs.Rules.{parts}
 use Rattle.capture_settings.proofs.lines.number_line.Statement.{statement}
 use Rattle.capture_settings.proofs.lines.number_line.Tie as tie
 
-abbrev invariant-loop : tie.invariant-loop
+abbrev invariant-loop : tie.invariant-loop-i
 invariant-loop s value₀ i₀ value i = further i (line_from value (drop i s)) ≡ line_of s
 
-abbrev decreases-loop : tie.decreases-loop
+abbrev decreases-loop : tie.decreases-loop-i
 decreases-loop s value₀ i₀ value i = length s - i
 
 pub number_line_spec : {M : Type 1} → statement M

@@ -8,10 +8,10 @@ use Rattle.capture_settings.proofs.Rules.{parts}
 use Rattle.capture_settings.proofs.lines.past.Statement.{statement}
 use Rattle.capture_settings.proofs.lines.past.Tie as tie
 
-abbrev invariant-loop : tie.invariant-loop
+abbrev invariant-loop : tie.invariant-loop-i
 invariant-loop s text i₀ i = (i ≤ length s) × (past_of (drop i text) (drop i s) ≡ past_of text s)
 
-abbrev decreases-loop : tie.decreases-loop
+abbrev decreases-loop : tie.decreases-loop-i
 decreases-loop s text i₀ i = length text - i
 
 pub past_spec : {M : Type 1} → statement M

@@ -7,13 +7,11 @@ pub numbers_spec : {M : Type 1} → statement M
 numbers_spec =
     tie.close
     (tie.spec
-    (λ c. search opening)  -- slice-aggregate-past
     (λ c κs. search opening)  -- past-requires
     (λ c κs. search opening)  -- number-line-requires
     (λ c. search opening)  -- sub-past
     (λ c. search opening)  -- part-past-start
     (λ c. search opening)  -- part-past-end
-    (λ c. search opening)  -- slice-aggregate-past-2
     (λ c κs. search opening)  -- past-requires-2
     (λ c κs. search opening)  -- number-line-requires-2
     (λ c κs. search opening)  -- refused-requires

@@ -7,7 +7,6 @@ pub read_spec : {M : Type 1} → statement M
 read_spec =
     tie.close
     (tie.spec
-    (λ c. search opening)  -- slice-aggregate-past
     (λ c κs. search opening)  -- past-requires
     (λ c κs. search opening)  -- refused-requires
     (λ c. search opening)  -- returns

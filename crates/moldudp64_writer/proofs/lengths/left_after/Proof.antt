@@ -7,10 +7,10 @@ use Rattle.moldudp64_writer.proofs.Rules.{lengths}
 use Rattle.moldudp64_writer.proofs.lengths.left_after.Statement.{statement}
 use Rattle.moldudp64_writer.proofs.lengths.left_after.Tie as tie
 
-abbrev invariant-loop : tie.invariant-loop
+abbrev invariant-loop : tie.invariant-loop-rest
 invariant-loop lengths bytes rest₀ left₀ rest left = bytes + total rest ≡ left + total lengths
 
-abbrev decreases-loop : tie.decreases-loop
+abbrev decreases-loop : tie.decreases-loop-rest
 decreases-loop lengths bytes rest₀ left₀ rest left = length rest
 
 pub left_after_spec : {M : Type 1} → statement M

@@ -9,10 +9,10 @@ use Rattle.text_fields.proofs.Rules.{numbers}
 use Rattle.text_fields.proofs.number.read.Statement.{statement}
 use Rattle.text_fields.proofs.number.read.Tie as tie
 
-abbrev invariant-loop : tie.invariant-loop
+abbrev invariant-loop : tie.invariant-loop-i
 invariant-loop field least state₀ i₀ state i = number_from state (drop i field) ≡ number_from Blank field
 
-abbrev decreases-loop : tie.decreases-loop
+abbrev decreases-loop : tie.decreases-loop-i
 decreases-loop field least state₀ i₀ state i = length field - i
 
 pub read_spec : {M : Type 1} → statement M

@@ -9,10 +9,10 @@ use Rattle.text_fields.proofs.Rules.{sessions}
 use Rattle.text_fields.proofs.session.is_session.Statement.{statement}
 use Rattle.text_fields.proofs.session.is_session.Tie as tie
 
-abbrev invariant-loop : tie.invariant-loop
+abbrev invariant-loop : tie.invariant-loop-i
 invariant-loop field blank state₀ i₀ state i = session_from state (drop i field) ≡ session_from Blank field
 
-abbrev decreases-loop : tie.decreases-loop
+abbrev decreases-loop : tie.decreases-loop-i
 decreases-loop field blank state₀ i₀ state i = length field - i
 
 pub is_session_spec : {M : Type 1} → statement M

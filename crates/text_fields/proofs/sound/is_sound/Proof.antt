@@ -6,10 +6,10 @@ use Rattle.text_fields.proofs.Rules.{logins}
 use Rattle.text_fields.proofs.sound.is_sound.Statement.{statement}
 use Rattle.text_fields.proofs.sound.is_sound.Tie as tie
 
-abbrev invariant-loop : tie.invariant-loop
+abbrev invariant-loop : tie.invariant-loop-i
 invariant-loop field least size₀ in-word₀ good₀ i₀ size in-word good i = Passed field size in-word good i
 
-abbrev decreases-loop : tie.decreases-loop
+abbrev decreases-loop : tie.decreases-loop-i
 decreases-loop field least size₀ in-word₀ good₀ i₀ size in-word good i = length field - i
 
 pub is_sound_spec : {M : Type 1} → statement M
