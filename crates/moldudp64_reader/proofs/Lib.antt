@@ -1,5 +1,1 @@
-pub mod HandedOn
-pub mod Held
-pub mod Promises
 pub mod ReaderLaws
-pub mod Walks
