@@ -6,10 +6,10 @@ use Rattle.early_holding.proofs.Rules.{eights}
 use Rattle.early_holding.proofs.holding.copy_by_eight.Statement.{statement}
 use Rattle.early_holding.proofs.holding.copy_by_eight.Tie as tie
 
-abbrev invariant-loop : tie.invariant-loop
+abbrev invariant-loop : tie.invariant-loop-i
 invariant-loop out₀ at src i₀ out i = Copied out₀ at src out i
 
-abbrev decreases-loop : tie.decreases-loop
+abbrev decreases-loop : tie.decreases-loop-i
 decreases-loop out₀ at src i₀ out i = length src - i
 
 pub copy_by_eight_spec : {M : Type 1} → statement M

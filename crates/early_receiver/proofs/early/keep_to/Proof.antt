@@ -8,12 +8,12 @@ use Rattle.early_receiver.proofs.Rules.{keeping}
 use Rattle.early_receiver.proofs.early.keep_to.Statement.{statement}
 use Rattle.early_receiver.proofs.early.keep_to.Tie as tie
 
-abbrev invariant-loop : tie.invariant-loop
+abbrev invariant-loop : tie.invariant-loop-end
 invariant-loop end lengths₀ slots₀ datagram base held₀ number₀ cursor₀ lengths slots held number cursor =
     Keeping (take_all (lent (early base held₀.0) lengths₀ slots₀) number₀.0 (messages_read datagram (end.0 - number₀.0))) datagram end.0
     (length lengths₀) (length slots₀) (early base held.0) lengths slots cursor number.0
 
-abbrev decreases-loop : tie.decreases-loop
+abbrev decreases-loop : tie.decreases-loop-end
 decreases-loop end lengths₀ slots₀ datagram base held₀ number₀ cursor₀ lengths slots held number cursor = end.0 - number.0
 
 pub keep_to_spec : {M : Type 1} → statement M

@@ -4,10 +4,10 @@ use Rattle.transmitter.proofs.WalkLaws.{Walking}
 use Rattle.transmitter.proofs.place.reach.Statement.{statement}
 use Rattle.transmitter.proofs.place.reach.Tie as tie
 
-abbrev invariant-loop : tie.invariant-loop
+abbrev invariant-loop : tie.invariant-loop-left
 invariant-loop lengths room place at₀ left₀ at left = Walking room lengths place at left
 
-abbrev decreases-loop : tie.decreases-loop
+abbrev decreases-loop : tie.decreases-loop-left
 decreases-loop lengths room place at₀ left₀ at left = left
 
 pub reach_spec : {M : Type 1} → statement M
