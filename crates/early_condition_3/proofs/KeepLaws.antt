@@ -16,7 +16,7 @@ use Rattle.feed.specs.Session.{Message}
 use Rattle.feed.specs.Machine.{after}
 use Rattle.early_word.proofs.WordLaws.{bit-marked, marked-lt}
 use Rattle.early_holding.specs.declared.holding.EarlyReceiver.{EarlyReceiver}
-use Rattle.early_holding.specs.Holding.{Lent, next_of, at, slot_at, length_at, is_held, length_of, held_message, keeps, keep, keep_one, take_one, take_all}
+use Rattle.early_holding.specs.Holding.{Lent, next_of, slot_at, length_at, is_held, length_of, held_message, keeps, keep, keep_one, take_one, take_all}
 use Rattle.early_holding.proofs.HoldingLaws.{either, keepable}
 use Rattle.early_receiver.proofs.ByteLaws.{length-own, length-other}
 use Rattle.early_condition_3.specs.Rule.{Sound}

@@ -23,7 +23,7 @@ use Rattle.early_holding.specs.declared.holding.EarlyReceiver.{EarlyReceiver}
 use Rattle.early_holding.specs.declared.holding.Moved.{Moved}
 use Rattle.early_holding.specs.Holding.{Lent, lent, early, next_of, at, move_to}
 use Rattle.early_receiver.specs.declared.early.Answer.{Answer}
-use Rattle.early_receiver.specs.declared.early.Answer.TheVariants.{Deliver, Old, Quiet, Ended, Refused}
+use Rattle.early_receiver.specs.declared.early.Answer.TheVariants.{Old, Quiet, Ended, Refused}
 use Rattle.early_receiver.specs.declared.early.Taken.{Taken}
 use Rattle.early_receiver.specs.Answers.{early_words, request_words}
 use Rattle.early_receiver.specs.Early.{named_lent, ended_now, end_at, wanted, answer_by}

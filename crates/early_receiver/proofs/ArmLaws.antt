@@ -2,7 +2,7 @@
 use mathlib.Core.Path.{◌≡◌, refl, ap, ◌∙◌}
 use mathlib.Core.List.{List}
 use mathlib.Core.Bool.{Bool, true, false}
-use Prim.Native.Nat.{ℕ, ◌+◌, ◌-◌, ◌≤◌, ◌<◌}
+use Prim.Native.Nat.{ℕ, ◌+◌, ◌≤◌, ◌<◌}
 use native.Mathlib.Omega.{arith}
 use lib.Dec.{ltb, eqb}
 use borrow.Author.Tests.{eqb-false, ltb-false}
@@ -20,7 +20,6 @@ use Rattle.receiver.specs.Receiver.{end_below, own_refusal, number_read, count_r
 use Rattle.receiver.proofs.Promises.{rows, own-none}
 use Rattle.early_holding.specs.Holding.{Lent, next_of}
 use Rattle.early_holding.proofs.HoldingLaws.{either}
-use Rattle.early_receiver.specs.declared.early.Answer.TheVariants.{Refused}
 use Rattle.early_receiver.specs.Read.{messages_read, take_read_at}
 use Rattle.early_receiver.proofs.KeepingLaws.{all_old, length_from}
 

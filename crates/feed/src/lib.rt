@@ -2,4 +2,3 @@
 // of, and what a receiver delivers over a list of them. There is nothing to run here: `specs/Faithful.antt` is the
 // statement, and the laws are those of any receiver.
 #![tactic(auto)]
-

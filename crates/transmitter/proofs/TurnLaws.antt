@@ -27,7 +27,7 @@ use Rattle.packing.proofs.FitLaws.{is_most}
 use Rattle.packing.proofs.GroupLaws.{handed-on, size-good}
 use Rattle.transmitter.specs.declared.turns.Progress.{Progress}
 use Rattle.transmitter.specs.Transmitter.{run_ground}
-use Rattle.transmitter.specs.Turns.{progress, beginning, start_of_run, next_lengths, next_data, next_ground, next_bytes, is_written, progress_after, after_turns, packets_written, IsAtPlace, TurnsGoByPlace}
+use Rattle.transmitter.specs.Turns.{beginning, start_of_run, next_lengths, next_data, next_ground, next_bytes, is_written, progress_after, after_turns, packets_written, IsAtPlace, TurnsGoByPlace}
 use Rattle.transmitter.specs.Walk.{past, moved, Turns}
 use Rattle.transmitter.proofs.RunLaws.{good}
 use Rattle.transmitter.proofs.GroundLaws.{its-count, its-data, next-19}

@@ -1,6 +1,6 @@
 -- A run of messages cut into the groups that packets hold: ms are the messages, in order, and room is what a packet's
 -- size leaves for blocks.
-use Rattle.std.specs.Prelude.{ℕ, zero, suc, ◌+◌, ◌≤◌, ◌<◌, List, [], ◌∷◌, ◌++◌, ◌≡◌, length, get_or, take, drop}
+use Rattle.std.specs.Prelude.{ℕ, zero, suc, ◌≤◌, ◌<◌, List, [], ◌∷◌, ◌++◌, ◌≡◌, length, get_or, take, drop}
 use Rattle.moldudp64.specs.Blocks.{blocks_of}
 use Rattle.moldudp64_writer.specs.Writer.{lengths_of}
 use Rattle.packing.specs.Fit.{most_that_fit, Most}

@@ -66,7 +66,7 @@ number-bytes (suc n) v h a b =
     let e = get_or-append-add a (bytes n (v / 256) ++ (v % 256 ∷ b)) n 0 in
     let d = get_or_at (bytes n (v / 256)) (v % 256) b 0 n (length-bytes n (v / 256)) in
     let l : a ++ (bytes (suc n) v ++ b) ≡ a ++ (bytes n (v / 256) ++ (v % 256 ∷ b)) =
-        ap (λ (r : List ℕ). a ++ r) f in
+    ap (λ (r : List ℕ). a ++ r) f in
     let high : number (a ++ (bytes (suc n) v ++ b)) (length a) n ≡ v / 256 = rw l g in
     let low : get_or (a ++ (bytes (suc n) v ++ b)) (length a + n) 0 ≡ v % 256 = rw (l, e) d in
     rw (high, low) (omega arith)

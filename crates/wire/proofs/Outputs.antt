@@ -12,7 +12,7 @@ use borrow.Author.Tests.{le-leb, lt-leb, leb-true, leb-false, eq-eqb, ne_eqb, eq
 use Rattle.wire.specs.Choice.{if◌then◌else◌}
 use Rattle.wire.specs.Refusals.{output_short}
 use Rattle.wire.specs.Words.{Case, answer, refused, says, refuses}
-use Rattle.wire.specs.Bytes.{number, bytes}
+use Rattle.wire.specs.Bytes.{bytes}
 use Rattle.wire.specs.declared.output.Written.{Written}
 use Rattle.wire.specs.declared.output.Written.TheVariants.{Wrote, Refused}
 use Rattle.wire.specs.Output.{WrittenKind, wrote, written_words, put, write_refusal, write_answer, write_output, Writes, Outside, ReadsBack, AdjacentAreOne, OnlyWhatItReports, StandsThere, RefusalWritesNothing, TellsApart, OutputLaws}
