@@ -16,7 +16,6 @@ put_line_spec =
     (λ c κs. search lines)  -- put-bytes-requires
     (λ c κs. search lines)  -- put-bytes-requires-2
     (λ c. search lines)  -- add-t13
-    (λ c. search lines)  -- slice-aggregate-put-bytes
     (λ c κs. search lines)  -- put-bytes-requires-3
     (λ c. search lines)  -- same-length
     (λ c. search lines)  -- returns-3

@@ -7,7 +7,6 @@ pub put_refused_spec : {M : Type 1} → statement M
 put_refused_spec =
     tie.close
     (tie.spec
-    (λ c. search lines)  -- slice-aggregate-put-line
     (λ c κs. search lines)  -- put-line-requires
     (λ c. search lines)  -- same-length
     (λ c. search lines)  -- returns

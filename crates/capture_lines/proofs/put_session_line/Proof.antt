@@ -8,7 +8,6 @@ put_session_line_spec =
     tie.close
     (tie.spec
     (λ c. search lines)  -- slice-aggregate-put-line
-    (λ c. search lines)  -- slice-aggregate-put-line-2
     (λ c κs. search lines)  -- put-line-requires
     (λ c. search lines)  -- same-length
     (λ c. search lines)  -- returns

@@ -5,11 +5,11 @@ use Rattle.capture.proofs.Rules.{taking}
 use Rattle.capture.proofs.reading.take_records.Statement.{statement}
 use Rattle.capture.proofs.reading.take_records.Tie as tie
 
-abbrev invariant-loop : tie.invariant-loop
+abbrev invariant-loop : tie.invariant-loop-left
 invariant-loop lengths₀ slots₀ bytes report₀ rest₀ left₀ lengths slots report rest left =
     Going (lent_report report₀ lengths₀ slots₀) bytes (lent_report report lengths slots) rest left
 
-abbrev decreases-loop : tie.decreases-loop
+abbrev decreases-loop : tie.decreases-loop-left
 decreases-loop lengths₀ slots₀ bytes report₀ rest₀ left₀ lengths slots report rest left = left
 
 pub take_records_spec : {M : Type 1} → statement M

@@ -7,7 +7,7 @@ use Rattle.capture.proofs.whole.report.Tie as tie
 
 returns : tie.Need-returns
 returns c = (
-  whole-report _ _ _ _ _ _ _ _ _ _ c.before.before.before.before.before.before.before.before.before.new.ensures c.before.before.before.before.before.before.finish.ensures (search writing) (search writing) c.before.before.write.ensures,
+  whole-report _ _ _ _ _ _ _ _ _ _ c.new-start.ensures c.finish-end.ensures (search writing) (search writing) c.write.ensures,
   printed_example,
 )
 

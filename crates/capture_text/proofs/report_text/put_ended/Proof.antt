@@ -7,13 +7,9 @@ pub put_ended_spec : {M : Type 1} → statement M
 put_ended_spec =
     tie.close
     (tie.spec
-    (λ c. search reporting)  -- slice-aggregate-put-line
-    (λ c. search reporting)  -- slice-aggregate-put-line-2
     (λ c κs. search reporting)  -- put-line-requires
     (λ c. search reporting)  -- same-length
     (λ c. search reporting)  -- returns
-    (λ c. search reporting)  -- slice-aggregate-put-line-3
-    (λ c. search reporting)  -- slice-aggregate-put-line-4
     (λ c κs. search reporting)  -- put-line-requires-2
     (λ c. search reporting)  -- same-length-2
     (λ c. search reporting)  -- returns-2

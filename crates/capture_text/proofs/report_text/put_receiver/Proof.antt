@@ -8,7 +8,6 @@ put_receiver_spec =
     tie.close
     (tie.spec
     (λ c κs. search reporting)  -- put-name-requires
-    (λ c. search reporting)  -- slice-aggregate-put-count
     (λ c κs. search reporting)  -- put-count-requires
     (λ c κs. search reporting)  -- put-ended-requires
     (λ c κs. search reporting)  -- behind-requires

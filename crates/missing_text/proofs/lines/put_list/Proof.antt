@@ -12,7 +12,6 @@ put_list_spec =
     (λ c. search texts)  -- slice-aggregate-put-named
     (λ c κs. search texts)  -- put-named-requires
     (λ c κs. search texts)  -- total-requires
-    (λ c. search texts)  -- slice-aggregate-put-number-line
     (λ c κs. search texts)  -- put-number-line-requires
     (λ c κs. search texts)  -- behind-requires
     (λ c. search texts)  -- same-length

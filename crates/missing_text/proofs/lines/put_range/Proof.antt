@@ -7,11 +7,9 @@ pub put_range_spec : {M : Type 1} → statement M
 put_range_spec =
     tie.close
     (tie.spec
-    (λ c. search ranges)  -- slice-aggregate-put-number-line
     (λ c κs. search ranges)  -- put-number-line-requires
     (λ c κs. search ranges)  -- behind-requires
     (λ c κs. search ranges)  -- before-requires
-    (λ c. search ranges)  -- slice-aggregate-put-number-line-2
     (λ c κs. search ranges)  -- put-number-line-requires-2
     (λ c κs. search ranges)  -- behind-requires-2
     (λ c. search ranges)  -- same-length

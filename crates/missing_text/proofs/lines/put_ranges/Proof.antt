@@ -5,10 +5,10 @@ use Rattle.missing_text.proofs.Rules.{ranges}
 use Rattle.missing_text.proofs.lines.put_ranges.Statement.{statement}
 use Rattle.missing_text.proofs.lines.put_ranges.Tie as tie
 
-abbrev invariant-loop : tie.invariant-loop
+abbrev invariant-loop : tie.invariant-loop-rest
 invariant-loop out₀ edges top rest₀ place₀ out rest place = Putting out₀ place₀ top edges out place rest
 
-abbrev decreases-loop : tie.decreases-loop
+abbrev decreases-loop : tie.decreases-loop-rest
 decreases-loop out₀ edges top rest₀ place₀ out rest place = length rest
 
 pub put_ranges_spec : {M : Type 1} → statement M

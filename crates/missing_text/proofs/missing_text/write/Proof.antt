@@ -9,7 +9,6 @@ write_spec =
     (tie.spec
     (λ c. search texts)  -- returns
     (λ c κs. search texts)  -- is-usable-requires
-    (λ c. search texts)  -- slice-aggregate-put-refused
     (λ c κs. search texts)  -- put-refused-requires
     (λ c. search texts)  -- same-length
     (λ c. search texts)  -- returns-2

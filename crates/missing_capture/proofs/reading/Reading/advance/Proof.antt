@@ -8,10 +8,10 @@ use Rattle.missing_capture.proofs.Rules.{looping}
 use Rattle.missing_capture.proofs.reading.Reading.advance.Statement.{statement}
 use Rattle.missing_capture.proofs.reading.Reading.advance.Tie as tie
 
-abbrev invariant-loop : tie.invariant-loop
+abbrev invariant-loop : tie.invariant-loop-event
 invariant-loop edges₀ bytes place₀ notes₀ rest₀ edges place notes rest = Looping (lent_notes notes₀ edges₀) place₀ bytes (lent_notes notes edges) place rest
 
-abbrev decreases-loop : tie.decreases-loop
+abbrev decreases-loop : tie.decreases-loop-event
 decreases-loop edges₀ bytes place₀ notes₀ rest₀ edges place notes rest = length (read_on (at_of place) rest).events
 
 pub advance_spec : {M : Type 1} → statement M

@@ -9,14 +9,12 @@ write_spec =
     (tie.spec
     (λ c. search writing)  -- returns
     (λ c. search writing)  -- enum-told
-    (λ c. search writing)  -- slice-aggregate-put-refused
     (λ c κs. search writing)  -- put-refused-requires
     (λ c. search writing)  -- enum-told-2
     (λ c κs. search writing)  -- write-requires
     (λ c. search writing)  -- enum-told-3
     (λ c κs. search writing)  -- write-requires-2
     (λ c. search writing)  -- enum-told-4
-    (λ c. search writing)  -- slice-aggregate-put-refused-2
     (λ c κs. search writing)  -- put-refused-requires-2
     (λ c. search writing)  -- same-length
     (λ c. search writing)  -- returns-2

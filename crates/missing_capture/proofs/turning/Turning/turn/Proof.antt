@@ -6,9 +6,9 @@ use Rattle.missing_capture.proofs.Rules.{turning}
 use Rattle.missing_capture.proofs.turning.Turning.turn.Statement.{statement}
 use Rattle.missing_capture.proofs.turning.Turning.turn.Tie as tie
 
-returns-2 : tie.Need-returns-2
+returns-2 : tie.Need-returns
 returns-2 c =
-    let small : AreBytes c.before.before.before.before.before.before.before.before.before.before.before.before.before.before.before.args.buf.now = λ i. omega (arith, c.before.before.before.before.before.before.before.before.before.before.before.before.before.slice-known2.given i) in
+    let small : AreBytes c.args.buf-1.now = λ i. omega (arith, c.slice_known-2-1.given i) in
     (search turning, (search turning, (search turning, missing-capture-promises)))
 
 pub turn_spec : {M : Type 1} → statement M
