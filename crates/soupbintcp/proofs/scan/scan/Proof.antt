@@ -11,18 +11,18 @@ use Rattle.soupbintcp.proofs.Rules.{scans}
 use Rattle.soupbintcp.proofs.scan.scan.Statement.{statement}
 use Rattle.soupbintcp.proofs.scan.scan.Tie as tie
 
-abbrev invariant-loop : tie.invariant-loop
+abbrev invariant-loop : tie.invariant-loop-i
 invariant-loop stream sender rest packets bytes size letter name named₀ i₀ i-end named i =
     (i ≤ length name) × (session_from named (drop i name) ≡ session_from Blank name)
 
-abbrev decreases-loop : tie.decreases-loop
+abbrev decreases-loop : tie.decreases-loop-i
 decreases-loop stream sender rest packets bytes size letter name named₀ i₀ i-end named i = length name - i
 
-abbrev invariant-loop2 : tie.invariant-loop2
+abbrev invariant-loop2 : tie.invariant-loop-j
 invariant-loop2 stream sender rest packets bytes size letter digits counted₀ j₀ j-end counted j =
     (j ≤ length digits) × (number_from counted (drop j digits) ≡ number_from counting.Blank digits)
 
-abbrev decreases-loop2 : tie.decreases-loop2
+abbrev decreases-loop2 : tie.decreases-loop-j
 decreases-loop2 stream sender rest packets bytes size letter digits counted₀ j₀ j-end counted j = length digits - j
 
 abbrev invariant-packets : tie.invariant-packets
@@ -32,51 +32,51 @@ abbrev decreases-packets : tie.decreases-packets
 decreases-packets stream sender rest₀ packets₀ bytes₀ rest packets bytes = length rest
 
 session-field-requires :
-    tie.Need-session-field-requires invariant-loop decreases-loop invariant-loop2 decreases-loop2 invariant-packets decreases-packets
+    tie.Need-session_field-name-requires invariant-loop decreases-loop invariant-loop2 decreases-loop2 invariant-packets decreases-packets
 session-field-requires c κs = search scans
 
 shared-slice-read-step :
-    tie.Need-shared-slice-read-step invariant-loop decreases-loop invariant-loop2 decreases-loop2 invariant-packets decreases-packets
+    tie.Need-bounds-name-i invariant-loop decreases-loop invariant-loop2 decreases-loop2 invariant-packets decreases-packets
 shared-slice-read-step c = search scans
 
 is-blank-allowed-requires :
-    tie.Need-is-blank-allowed-requires invariant-loop decreases-loop invariant-loop2 decreases-loop2 invariant-packets decreases-packets
+    tie.Need-is_blank_allowed-requires invariant-loop decreases-loop invariant-loop2 decreases-loop2 invariant-packets decreases-packets
 is-blank-allowed-requires c κs = search scans
 
 is-good-requires :
-    tie.Need-is-good-requires invariant-loop decreases-loop invariant-loop2 decreases-loop2 invariant-packets decreases-packets
+    tie.Need-is_good-requires invariant-loop decreases-loop invariant-loop2 decreases-loop2 invariant-packets decreases-packets
 is-good-requires c κs = search scans
 
 number-field-requires :
-    tie.Need-number-field-requires invariant-loop decreases-loop invariant-loop2 decreases-loop2 invariant-packets decreases-packets
+    tie.Need-number_field-digits-requires invariant-loop decreases-loop invariant-loop2 decreases-loop2 invariant-packets decreases-packets
 number-field-requires c κs = search scans
 
 shared-slice-read-step-2 :
-    tie.Need-shared-slice-read-step-2 invariant-loop decreases-loop invariant-loop2 decreases-loop2 invariant-packets decreases-packets
+    tie.Need-bounds-digits-j invariant-loop decreases-loop invariant-loop2 decreases-loop2 invariant-packets decreases-packets
 shared-slice-read-step-2 c = search scans
 
 packets-again : tie.Need-packets-preserved invariant-loop decreases-loop invariant-loop2 decreases-loop2 invariant-packets decreases-packets
 packets-again c =
     scan-next
     _ _ _ _ _ _ _ _ _ _ _ _ _ _
-    c.before.before.before.before.before.before.before.before.before.before.before.before.before.before.before.before.before.before.before.before.packets.invariant
-    c.before.before.before.before.before.before.before.before.before.before.before.before.before.before.before.before.before.before.before.read.ensures
+    c.packets.invariant
+    c.read.ensures
     (search scans)
-    c.before.before.before.before.before.before.before.before.before.before.before.before.before.before.before.letter.ensures
-    c.before.before.before.before.before.before.before.before.before.before.before.before.before.before.session-field.ensures
-    c.before.before.before.before.before.before.before.before.before.before.before.before.before.loop.invariant
-    c.before.before.before.before.before.before.before.before.before.before.before.before.loop-test.false
-    c.before.before.before.before.before.before.before.before.before.before.before.is-blank-allowed.ensures
-    c.before.before.before.before.before.before.before.before.before.before.is-good.ensures
-    c.before.before.before.before.before.before.before.before.before.if1.false
-    c.before.before.before.before.before.before.before.before.number-field.ensures
-    c.before.before.before.before.before.before.before.loop2.invariant
-    c.before.before.before.before.before.before.loop2-test.false
-    c.before.before.before.before.before.least.ensures
-    c.before.before.before.before.value.ensures
-    c.before.before.before.packet.ensures
-    c.before.enum-told4.given.0.0
-    c.before.enum-told4.given.1
+    c.letter-letter.ensures
+    c.session_field-name.ensures
+    c.loop-i.invariant
+    c.loop-i-test.false
+    c.is_blank_allowed.ensures
+    c.is_good.ensures
+    c.if-not-is_good.false-raw
+    c.number_field-digits.ensures
+    c.loop-j.invariant
+    c.loop-j-test.false
+    c.least.ensures
+    c.value-read.ensures
+    c.packet.ensures
+    c.in-Good.packet
+    c.in-Good.is
 
 pub scan_spec : {M : Type 1} → statement M
 scan_spec =
