@@ -69,7 +69,7 @@ pub record WrongLocks : Type 0 where
   pub no_one : LoginRules lets_no_one_in → ⊥
   pub stopping_early : LoginRules stops_at_zero_or_space → ⊥
   pub by_her_own : Rules her_own
-  pub too_short : Rules too_short → ⊥
+  pub too_short_refused : Rules too_short → ⊥
   pub behind_a_zero : Rules behind_azero → ⊥
   pub nothing : Rules empty → ⊥
   pub too_short_in : (stops_at_zero_or_space too_short).which ≡ answer accepted

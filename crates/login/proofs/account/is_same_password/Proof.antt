@@ -6,10 +6,10 @@ use Rattle.login.proofs.Rules.{accounts}
 use Rattle.login.proofs.account.is_same_password.Statement.{statement}
 use Rattle.login.proofs.account.is_same_password.Tie as tie
 
-abbrev invariant-loop : tie.invariant-loop
+abbrev invariant-loop : tie.invariant-loop-i
 invariant-loop a b differ₀ i₀ differ i = DifferOn a b differ i
 
-abbrev decreases-loop : tie.decreases-loop
+abbrev decreases-loop : tie.decreases-loop-i
 decreases-loop a b differ₀ i₀ differ i = length a - i
 
 pub is_same_password_spec : {M : Type 1} → statement M

@@ -7,10 +7,10 @@ use Rattle.login.proofs.Rules.{accounts}
 use Rattle.login.proofs.account.is_same_username.Statement.{statement}
 use Rattle.login.proofs.account.is_same_username.Tie as tie
 
-abbrev invariant-loop : tie.invariant-loop
+abbrev invariant-loop : tie.invariant-loop-i
 invariant-loop a b i₀ i = SameOn a b true i
 
-abbrev decreases-loop : tie.decreases-loop
+abbrev decreases-loop : tie.decreases-loop-i
 decreases-loop a b i₀ i = length a - i
 
 pub is_same_username_spec : {M : Type 1} → statement M
@@ -29,10 +29,10 @@ is_same_username_spec =
     (λ c. search accounts)  -- add-i
     (λ c. search accounts)  -- loop-less
     (λ c.
-    same_step _ _ _ _ _ c.before.before.before.before.before.before.loop.invariant
-    c.before.before.before.before.before.loop-test.true
-    c.before.before.before.lower.ensures
-    c.before.lower2.ensures
-    c.if2.false)  -- loop-again
+    same_step _ _ _ _ _ c.loop-i.invariant
+    c.loop-i-test.true
+    c.lower.ensures
+    c.lower-in-loop-i.ensures
+    c.if-lower.false)  -- loop-again
     (λ c. search accounts)  -- returns-3
     )

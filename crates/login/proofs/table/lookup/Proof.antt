@@ -6,10 +6,10 @@ use Rattle.login.proofs.Rules.{tables}
 use Rattle.login.proofs.table.lookup.Statement.{statement}
 use Rattle.login.proofs.table.lookup.Tie as tie
 
-abbrev invariant-loop : tie.invariant-loop
+abbrev invariant-loop : tie.invariant-loop-rest
 invariant-loop table entry rest₀ rest = LookedIn table entry rest
 
-abbrev decreases-loop : tie.decreases-loop
+abbrev decreases-loop : tie.decreases-loop-rest
 decreases-loop table entry rest₀ rest = length rest
 
 pub lookup_spec : {M : Type 1} → statement M

@@ -4,15 +4,15 @@ use Rattle.soupbintcp_client.proofs.ClientLaws.{other-session, other-number, log
 use Rattle.soupbintcp_client.proofs.client.Client.log_in.Statement.{statement}
 use Rattle.soupbintcp_client.proofs.client.Client.log_in.Tie as tie
 
-returns-2 : tie.Need-returns-2
+returns-2 : tie.Need-returns-then-not-asked_number
 returns-2 c =
-    other-number _ _ _ _ _ _ _ c.before.before.before.before.asked-session.ensures c.before.before.before.if1.false
-    c.before.before.asked-number.ensures c.before.if2.true c.stay2.ensures
+    other-number _ _ _ _ _ _ _ c.asked_session.ensures c.if-not-asked_session.false-raw
+    c.asked_number.ensures c.if-not-asked_number.true-raw c.stay-then-not-asked_number.ensures
 
-returns-3 : tie.Need-returns-3
+returns-3 : tie.Need-returns
 returns-3 c =
-    logged-in _ _ _ _ _ _ _ c.before.before.before.before.asked-session.ensures c.before.before.before.if1.false
-    c.before.before.asked-number.ensures c.before.if2.false c.ten.ensures
+    logged-in _ _ _ _ _ _ _ c.asked_session.ensures c.if-not-asked_session.false-raw
+    c.asked_number.ensures c.if-not-asked_number.false-raw c.ten.ensures
 
 pub log_in_spec : {M : Type 1} → statement M
 log_in_spec =
@@ -20,7 +20,7 @@ log_in_spec =
     (tie.spec
     (λ c κs. search rules)  -- asked-session-requires
     (λ c κs. search rules)  -- stay-requires
-    (λ c. other-session _ _ _ _ _ _ c.before.before.asked-session.ensures c.before.if1.true c.stay.ensures)  -- returns
+    (λ c. other-session _ _ _ _ _ _ c.asked_session.ensures c.if-not-asked_session.true-raw c.stay.ensures)  -- returns
     (λ c κs. search rules)  -- asked-number-requires
     (λ c κs. search rules)  -- stay-requires-2
     returns-2
