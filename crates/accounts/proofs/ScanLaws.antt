@@ -3,9 +3,7 @@ use Prim.Native.Nat.{ℕ, suc, ◌+◌, ◌≤◌, ◌<◌}
 use native.Mathlib.Numerals.{add-one}
 use mathlib.Core.Path.{◌≡◌, refl, sym, ◌∙◌, ap}
 use mathlib.Core.List.{List, []}
-use mathlib.Core.Bool.{Bool, true, false, not}
-use lib.Dec.{T}
-use lib.Ieee.Bits.{is_true, is_false}
+use mathlib.Core.Bool.{Bool, true, false}
 use lib.ListN.{length, get_or, drop, drop_of_length-le}
 use lib.Seq.{drop-cons}
 use Rattle.wire.specs.Choice.{if◌then◌else◌}
@@ -29,8 +27,8 @@ module _ (t : List Account) (e : Account) (r : Found) where
   pub scan-many : most_accounts < length t → r ≡ found blank_account true → r ≡ found_in t e
   scan-many h f = f ∙ sym (found-many t e h)
 
-  pub scan-unsound : length t ≤ most_accounts → T (not (sound_account e)) → r ≡ found blank_account false → r ≡ found_in t e
-  scan-unsound h z f = f ∙ sym (found-unsound t e h (is_false (sound_account e) z))
+  pub scan-unsound : length t ≤ most_accounts → sound_account e ≡ false → r ≡ found blank_account false → r ≡ found_in t e
+  scan-unsound h z f = f ∙ sym (found-unsound t e h z)
 
 module _ (t : List Account) (e : Account) where
   abbrev pub Undecided : ℕ → Type 0
@@ -49,8 +47,8 @@ module _ (t : List Account) (e : Account) where
     scan-over r l f = decided r blank_account (rw (drop_of_length-le t l) refl) f
 
     module _ (l : i < length t) where
-      pub scan-hit : (r : Found) → T (is_of (record_at t i) e) → r ≡ found (record_at t i) false → r ≡ found_in t e
-      scan-hit r h f = decided r (record_at t i) (rw (is_true (is_of (record_at t i) e) h) at (at-record i l)) f
+      pub scan-hit : (r : Found) → is_of (record_at t i) e ≡ true → r ≡ found (record_at t i) false → r ≡ found_in t e
+      scan-hit r h f = decided r (record_at t i) (rw h at (at-record i l)) f
 
-      pub scan-miss : T (not (is_of (record_at t i) e)) → Undecided (i + 1)
-      scan-miss h = rw (add-one i) (sym (rw (is_false (is_of (record_at t i) e) h) at (at-record i l)) ∙ k)
+      pub scan-miss : is_of (record_at t i) e ≡ false → Undecided (i + 1)
+      scan-miss h = rw (add-one i) (sym (rw h at (at-record i l)) ∙ k)
