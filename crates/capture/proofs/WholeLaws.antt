@@ -89,11 +89,11 @@ fold-cut x = refl
 
 module _ (s : Lent) (l : List ℕ) where
   -- by the events of the end
-  ended_by : (es : List Event) → (records_end (most_records - length (records_of l)) (rest_of most_records l)).events ≡ es → end_report s l ≡ fold reported (over (fresh_lent s) (records_of l)) es
-  ended_by es e = folded (fresh_lent s) (records_of l) (records_end (most_records - length (records_of l)) (rest_of most_records l)).events ∙ ap (fold reported (over (fresh_lent s) (records_of l))) e
+  ended_over : (es : List Event) → (records_end (most_records - length (records_of l)) (rest_of most_records l)).events ≡ es → end_report s l ≡ fold reported (over (fresh_lent s) (records_of l)) es
+  ended_over es e = folded (fresh_lent s) (records_of l) (records_end (most_records - length (records_of l)) (rest_of most_records l)).events ∙ ap (fold reported (over (fresh_lent s) (records_of l))) e
 
   ended-whole : (records_end (most_records - length (records_of l)) (rest_of most_records l)).events ≡ [] → end_report s l ≡ summed s (records_of l)
-  ended-whole e = ended_by [] e ∙ fold-none (over (fresh_lent s) (records_of l)) ∙ sums.whole s (records_of l) (few most_records l)
+  ended-whole e = ended_over [] e ∙ fold-none (over (fresh_lent s) (records_of l)) ∙ sums.whole s (records_of l) (few most_records l)
 
   ended-none : length (rest_of most_records l) ≡ 0 → end_report s l ≡ records_report s l
   unfolding records_report is_cut
@@ -113,7 +113,7 @@ module _ (s : Lent) (l : List ℕ) where
       let h : 0 < length (rest_of most_records l) = above (length (rest_of most_records l)) z in
       let e = rest-cut (most_records - length (records_of l)) (rest_of most_records l) z (omega arith) in
       rw (lt-ltb _ _ h, lt-ltb _ _ m)
-      (ended_by (cut_short ∷ []) e ∙ fold-cut (over (fresh_lent s) (records_of l)) ∙ sums.with_cut s (records_of l) (omega arith))
+      (ended_over (cut_short ∷ []) e ∙ fold-cut (over (fresh_lent s) (records_of l)) ∙ sums.with_cut s (records_of l) (omega arith))
 
   ended_so : end_report s l ≡ records_report s l
   ended_so =

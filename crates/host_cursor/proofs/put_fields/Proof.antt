@@ -7,7 +7,6 @@ pub put_fields_spec : {M : Type 1} → statement M
 put_fields_spec =
     tie.close
     (tie.spec
-    (λ c. search cursors)  -- slice-aggregate-put-bytes
     (λ c. search cursors)  -- put-bytes-requires
     (λ c. search cursors)  -- put64-requires
     (λ c. search cursors)  -- put16-requires

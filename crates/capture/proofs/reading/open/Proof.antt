@@ -15,7 +15,7 @@ open_spec =
     (λ c. search opening)  -- part-take-records-start
     (λ c. search opening)  -- part-take-records-end
     (λ c κs. search opening)  -- take-records-requires
-    (λ c. open-fits _ _ _ _ _ _ _ _ c.read-opened.ensures.0 c.take_records-fed.ensures c.is_well_formed.1.1.1.0.1)  -- add-t20
+    (λ c. open-fits _ _ _ _ _ _ _ _ c.read-opened.ensures.0 c.take_records-fed.ensures c.well_formed.1.1.1.0.1)  -- add-t20
     (λ c. search opening)  -- same-length
     (λ c. search opening)  -- same-length-2
     (λ c. search opening)  -- returns-2

@@ -8,7 +8,7 @@ use Rattle.capture.proofs.turning.Turning.turn.Tie as tie
 
 returns-2 : tie.Need-returns
 returns-2 c =
-    let small : AreBytes c.args.buf-1.now = λ i. omega (arith, c.slice_known-3-1.given i) in
+    let small : AreBytes c.args.buf.now = λ i. omega (arith, c.slice_known-3-1.given i) in
     (search turning, (search turning, (search turning, capture-promises)))
 
 pub turn_spec : {M : Type 1} → statement M
