@@ -7,7 +7,6 @@ pub put_fields_spec : {M : Type 1} → statement M
 put_fields_spec =
     tie.close
     (tie.spec
-    (λ c. search progresses)  -- slice-aggregate-put-bytes
     (λ c κs. search progresses)  -- put-bytes-requires
     (λ c κs. search progresses)  -- put64-requires
     (λ c κs. search progresses)  -- put64-requires-2

@@ -6,27 +6,27 @@ use Rattle.host_early.proofs.Rules.{words}
 use Rattle.host_early.proofs.answers.answer_words.Statement.{statement}
 use Rattle.host_early.proofs.answers.answer_words.Tie as tie
 
-returns : tie.Need-returns
+returns : tie.Need-returns-in-Deliver
 unfolding early_words words_at answer_number padded
 returns c = search words
 
-returns-2 : tie.Need-returns-2
+returns-2 : tie.Need-returns-in-Old
 unfolding early_words words_at answer_number padded
 returns-2 c = search words
 
-returns-3 : tie.Need-returns-3
+returns-3 : tie.Need-returns-in-Quiet
 unfolding early_words words_at answer_number padded
 returns-3 c = search words
 
-returns-4 : tie.Need-returns-4
+returns-4 : tie.Need-returns-in-Ahead
 unfolding early_words words_at answer_number padded
 returns-4 c = search words
 
-returns-5 : tie.Need-returns-5
+returns-5 : tie.Need-returns-in-Ended
 unfolding early_words words_at answer_number padded
 returns-5 c = search words
 
-returns-6 : tie.Need-returns-6
+returns-6 : tie.Need-returns-in-Refused
 unfolding early_words words_at answer_number padded
 returns-6 c = search words
 

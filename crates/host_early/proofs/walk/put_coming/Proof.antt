@@ -7,7 +7,6 @@ pub put_coming_spec : {M : Type 1} → statement M
 put_coming_spec =
     tie.close
     (tie.spec
-    (λ c. search walks)  -- slice-aggregate-put-bytes
     (λ c κs. search walks)  -- put-bytes-requires
     (λ c κs. search walks)  -- put64-requires
     (λ c κs. search walks)  -- put16-requires
