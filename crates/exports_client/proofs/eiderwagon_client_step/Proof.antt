@@ -4,25 +4,25 @@ use Rattle.exports_client.proofs.ClientLaws.{client-waits, client-moves, step-pr
 use Rattle.exports_client.proofs.eiderwagon_client_step.Statement.{statement}
 use Rattle.exports_client.proofs.eiderwagon_client_step.Tie as tie
 
-waits : tie.Need-returns
+waits : tie.Need-returns-then-stepped-eq0
 waits c =
-    let answered = c.before.before.before.before in
+    let answered = c.before in
     let ladder = answered.before.before.before.before in
     let said = ladder.before in
     let stepped = said.before.before in
     let found = stepped.before in
-    step-promised (client-waits _ _ _ _ _ _ _ _ _ _ found.read.ensures stepped.step.ensures.0 said.answer-words.ensures.0.0 said.answer-words.ensures.0.1 ladder.behind-stateless.ensures answered.answer.ensures c.if1.true)
+    step-promised (client-waits _ _ _ _ _ _ _ _ _ _ found.read.ensures stepped.step-stepped.ensures.0 said.answer_words-said.ensures.0.0 said.answer_words-said.ensures.0.1 ladder.behind_stateless-refused.ensures answered.answer-code.ensures c.if-stepped-eq0.true)
 
-moves : tie.Need-returns-2
+moves : tie.Need-returns
 moves c =
-    let kept = c.before.before in
+    let kept = c.before in
     let moved = kept.before.before in
     let answered = moved.before.before.before.before in
     let ladder = answered.before.before.before.before in
     let said = ladder.before in
     let stepped = said.before.before in
     let found = stepped.before in
-    step-promised (client-moves _ _ _ _ _ _ _ _ _ _ found.read.ensures stepped.step.ensures.0 said.answer-words.ensures.0.0 said.answer-words.ensures.0.1 ladder.behind-stateless.ensures answered.answer.ensures _ _ moved.if1.false kept.write.ensures.0 kept.write.ensures.1.0)
+    step-promised (client-moves _ _ _ _ _ _ _ _ _ _ found.read.ensures stepped.step-stepped.ensures.0 said.answer_words-said.ensures.0.0 said.answer_words-said.ensures.0.1 ladder.behind_stateless-refused.ensures answered.answer-code.ensures _ _ moved.if-stepped-eq0.false kept.write.ensures.0 kept.write.ensures.1.0)
 
 pub eiderwagon_client_step_spec : {M : Type 1} → statement M
 eiderwagon_client_step_spec =

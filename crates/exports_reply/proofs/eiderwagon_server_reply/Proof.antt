@@ -5,19 +5,19 @@ use Rattle.exports_reply.proofs.RunLaws.{every-server-call}
 use Rattle.exports_reply.proofs.eiderwagon_server_reply.Statement.{statement}
 use Rattle.exports_reply.proofs.eiderwagon_server_reply.Tie as tie
 
-waits : tie.Need-returns
+waits : tie.Need-returns-then-replied-eq0
 waits c =
-    let answered = c.before.before.before.before in
+    let answered = c.before in
     let ladder = answered.before.before.before.before in
     let said = ladder.before in
     let stepped = said.before.before.before.before in
     let found = stepped.before.before in
     let lent = found.before.before in
-    reply-promised every-server-call (reply-waits _ _ _ _ _ _ _ _ _ _ _ _ _ _ lent.lent-from.ensures found.read.ensures stepped.step.ensures.0 said.answer-words.ensures.0.0 said.answer-words.ensures.0.1 ladder.behind-stateless.ensures answered.answer.ensures c.if1.true)
+    reply-promised every-server-call (reply-waits _ _ _ _ _ _ _ _ _ _ _ _ _ _ lent.lent_from-from.ensures found.read-server.ensures stepped.step-replied.ensures.0 said.answer_words-said.ensures.0.0 said.answer_words-said.ensures.0.1 ladder.behind_stateless-refused.ensures answered.answer-code.ensures c.if-replied-eq0.true)
 
-moves : tie.Need-returns-2
+moves : tie.Need-returns
 moves c =
-    let kept = c.before.before in
+    let kept = c.before in
     let moved = kept.before.before in
     let answered = moved.before.before.before.before in
     let ladder = answered.before.before.before.before in
@@ -25,7 +25,7 @@ moves c =
     let stepped = said.before.before.before.before in
     let found = stepped.before.before in
     let lent = found.before.before in
-    reply-promised every-server-call (reply-moves _ _ _ _ _ _ _ _ _ _ _ _ _ _ lent.lent-from.ensures found.read.ensures stepped.step.ensures.0 said.answer-words.ensures.0.0 said.answer-words.ensures.0.1 ladder.behind-stateless.ensures answered.answer.ensures _ _ moved.if1.false kept.write.ensures.0 kept.write.ensures.1.0)
+    reply-promised every-server-call (reply-moves _ _ _ _ _ _ _ _ _ _ _ _ _ _ lent.lent_from-from.ensures found.read-server.ensures stepped.step-replied.ensures.0 said.answer_words-said.ensures.0.0 said.answer_words-said.ensures.0.1 ladder.behind_stateless-refused.ensures answered.answer-code.ensures _ _ moved.if-replied-eq0.false kept.write.ensures.0 kept.write.ensures.1.0)
 
 pub eiderwagon_server_reply_spec : {M : Type 1} → statement M
 eiderwagon_server_reply_spec =

@@ -6,43 +6,43 @@ use Rattle.host_session.proofs.Rules.{words}
 use Rattle.host_session.proofs.replies.answer_words.Statement.{statement}
 use Rattle.host_session.proofs.replies.answer_words.Tie as tie
 
-returns : tie.Need-returns
+returns : tie.Need-returns-in-NeedMore
 unfolding session_answer_words words_at session_answer_number padded
 returns c = search words
 
-returns-2 : tie.Need-returns-2
+returns-2 : tie.Need-returns-in-Accepted
 unfolding session_answer_words words_at session_answer_number padded
 returns-2 c = search words
 
-returns-3 : tie.Need-returns-3
+returns-3 : tie.Need-returns-in-Rejected
 unfolding session_answer_words words_at session_answer_number padded
 returns-3 c = search words
 
-returns-4 : tie.Need-returns-4
+returns-4 : tie.Need-returns-in-Sequenced
 unfolding session_answer_words words_at session_answer_number padded
 returns-4 c = search words
 
-returns-5 : tie.Need-returns-5
+returns-5 : tie.Need-returns-in-Unsequenced
 unfolding session_answer_words words_at session_answer_number padded
 returns-5 c = search words
 
-returns-6 : tie.Need-returns-6
+returns-6 : tie.Need-returns-in-Heartbeat
 unfolding session_answer_words words_at session_answer_number padded
 returns-6 c = search words
 
-returns-7 : tie.Need-returns-7
+returns-7 : tie.Need-returns-in-Debug
 unfolding session_answer_words words_at session_answer_number padded
 returns-7 c = search words
 
-returns-8 : tie.Need-returns-8
+returns-8 : tie.Need-returns-in-LoggedOut
 unfolding session_answer_words words_at session_answer_number padded
 returns-8 c = search words
 
-returns-9 : tie.Need-returns-9
+returns-9 : tie.Need-returns-in-EndOfSession
 unfolding session_answer_words words_at session_answer_number padded
 returns-9 c = search words
 
-returns-10 : tie.Need-returns-10
+returns-10 : tie.Need-returns-in-Refused
 unfolding session_answer_words words_at session_answer_number padded
 returns-10 c = search words
 
