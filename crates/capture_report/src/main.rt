@@ -11,27 +11,31 @@ use capture::reading::Reading;
 use capture::turning::Turning;
 use capture_text::report_text::ROOM;
 use early_holding::holding::{LENGTH_BYTES, SLOT_BYTES};
-use libc::{STDIN_FILENO, STDOUT_FILENO};
+use std::io::Read;
 
 // Reads once behind the bytes that are kept, where there is room for one more at the least, and answers how many came:
 // none where the input ends or the read fails.
-fn fill(buf: &mut [u8], have: usize) -> usize
+fn fill(input: &mut impl Read, buf: &mut [u8], have: usize) -> usize
     requires { have < length buf.old }
 {
-    let got = libc::read(STDIN_FILENO, &mut buf[have..]);
-    io::count(got, &buf[have..])
+    input.read(&mut buf[have..]).unwrap_or(0)
 }
 
 // Turns until it is over, in a buffer that has room behind whatever is kept. A proved loop has to end, and nothing says
 // that the input does: the turns are counted down from a number that no run uses up.
-fn read_all(lengths: &mut [u8], slots: &mut [u8], buf: &mut [u8]) -> Reading
+fn read_all(
+    input: &mut impl Read,
+    lengths: &mut [u8],
+    slots: &mut [u8],
+    buf: &mut [u8],
+) -> Reading
     requires { most_kept < length buf.old }
     ensures { is_over result.stage ≡ true }
 {
     let mut state = Turning::new();
     let mut turns: u64 = u64::MAX;
     while 0 < turns {
-        let got = fill(buf, state.have);
+        let got = fill(input, buf, state.have);
         let next = state.turn(lengths, slots, buf, got);
         state = next;
         if state.is_over() {
@@ -42,30 +46,43 @@ fn read_all(lengths: &mut [u8], slots: &mut [u8], buf: &mut [u8]) -> Reading
     state.turn(lengths, slots, buf, 0).reading
 }
 
-// Prints the first bytes of a text.
-fn print_front(text: [u8; ROOM], size: usize)
+// Prints the first bytes of a text. What cannot be written is let go.
+fn print_front(rt: &impl Print, text: [u8; ROOM], size: usize)
     requires { size ≤ room }
 {
-    io::write_all(STDOUT_FILENO, &text[..size]);
+    let _ = rt.write_all(&text[..size]);
 }
 
 // Prints what a capture came to.
-fn print(reading: Reading) {
+fn print(rt: &impl Print, reading: Reading) {
     let printed = reading.printed();
     let text = printed.text;
-    print_front(text, printed.size);
+    print_front(rt, text, printed.size);
 }
 
 // Reads and prints, in the memory that is lent: the receiver's lengths and slots, and the buffer.
-fn run(lengths: &mut [u8], slots: &mut [u8], buf: &mut [u8])
+fn run(
+    rt: &impl Print,
+    input: &mut impl Read,
+    lengths: &mut [u8],
+    slots: &mut [u8],
+    buf: &mut [u8],
+)
     requires { most_kept < length buf.old }
 {
-    print(read_all(lengths, slots, buf));
+    print(rt, read_all(input, lengths, slots, buf));
 }
 
-fn main() {
+fn main(rt: HostRuntime) {
+    let mut input = rt.stdin();
     let mut lengths = [0u8; LENGTH_BYTES];
     let mut slots = [0u8; SLOT_BYTES];
     let mut space = [0u8; 262144];
-    run(&mut lengths, &mut slots, &mut space);
+    run(
+        &rt,
+        &mut input,
+        &mut lengths,
+        &mut slots,
+        &mut space,
+    );
 }

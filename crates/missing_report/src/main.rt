@@ -9,30 +9,29 @@ ghost use Rattle.capture_events.specs.Turns.{most_kept};
 ghost use Rattle.missing_ranges.specs.Notes as ranges;
 ghost use Rattle.missing_text.specs.Text.{room};
 
-use libc::{STDIN_FILENO, STDOUT_FILENO};
 use missing_capture::reading::Reading;
 use missing_capture::turning::Turning;
 use missing_ranges::ranges::ROOM;
+use std::io::Read;
 
 // Reads once behind the bytes that are kept, where there is room for one more at the least, and answers how many came:
 // none where the input ends or the read fails.
-fn fill(buf: &mut [u8], have: usize) -> usize
+fn fill(input: &mut impl Read, buf: &mut [u8], have: usize) -> usize
     requires { have < length buf.old }
 {
-    let got = libc::read(STDIN_FILENO, &mut buf[have..]);
-    io::count(got, &buf[have..])
+    input.read(&mut buf[have..]).unwrap_or(0)
 }
 
 // Turns until it is over, in a buffer that has room behind whatever is kept. A proved loop has to end, and nothing says
 // that the input does: the turns are counted down from a number that no run uses up.
-fn read_all(edges: &mut [u64], buf: &mut [u8]) -> Reading
+fn read_all(input: &mut impl Read, edges: &mut [u64], buf: &mut [u8]) -> Reading
     requires { most_kept < length buf.old }
     ensures { is_over_at (at_of result.place) ≡ true }
 {
     let mut state = Turning::new();
     let mut turns: u64 = u64::MAX;
     while 0 < turns {
-        let got = fill(buf, state.have);
+        let got = fill(input, buf, state.have);
         let next = state.turn(edges, buf, got);
         state = next;
         if state.is_over() {
@@ -43,25 +42,26 @@ fn read_all(edges: &mut [u64], buf: &mut [u8]) -> Reading
     state.turn(edges, buf, 0).reading
 }
 
-// Prints what a capture came to, in a buffer that has room for any text.
-fn print(reading: Reading, edges: &[u64], buf: &mut [u8])
+// Prints what a capture came to, in a buffer that has room for any text. What cannot be written is let go.
+fn print(rt: &impl Print, reading: Reading, edges: &[u64], buf: &mut [u8])
     requires { room ≤ length buf.old }
 {
     let size = reading.printed(edges, buf);
-    io::write_all(STDOUT_FILENO, &buf[..size]);
+    let _ = rt.write_all(&buf[..size]);
 }
 
 // Reads and prints, in the memory that is lent: words enough for the edges, and the buffer.
-fn run(edges: &mut [u64], buf: &mut [u8])
+fn run(rt: &impl Print, input: &mut impl Read, edges: &mut [u64], buf: &mut [u8])
     requires room_in_bounds { ranges.room ≤ length edges.old }
     requires room_in_bounds_2 { room ≤ length buf.old }
 {
-    let reading = read_all(edges, buf);
-    print(reading, edges, buf);
+    let reading = read_all(input, edges, buf);
+    print(rt, reading, edges, buf);
 }
 
-fn main() {
+fn main(rt: HostRuntime) {
+    let mut input = rt.stdin();
     let mut edges = [0u64; ROOM];
     let mut space = [0u8; 262144];
-    run(&mut edges, &mut space);
+    run(&rt, &mut input, &mut edges, &mut space);
 }

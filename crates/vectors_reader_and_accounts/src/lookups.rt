@@ -37,23 +37,24 @@ pub(crate) fn used(fields: &[u8]) -> usize {
 }
 
 // What was found says of the entry.
-fn told(found: Found, entry: Account) {
+fn told(rt: &impl Print, found: Found, entry: Account) {
     if found.too_many {
-        print::text(b"too-many");
+        print::text(rt, b"too-many");
     } else if account::is_known(found.account, entry) {
-        print::text(b"known");
+        print::text(rt, b"known");
     } else {
-        print::text(b"unknown");
+        print::text(rt, b"unknown");
     }
 }
 
-pub(crate) fn ask(fields: &[u8]) {
+pub(crate) fn ask(rt: &impl Print, fields: &[u8]) {
     let mut table = [0u8; TABLE_SIZE];
     parse::bytes(fields, b'a', &mut table);
     let mut entry = [0u8; RECORD_SIZE];
     parse::bytes(fields, b'b', &mut entry);
     let asked = record_at(&entry, 0);
     told(
+        rt,
         accounts::lookup_among(by_value(&table), used(fields), asked),
         asked,
     );

@@ -3,54 +3,72 @@
 // or over `&[Account]` needs a proof by hand, so the plain functions are called that go through these.
 #![tactic(auto)]
 
+ghost use Rattle.std.specs.Prelude.{◌≤◌, length};
+
 mod lookups;
 mod shows;
 mod steps;
 
-use libc::STDIN_FILENO;
+use std::io::Read;
 use vector_lines::{parse, print};
 
 // Room for all vectors. A longer text is cut, and what is printed is not what is stored.
 const MOST_TEXT: usize = 262144;
 
 // `tools/vectors/reader_and_accounts.py` has the same numbers.
-fn ask(function: u64, fields: &[u8]) {
+fn ask(rt: &impl Print, function: u64, fields: &[u8]) {
     match function {
-        0 => shows::ask(fields),
-        1 => lookups::ask(fields),
-        2 => steps::ask(fields),
-        _ => print::text(b"no function"),
+        0 => shows::ask(rt, fields),
+        1 => lookups::ask(rt, fields),
+        2 => steps::ask(rt, fields),
+        _ => print::text(rt, b"no function"),
     }
 }
 
 // Prints a line's answer, or the line itself where it is a heading.
-fn answer(line: &[u8]) {
+fn answer(rt: &impl Print, line: &[u8]) {
     let n = parse::until(line, b'|');
-    print::text(&line[..n]);
+    print::text(rt, &line[..n]);
     let fields = parse::after(line, b'|');
     if 0 < fields.len() {
-        ask(parse::decimal(line), fields);
+        ask(rt, parse::decimal(line), fields);
     }
-    print::text(b"\n");
+    print::text(rt, b"\n");
 }
 
-fn answer_all(text: &[u8]) {
+fn answer_all(rt: &impl Print, text: &[u8]) {
     let mut rest = text;
     while 0 < rest.len() {
         let n = parse::until(rest, b'\n');
-        answer(&rest[..n]);
+        answer(rt, &rest[..n]);
         let next = parse::after(rest, b'\n');
         rest = next;
     }
 }
 
-fn answer_input(room: &mut [u8]) {
-    let n = io::read_full(STDIN_FILENO, room);
-    answer_all(&room[..n]);
+// Reads until the room is full, the input ends or a read fails, and says how many bytes stand at the front.
+fn read_full(input: &mut impl Read, room: &mut [u8]) -> usize
+    ensures { result ≤ length room.old }
+{
+    let mut have: usize = 0;
+    while have < room.len() {
+        let got = input.read(&mut room[have..]).unwrap_or(0);
+        if got == 0 {
+            return have;
+        }
+        have += got;
+    }
+    have
+}
+
+fn answer_input(rt: &impl Print, input: &mut impl Read, room: &mut [u8]) {
+    let n = read_full(input, room);
+    answer_all(rt, &room[..n]);
 }
 
 // The room is lent whole, so that no other proof meets its size.
-fn main() {
+fn main(rt: HostRuntime) {
+    let mut input = rt.stdin();
     let mut room = [0u8; MOST_TEXT];
-    answer_input(&mut room);
+    answer_input(&rt, &mut input, &mut room);
 }

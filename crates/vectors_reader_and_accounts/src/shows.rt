@@ -18,29 +18,29 @@ fn count(n: u64) -> MessageCount {
 }
 
 // Prints what is shown, with the bytes at the place that it tells, and the cursor of the next message.
-fn told(s: Shown, datagram: &[u8]) {
+fn told(rt: &impl Print, s: Shown, datagram: &[u8]) {
     let found = s.located;
     let next = s.next;
-    print::number(b"exists=", one_if(found.exists));
-    print::number(b" offset=", found.offset.0 as u64);
-    print::number(b" length=", found.length as u64);
-    print::text(b" bytes=");
-    print::bytes(parts::part(datagram, found.offset, found.length));
-    print::number(b" left=", s.left.0 as u64);
-    print::number(b" next n=", next.at.0 as u64);
-    print::number(b" m=", next.left.0 as u64);
+    print::number(rt, b"exists=", one_if(found.exists));
+    print::number(rt, b" offset=", found.offset.0 as u64);
+    print::number(rt, b" length=", found.length as u64);
+    print::text(rt, b" bytes=");
+    print::bytes(rt, parts::part(datagram, found.offset, found.length));
+    print::number(rt, b" left=", s.left.0 as u64);
+    print::number(rt, b" next n=", next.at.0 as u64);
+    print::number(rt, b" m=", next.left.0 as u64);
 }
 
-fn show(fields: &[u8], datagram: &[u8]) {
+fn show(rt: &impl Print, fields: &[u8], datagram: &[u8]) {
     let from = Cursor {
         at: ByteOffset(parse::number(fields, b'n') as usize),
         left: count(parse::number(fields, b'm')),
     };
-    told(moldudp64_reader::show(from, datagram), datagram);
+    told(rt, moldudp64_reader::show(from, datagram), datagram);
 }
 
-pub(crate) fn ask(fields: &[u8]) {
+pub(crate) fn ask(rt: &impl Print, fields: &[u8]) {
     let mut room = [0u8; MOST_BYTES];
     let n = parse::bytes(fields, b'a', &mut room);
-    show(fields, &room[..n]);
+    show(rt, fields, &room[..n]);
 }

@@ -17,52 +17,52 @@ fn state(letter: u8) -> ServerState {
     }
 }
 
-fn told_state(state: ServerState) {
+fn told_state(rt: &impl Print, state: ServerState) {
     match state {
-        ServerState::Waiting => print::text(b" waiting"),
-        ServerState::In => print::text(b" in"),
-        ServerState::Closed => print::text(b" closed"),
+        ServerState::Waiting => print::text(rt, b" waiting"),
+        ServerState::In => print::text(rt, b" in"),
+        ServerState::Closed => print::text(rt, b" closed"),
     }
 }
 
-fn told_place(at: ByteOffset, length: usize) {
-    print::number(b" at=", at.0 as u64);
-    print::number(b" length=", length as u64);
+fn told_place(rt: &impl Print, at: ByteOffset, length: usize) {
+    print::number(rt, b" at=", at.0 as u64);
+    print::number(rt, b" length=", length as u64);
 }
 
-fn told_answer(answer: Answer) {
+fn told_answer(rt: &impl Print, answer: Answer) {
     match answer {
-        Answer::NeedMore => print::text(b"need more"),
-        Answer::Accepted { number } => print::number(b"accepted number=", number.0),
-        Answer::Rejected { reason } => print::number(b"rejected reason=", reason as u64),
+        Answer::NeedMore => print::text(rt, b"need more"),
+        Answer::Accepted { number } => print::number(rt, b"accepted number=", number.0),
+        Answer::Rejected { reason } => print::number(rt, b"rejected reason=", reason as u64),
         Answer::Sequenced { number, at, length } => {
-            print::number(b"sequenced number=", number.0);
-            told_place(at, length);
+            print::number(rt, b"sequenced number=", number.0);
+            told_place(rt, at, length);
         }
         Answer::Unsequenced { at, length } => {
-            print::text(b"unsequenced");
-            told_place(at, length);
+            print::text(rt, b"unsequenced");
+            told_place(rt, at, length);
         }
-        Answer::Heartbeat => print::text(b"heartbeat"),
-        Answer::Debug => print::text(b"debug"),
-        Answer::LoggedOut => print::text(b"logged out"),
-        Answer::EndOfSession => print::text(b"end of session"),
-        Answer::Refused(r) => print::number(b"refused ", r.number as u64),
+        Answer::Heartbeat => print::text(rt, b"heartbeat"),
+        Answer::Debug => print::text(rt, b"debug"),
+        Answer::LoggedOut => print::text(rt, b"logged out"),
+        Answer::EndOfSession => print::text(rt, b"end of session"),
+        Answer::Refused(r) => print::number(rt, b"refused ", r.number as u64),
     }
 }
 
 // Prints an answer, how many bytes it took, and the server after it.
-fn told(stepped: Stepped) {
+fn told(rt: &impl Print, stepped: Stepped) {
     let answer = stepped.answer;
     let after = stepped.server;
     let name = after.session;
     let now = after.state;
-    told_answer(answer);
-    print::number(b" size=", stepped.size as u64);
-    print::text(b" after ");
-    print::bytes(&name);
-    print::number(b" ", after.last.0);
-    told_state(now);
+    told_answer(rt, answer);
+    print::number(rt, b" size=", stepped.size as u64);
+    print::text(rt, b" after ");
+    print::bytes(rt, &name);
+    print::number(rt, b" ", after.last.0);
+    told_state(rt, now);
 }
 
 // The server that the fields tell, in any state.
@@ -78,19 +78,22 @@ fn server(fields: &[u8]) -> Server {
     }
 }
 
-fn step(fields: &[u8], table: &[u8], stream: &[u8]) {
-    told(accounts::step_among(
-        server(fields),
-        lookups::by_value(table),
-        lookups::used(fields),
-        stream,
-    ));
+fn step(rt: &impl Print, fields: &[u8], table: &[u8], stream: &[u8]) {
+    told(
+        rt,
+        accounts::step_among(
+            server(fields),
+            lookups::by_value(table),
+            lookups::used(fields),
+            stream,
+        ),
+    );
 }
 
-pub(crate) fn ask(fields: &[u8]) {
+pub(crate) fn ask(rt: &impl Print, fields: &[u8]) {
     let mut table = [0u8; lookups::TABLE_SIZE];
     parse::bytes(fields, b'a', &mut table);
     let mut room = [0u8; MOST_BYTES];
     let n = parse::bytes(fields, b'b', &mut room);
-    step(fields, &table, &room[..n]);
+    step(rt, fields, &table, &room[..n]);
 }
