@@ -23,12 +23,7 @@ fn fill(input: &mut impl Read, buf: &mut [u8], have: usize) -> usize
 
 // Turns until it is over, in a buffer that has room behind whatever is kept. A proved loop has to end, and nothing says
 // that the input does: the turns are counted down from a number that no run uses up.
-fn read_all(
-    input: &mut impl Read,
-    lengths: &mut [u8],
-    slots: &mut [u8],
-    buf: &mut [u8],
-) -> Reading
+fn read_all(input: &mut impl Read, lengths: &mut [u8], slots: &mut [u8], buf: &mut [u8]) -> Reading
     requires { most_kept < length buf.old }
     ensures { is_over result.stage ≡ true }
 {
@@ -61,13 +56,7 @@ fn print(rt: &impl Print, reading: Reading) {
 }
 
 // Reads and prints, in the memory that is lent: the receiver's lengths and slots, and the buffer.
-fn run(
-    rt: &impl Print,
-    input: &mut impl Read,
-    lengths: &mut [u8],
-    slots: &mut [u8],
-    buf: &mut [u8],
-)
+fn run(rt: &impl Print, input: &mut impl Read, lengths: &mut [u8], slots: &mut [u8], buf: &mut [u8])
     requires { most_kept < length buf.old }
 {
     print(rt, read_all(input, lengths, slots, buf));
@@ -78,11 +67,5 @@ fn main(rt: HostRuntime) {
     let mut lengths = [0u8; LENGTH_BYTES];
     let mut slots = [0u8; SLOT_BYTES];
     let mut space = [0u8; 262144];
-    run(
-        &rt,
-        &mut input,
-        &mut lengths,
-        &mut slots,
-        &mut space,
-    );
+    run(&rt, &mut input, &mut lengths, &mut slots, &mut space);
 }
