@@ -17,13 +17,20 @@ CLOSING = {"(": ")", "{": "}"}
 
 def crates():
     """Each line of crates.txt: the crate, and what it depends on."""
-    lines = re.findall(r"^(\w+):([^\n#]*)", (ROOT / "crates.txt").read_text(), re.M)
+    lines = re.findall(r"^(\w+)(?: staticlib)?:([^\n#]*)", (ROOT / "crates.txt").read_text(), re.M)
     return {name: deps.split() for name, deps in lines}
+
+
+def static_libraries():
+    """The crates that hosts in other languages link; no crate stands on one."""
+    return re.findall(r"^(\w+) staticlib:", (ROOT / "crates.txt").read_text(), re.M)
 
 
 def libraries():
     """The libraries of crates.txt that make promises, in its order."""
-    return [n for n in crates() if not n.startswith(ASIDE) and (ROOT / "crates" / n / "src/lib.rt").exists()]
+    aside = set(static_libraries())
+    listed = [name for name in crates() if name not in aside and not name.startswith(ASIDE)]
+    return [name for name in listed if (ROOT / "crates" / name / "src/lib.rt").exists()]
 
 
 def reached_by(crate):
