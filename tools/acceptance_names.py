@@ -15,10 +15,10 @@ PAGE = ROOT / "docs/ACCEPTANCE.md"
 def known():
     """Every word of the sources, but for comments, that a name may be made of."""
     words = set()
-    for path in ROOT.glob("crates/**/*"):
+    for path in (path for path in ROOT.glob("crates/**/*") if "out" not in path.parts):
         if path.suffix in (".rt", ".antt") and "proofs" not in path.parts:
             code = re.sub(r"(//|--)[^\n]*", "", path.read_text())
-            words |= set(re.findall(r"[\w·-]+", code))
+            words |= set(re.findall(r"[\w-]+", code))
         words |= {path.stem} if path.suffix == ".edit" else {path.name}
     return words | {"rt", "requires", "ensures"}
 
@@ -27,7 +27,7 @@ def main():
     words = known()
     page = PAGE.read_text()
     paths = set(re.findall(r"`((?:bench|crates|docs|hosts|include|tools)/[\w./-]+)`", page))
-    names = set(re.findall(r"`(\w[\w·:-]*)`", page))
+    names = set(re.findall(r"`(\w[\w:-]*)`", page))
     missing = [path for path in sorted(paths) if not (ROOT / path).exists()]
     missing += [name for name in sorted(names) if not set(name.split("::")) <= words]
     faults = [f"{PAGE.name}: `{name}` stands nowhere" for name in missing]

@@ -30,9 +30,7 @@ would name (`must-fail/`). None has a `requires`. A statement in capitals is a t
 def plain(clause):
     """A clause on one line, without the marks that every clause has."""
     text = re.sub(r"\s*(?://[^\n]*)?\n\s*", " ", clause).strip()
-    text = re.sub(r"^λ (r|_)\. ⌜\s*(.*?)\s*⌝$", r"\2", text)
-    text = re.sub(r"\(now \((\w+) \.entry\)\)|now \((\w+) \.entry\)", lambda m: m.group(1) or m.group(2), text)
-    return re.sub(r"\(now \((\w+) \.exit\)\)|now \((\w+) \.exit\)", lambda m: f"{m.group(1) or m.group(2)}′", text)
+    return re.sub(r"\b([a-z]\w*)\.(now|old|new)\b", lambda m: m[1] + "′" * (m[2] == "new"), text)
 
 
 def faults_of(function, promises, refused, why, edits):

@@ -3,7 +3,7 @@
 
     tools/header_refusals.py --check    compares, and exits 1 on a difference
 
-A contract says `RefusesOnly r (19 ∷ 41 ∷ [])`, and the comment in front of the declaration `refusals:  19, 41`, up to
+A contract says `RefusesOnly result (19 ∷ 41 ∷ [])`, and the comment in front of the declaration `refusals:  19, 41`, up to
 the first full stop. The numbers are to be the same ones, and in the same order but for 41. Where a number has two
 places in a function's order the header lists it twice, and the first one counts: 41 for a state and again for words.
 A function without the clause has no list.
@@ -22,7 +22,7 @@ def in_contracts():
     found = {}
     for item in (item for crate in sources.libraries() for item in sources.items_of(crate) if item.is_exported):
         clauses = " ".join(" ".join(text.split()) for kind, text in item.clauses if kind == "ensures")
-        listed = re.findall(r"RefusesOnly r \(([\d ∷]*)\[\]\)", clauses)
+        listed = re.findall(r"RefusesOnly result \(([\d ∷]*)\[\]\)", clauses)
         found[item.name] = [int(n) for numbers in listed for n in re.findall(r"\d+", numbers)]
     return found
 

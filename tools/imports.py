@@ -8,29 +8,35 @@ import re
 import sys
 
 ROOT = pathlib.Path(__file__).resolve().parent.parent
-USE = re.compile(r"^((?:pub )?(?:ghost )?use [^\n{;]+?\.)\{([^}\n]*)\}(;?)\n", re.M)
+USE = re.compile(r"^((?:pub )?(?:ghost )?use [^\n{;]+?(?:\.|::))\{([^}]*)\}(;?)\n", re.M)
 ALIAS = re.compile(r"^(?:ghost )?use [^\n{;]+ as (\S+?);?\n", re.M)
 PATH = re.compile(r"^use (?:\w+::)*(\w+);\n", re.M)
 
 
 def is_used(name, body):
     """A name, or each word of an operator, stands in the text."""
-    is_operator = name.startswith("_") or name.endswith("_")
-    words = [word for word in name.split("_") if word] if is_operator else [name]
+    words = [word for word in name.split("◌") if word]
     return all(re.search(as_word(word), body) for word in words)
 
 
 def as_word(word):
     """A pattern that finds a word, and no longer word that has it in it."""
-    edge = r"[\w\-·₀-₉′]"
+    edge = r"[\w\-₀-₉']"
     before = rf"(?<!{edge})" if re.match(r"\w", word) else ""
     behind = rf"(?!{edge})" if re.search(r"\w$", word) else ""
     return before + re.escape(word) + behind
 
 
 def body_of(text, comment):
+    text = USE.sub("", text)
     lines = [line for line in text.split("\n") if not re.match(r"\s*(?:pub )?(?:ghost )?use ", line)]
     return re.sub(comment + r".*", "", "\n".join(lines))
+
+
+def last_of(name, before):
+    """What a name of a list is called in its file: `b` of `a::b`, `c` of `b as c`, and the path's end of `self`."""
+    last = re.split(r" as |::", name)[-1]
+    return re.split(r"[.:]+", before.rstrip(".:"))[-1] if last == "self" else last
 
 
 def unused(path, fix):
@@ -39,8 +45,8 @@ def unused(path, fix):
     found = []
 
     def names(match):
-        listed = [name.strip() for name in match[2].split(",")]
-        left = [name for name in listed if match[1].startswith("pub") or is_used(name.split(" as ")[-1], body)]
+        listed = [name.strip() for name in match[2].split(",") if name.strip()]
+        left = [name for name in listed if match[1].startswith("pub") or is_used(last_of(name, match[1]), body)]
         found.extend(name for name in listed if name not in left)
         if left == listed:
             return match[0]
@@ -64,11 +70,11 @@ def unused(path, fix):
 def main():
     fix = sys.argv[1:] == ["--fix"]
     count = 0
-    for path in sorted((ROOT / "crates").rglob("*")):
-        if path.suffix in (".antt", ".rt") and path.is_file():
-            for name in unused(path, fix):
-                print(f"{path.relative_to(ROOT)}: {name} is brought in and never used")
-                count += 1
+    files = (path for part in ("src", "specs", "proofs") for path in ROOT.glob(f"crates/*/{part}/**/*"))
+    for path in sorted(path for path in files if path.suffix in (".antt", ".rt")):
+        for name in unused(path, fix):
+            print(f"{path.relative_to(ROOT)}: {name} is brought in and never used")
+            count += 1
     if count == 0:
         print("imports: all are used")
     sys.exit(1 if count and not fix else 0)

@@ -4,7 +4,7 @@
     tools/refusals.py            writes its names and words into the five places that repeat them
     tools/refusals.py --check    compares, and exits 1 on a difference
 
-Where OUTPUT_SHORT stands in the table, the definitions say outputShort, the header EIDERWAGON_REFUSED_OUTPUT_SHORT, the
+Where OUTPUT_SHORT stands in the table, the definitions say output_short, the header EIDERWAGON_REFUSED_OUTPUT_SHORT, the
 wrapper REFUSED_OUTPUT_SHORT and Ground::OutputShort. A missing row is said, and written by hand.
 """
 import re
@@ -33,10 +33,6 @@ def small(text):
     return text[0].lower() + text[1:]
 
 
-def camel(name):
-    return small(pascal(name))
-
-
 def wrapped(ground):
     """A ground in the header, in lines of at most 120 columns."""
     return ("\n" + " " * 51).join(textwrap.wrap(ground, 66))
@@ -53,7 +49,7 @@ PLACES = (
     (
         "crates/wire/specs/Refusals.antt",
         r"^-- .*\nabbrev pub \w+ : ℕ\n\w+ = (?P<number>\d+)$",
-        lambda row: f"-- {small(row[2])}\nabbrev pub {camel(row[1])} : ℕ\n{camel(row[1])} = {row[0]}",
+        lambda row: f"-- {small(row[2])}\nabbrev pub {row[1].lower()} : ℕ\n{row[1].lower()} = {row[0]}",
     ),
     (
         "include/eiderwagon.h",

@@ -125,10 +125,16 @@ def functions_of(crate):
     return [item for item in items_of(crate) if item.public and item.is_function]
 
 
+def imported_in(text):
+    """The names that a file brings in from its own crate, one to a `use` or several in braces."""
+    listed = re.findall(r"^use crate::(?:\w+::)*(\w+|\{[^}]*\});", text, re.M)
+    return [name for names in listed for name in re.findall(r"\w+", names)]
+
+
 def owned_by(crate):
     """For each public function of a crate its own items: itself, and what no other public function reaches."""
     items = items_of(crate)
-    imported = {i.path: re.findall(r"^use crate::(?:\w+::)*(\w+);", i.path.read_text(), re.M) for i in items}
+    imported = {i.path: imported_in(i.path.read_text()) for i in items}
     used = {a: [b for b in items if b is not a and a.uses(b, imported)] for a in items}
     public = [i for i in items if i.public and i.is_function]
     reached = {}
