@@ -31,7 +31,7 @@ program := hosts/program/target/release/eiderwagon
 completions := $(addprefix target/completions/,bash zsh fish)
 man := hosts/program/man
 
-proved := $(shell find crates -name must-fail -prune -o -type f -print) crates.txt toolchain.txt
+proved := $(shell find crates \( -name must-fail -o -name out \) -prune -o -type f -print) crates.txt toolchain.txt
 rust := $(shell find hosts/program/src hosts/eiderwagon/src -type f) \
     $(wildcard $(foreach crate,program eiderwagon,hosts/$(crate)/Cargo.toml hosts/$(crate)/build.rs))
 

@@ -23,10 +23,10 @@ toolchain() {
 
 text_checks() {
     step "toolchain" toolchain
-    step "rt fmt" rt fmt --check
     step "direct dependencies" python3 tools/direct_dependencies.py --check
     step "refusals" python3 tools/refusals.py --check
     step "signatures" python3 tools/signatures.py
+    step "library" python3 tools/library.py --check
     step "header's refusals" python3 tools/header_refusals.py --check
     step "must-fail edits" python3 tools/edits.py
     step "mutations" python3 tools/mutations.py --check

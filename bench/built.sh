@@ -3,7 +3,8 @@
 
 # Whether a built file is missing, or something that it is made of is newer.
 stale() { # FILE
-    [ ! -f "$1" ] || [ -n "$(find crates crates.txt toolchain.txt -newer "$1" -print -quit)" ]
+    [ ! -f "$1" ] ||
+        [ -n "$(find crates crates.txt toolchain.txt -name out -prune -o -type f -newer "$1" -print -quit)" ]
 }
 
 # The library for hosts, in some minutes.
@@ -15,8 +16,8 @@ build_library() {
 
 # A program that reads captures. One that was proved already isn't written again, so it is marked as looked at.
 build_program() { # NAME
-    if stale "target/bin/$1"; then
-        rt check "$1"
-        touch "target/bin/$1"
+    if stale "crates/$1/out/$1"; then
+        tools/rt_in.sh "$1" run
+        touch "crates/$1/out/$1"
     fi
 }

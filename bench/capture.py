@@ -6,7 +6,7 @@
 Makes two captures of the size in a temporary folder (TMPDIR names another place for it), one of ordinary datagrams and one of
 heartbeats alone. Each is run N times as `cat CAPTURE | wc -c` and `cat CAPTURE | FILE`, in turns, so that what else the machine
 does meets both. Printed are the seconds, the ratio of the program to `wc -c`, and the program's peak memory on the capture and on
-one of a tenth of its size. Only Linux tells the memory. Build the program first: `rt check capture_report`.
+one of a tenth of its size. Only Linux tells the memory. Build the program first: `tools/rt_in.sh capture_report run`.
 """
 import argparse
 import fcntl
@@ -25,6 +25,11 @@ SESSION = b"READROOM01"
 SETTINGS = b"session=%b\nnext=1\nlimit=100\n" % SESSION
 # where a record has the number of its datagram: after the record's length and the session
 NUMBER_AT = 2 + len(SESSION)
+
+
+def proved(program):
+    """Where `rt` leaves a proved program."""
+    return ROOT / "crates" / program / "out" / program
 
 
 def record(number, messages):
@@ -138,7 +143,7 @@ def main():
     parser = argparse.ArgumentParser(description="Times the capture program against wc -c, and measures its memory.")
     parser.add_argument("--size", type=int, default=10**9, help="bytes of each capture (default: 1 GB)")
     parser.add_argument("--runs", type=int, default=9, help="runs of each program (default: 9)")
-    parser.add_argument("--program", default=str(ROOT / "target" / "bin" / "capture_report"), help="the built program")
+    parser.add_argument("--program", default=str(proved("capture_report")), help="the built program")
     arguments = parser.parse_args()
     with tempfile.TemporaryDirectory() as folder:
         bench("ordinary datagrams", ordinary, pathlib.Path(folder), arguments)

@@ -14,8 +14,6 @@ import tempfile
 sys.dont_write_bytecode = True
 import capture
 
-PROGRAMS = capture.ROOT / "target" / "bin"
-
 
 def least(run, path, programs, runs):
     """The least seconds of each program."""
@@ -30,8 +28,8 @@ def main():
     parser = argparse.ArgumentParser(description="Times missing_report against capture_report.")
     parser.add_argument("--runs", type=int, default=31, help="runs of each program (default: 31)")
     parser.add_argument("--size", type=int, default=2 * 10**8, help="bytes of each capture (default: 200 MB)")
-    parser.add_argument("--missing", default=str(PROGRAMS / "missing_report"), help="what lists what is missing")
-    parser.add_argument("--report", default=str(PROGRAMS / "capture_report"), help="what prints the report")
+    parser.add_argument("--missing", default=str(capture.proved("missing_report")), help="what lists what is missing")
+    parser.add_argument("--report", default=str(capture.proved("capture_report")), help="what prints the report")
     arguments = parser.parse_args()
     print(f"a capture of {arguments.size // 10**6} MB, the least of {arguments.runs} runs")
     print("| capture | missing_report | capture_report | ratio |\n|---|---|---|---|")

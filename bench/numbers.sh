@@ -3,7 +3,7 @@
 set -euo pipefail
 cd "$(dirname "$0")/.."
 echo "proving and building both leaves"
-rt staticlib bench_numbers >/dev/null
+tools/rt_in.sh bench_numbers lib
 mkdir -p target/bench
-rustc -O --edition 2021 bench/numbers/main.rs -o target/bench/numbers -L native=target/staticlib -l static=bench_numbers
+rustc -O --edition 2021 bench/numbers/main.rs -o target/bench/numbers -L native=crates/bench_numbers/out -l static=bench_numbers
 target/bench/numbers

@@ -76,11 +76,10 @@ def least(pcap, plain, arguments, *options):
 def main():
     parser = argparse.ArgumentParser(description="Times `eiderwagon report` on a pcap against capture_report.")
     program = capture.ROOT / "hosts" / "program" / "target" / "release" / "eiderwagon"
-    report = capture.ROOT / "target" / "bin" / "capture_report"
     parser.add_argument("--runs", type=int, default=9, help="runs of each program (default: 9)")
     parser.add_argument("--size", type=int, default=10**9, help="bytes of the pcap (default: 1 GB)")
     parser.add_argument("--program", default=str(program), help="the program")
-    parser.add_argument("--report", default=str(report), help="the proved capture program")
+    parser.add_argument("--report", default=str(capture.proved("capture_report")), help="the proved capture program")
     arguments = parser.parse_args()
     with tempfile.TemporaryDirectory() as folder:
         pcap, plain = pathlib.Path(folder) / "pcap", pathlib.Path(folder) / "capture"

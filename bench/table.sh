@@ -13,4 +13,4 @@ build_program capture_report
 cargo build --quiet --release --offline --manifest-path hosts/Cargo.toml -p yardstick
 programs=${CARGO_TARGET_DIR:-hosts/target}/release
 "$programs/yardstick" table "$@"
-python3 bench/programs.py --library target/bin/capture_report --rust "$programs/report" "$@"
+python3 bench/programs.py --library crates/capture_report/out/capture_report --rust "$programs/report" "$@"

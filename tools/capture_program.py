@@ -1,7 +1,7 @@
 #!/usr/bin/env python3
-"""Runs the programs that read captures, target/bin/capture_report and target/bin/missing_report, on captures of several
-times their buffer, from a file, through a pipe, and from a socket that hands out one piece of a chosen size a read, and
-compares what they print with the documents' rules.
+"""Runs the programs that read captures, capture_report and missing_report, as `rt` left them in crates/NAME/out, on
+captures of several times their buffer, from a file, through a pipe, and from a socket that hands out one piece of a
+chosen size a read, and compares what they print with the documents' rules.
 
     tools/capture_program.py              runs both
     tools/capture_program.py PROGRAM...   runs these
@@ -169,7 +169,7 @@ def main():
         if name not in RULES:
             sys.exit(__doc__)
         count = 0
-        for title, way, printed, wanted in runs(name, ROOT / "target" / "bin" / name):
+        for title, way, printed, wanted in runs(name, ROOT / "crates" / name / "out" / name):
             if printed != wanted:
                 sys.exit(f"{name}, {title}, {way}: printed {printed!r} and not {wanted!r}")
             count += 1

@@ -21,7 +21,7 @@ LIST = ROOT / "docs/ENTRY-POINTS.md"
 HEADER = """# Entry points
 
 Made by `tools/entry_points.py` from the sources; the gate compares. Every public function of the libraries: what it
-promises of its result `r` and of lent memory (`out` is a lent output as it came, `out′` as it is left); how many drawn
+promises of its `result` and of lent memory (`out` is a lent output as it came, `out′` as it is left); how many drawn
 changes of its code the prover refused (`docs/MUTATIONS.md` shows them); and the mistakes that a reader of the tender
 would name (`must-fail/`). None has a `requires`. A statement in capitals is a theorem in `specs/`.
 """

@@ -22,12 +22,5 @@ if ! command -v rt >/dev/null; then
 fi
 
 # one line for each crate that is proved, on standard error; the prover's own words only where it fails
-log=$(mktemp)
-trap 'rm -f "$log"' EXIT
-(cd "$top" && rt check "$program") 2>&1 | tee "$log" | grep --line-buffered -E '^rt: \w+ proved \([0-9]+ s\)' >&2
-if [ "${PIPESTATUS[0]}" -ne 0 ]; then
-    tail -n 20 "$log" >&2
-    exit 1
-fi
-rm -f "$log"
-exec "$top/target/bin/$program" <"$capture"
+"$top/tools/rt_in.sh" "$program" run || exit 1
+exec "$top/crates/$program/out/$program" <"$capture"

@@ -1,6 +1,6 @@
 #!/usr/bin/env bash
-# The tests of the program `eiderwagon`, over target/staticlib/libeiderwagon.a and the proved programs in target/bin:
-# its own, its installation, and the commands that its page prints.
+# The tests of the program `eiderwagon`, over target/staticlib/libeiderwagon.a and the proved programs, which
+# tools/rt_in.sh builds: its own, its installation, and the commands that its page prints.
 set -euo pipefail
 cd "$(dirname "$0")/../.."
 

@@ -10,8 +10,8 @@ use std::process::Command;
 const PAIRS: [(&str, &str); 2] = [("report", "capture_report"), ("missing", "missing_report")];
 
 fn proved(program: &str) -> PathBuf {
-    let path = repository().join("target/bin").join(program);
-    assert!(path.exists(), "{program} isn't built: rt check {program}");
+    let path = repository().join("crates").join(program).join("out").join(program);
+    assert!(path.exists(), "{program} isn't built: tools/rt_in.sh {program} run");
     path
 }
 
