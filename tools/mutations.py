@@ -8,11 +8,11 @@
 
 A change (tools/changes.py) is of one operator, number or name, in a line of the function or of a helper that no other
 public function of its crate reaches. For each function changes are drawn until `each` of them (2) are refused for a
-fact that fails, on lines that differ where there are such. What the compiler turns down, or compiles to the same, is no
-change. One after which the proof only no longer fits the code (it is asked for more or fewer facts, or walks the code
-by hand) is unfit: it shows nothing, and isn't counted. One that is still proved is a survivor: the two programs mean
-the same, or a contract has a hole; a person writes which, as its `reason`, into docs/mutations/NAME.json. A function
-that offers fewer than two gets a must-fail edit that names it, or a `why` there. Drawing anew keeps both.
+fact that fails, on lines that differ where there are such. What the compiler turns down is no change. One after which
+the proof only no longer fits the code (it names what the code no longer has) is unfit: it shows nothing, and isn't
+counted. One that is still proved is a survivor: the two programs mean the same, or a contract has a hole; a person
+writes which, as its `reason`, into docs/mutations/NAME.json. A function that offers fewer than two gets a must-fail
+edit that names it, or a `why` there. Drawing anew keeps both.
 
 The work is done in a copy, over what `rt check` proved, and takes a few seconds for each change.
 """
@@ -22,7 +22,6 @@ import json
 import pathlib
 import random
 import re
-import shutil
 import subprocess
 import sys
 import tempfile
@@ -33,90 +32,48 @@ from sources import ROOT
 
 DATA = ROOT / "docs/mutations"
 PAGE = ROOT / "docs/MUTATIONS.md"
-# what the prover says of a fact that it doesn't find; every other error is of a proof that no longer fits
-ERROR = re.compile(r"^(?:\S+: error: .*|note: \S+: it is not proved that .*)", re.M)
-FACT = re.compile(r"no proof of|it is not proved that|does not follow|found no proof|`(?:search|omega|simp|cc)`")
-# the steps of the code, as `rt mir` prints them
-STEP = re.compile(r"\((fn-def|assign|if|switch|arm|call|loop|block|exit|op1|op2|aggregate|addrOf|deref)\b")
+# what the prover says where it refuses, and what it says where a proof names what the code no longer has
+ERROR = re.compile(r"^(?:\S+:\d+:\d+: error.*|note: \S+:\d+:\d+: .*)", re.M)
+OF_NAMES = re.compile(r"^(?:note: )?(?:\./)?proofs/.*(?:has no field|is not in scope|has no `|was not admitted)")
 
 
 class Room:
-    """A copy of the repository in which one crate can be changed and checked, over what is proved already."""
+    """A copy of a crate and of those below it, in which the crate can be changed and checked over what is proved."""
 
     def __init__(self, name, folder):
-        self.name, self.copy, self.made = name, folder / "copy", folder / "made"
-        self.copy.mkdir()
-        shutil.copy(ROOT / "crates.txt", self.copy)
-        shutil.copytree(ROOT / "crates", self.copy / "crates")
-        for part in ("rlib", "stamp"):
-            (self.copy / "target" / part).mkdir(parents=True)
-            for proved in (ROOT / "target" / part).glob("*"):
-                if proved.stem in sources.reached_by(name):
-                    subprocess.run(["cp", "-R", proved, self.copy / "target" / part], check=True)
+        self.name, self.copy = name, folder / "copy"
+        wanted = [crate for crate in sources.crates() if crate in sources.reached_by(name) | {name}]
+        (self.copy / "crates").mkdir(parents=True)
+        for crate in wanted:
+            subprocess.run(["cp", "-R", ROOT / "crates" / crate, self.copy / "crates"], check=True)
+        listed = (f"{crate}: {' '.join(sources.crates()[crate])}\n" for crate in wanted)
+        (self.copy / "crates.txt").write_text("".join(listed))
         self.is_proved = self.check()[0] == "proved"
-        self.mir, self.needs = self.rt("mir"), None
-
-    def rt(self, verb, *words):
-        """What `rt` prints; nothing where the crate is no program."""
-        pipes = {"stdin": subprocess.DEVNULL, "stdout": subprocess.PIPE, "stderr": subprocess.STDOUT}
-        run = subprocess.run(["rt", verb, self.name, *words], cwd=self.copy, check=False, **pipes)
-        return run.stdout.decode(errors="replace") if verb != "mir" or run.returncode == 0 else ""
 
     def check(self):
         """What the prover says of the crate as it stands (nothing where it can't tell), and the errors it names."""
-        said = self.rt("dev")
+        pipes = {"stdin": subprocess.DEVNULL, "stdout": subprocess.PIPE, "stderr": subprocess.STDOUT}
+        run = subprocess.run(["rt", "check"], cwd=self.copy / "crates" / self.name, check=False, **pipes)
+        said = run.stdout.decode(errors="replace")
         logic = re.findall(r"^logic=(proved|not-proved)", said, re.M)
-        return logic[-1] if logic else None, [e for e in ERROR.findall(said) if "was not admitted" not in e]
-
-    def needs_now(self):
-        """For each function whose proof follows the code by itself, how many facts are asked of it."""
-        shutil.rmtree(self.made, ignore_errors=True)
-        self.rt("dev", "--generated", str(self.made))
-        return {path.parent: path.read_text().count("abbrev pub Need-") for path in self.made.rglob("Tie.antt")}
-
-    def fits(self, mir):
-        """Whether the proof is asked for as many facts as before: surely where the code has the same steps."""
-        if STEP.findall(mir) == STEP.findall(self.mir):
-            return True
-        now = self.needs_now()
-        if self.needs is None:
-            self.needs = self.undone(self.needs_now)
-        return now == self.needs
-
-    def undone(self, do):
-        """Does something with the change taken back."""
-        file, before = self.changed
-        changed = file.read_text()
-        file.write_text(before)
-        answer = do()
-        file.write_text(changed)
-        return answer
+        return logic[-1] if logic else None, ERROR.findall(said)
 
     def verdict_on(self, change):
-        """proved, refused (for a fact that fails), unfit (the proof no longer fits), or nothing (no other program)."""
+        """proved, refused (for a fact that fails), unfit (the proof no longer fits), or nothing (no program)."""
         path, at, line, new, _ = change
         file = self.copy / path
         text = file.read_text()
         lines = text.splitlines(keepends=True)
         assert lines[at] == line + "\n"
         lines[at] = new + "\n"
-        self.changed = file, text
         file.write_text("".join(lines))
         try:
-            mir = self.rt("mir")
-            if mir in ("", self.mir):
-                return None
             said, errors = self.check()
-            if said != "not-proved":
-                return said
-            return "refused" if errors and self.is_fact(errors[0]) and self.fits(mir) else "unfit"
         finally:
             file.write_text(text)
-
-    def is_fact(self, error):
-        """Whether an error is a fact that isn't found, and not of a proof that walks the code by hand."""
-        proof = re.match(r"(/\S+/Proof\.antt):", error)
-        return bool(FACT.search(error)) and (not proof or ".Tie as tie" in pathlib.Path(proof.group(1)).read_text())
+        if said != "not-proved":
+            return said
+        return "refused" if any(not OF_NAMES.search(error) for error in errors) else "unfit"
 
 
 def row_of(change):
