@@ -22,6 +22,7 @@ ROOT_FILE = """// The library for hosts in other languages: the functions of the
 #![tactic(auto)]
 
 """
+TACTIC = re.compile(r"^#\[tactic\((?:[^()]|\([^()]*\))*\)\]\n", re.M)
 IMPORT = re.compile(r"^ghost use ([\w.]+)\.\{([^}]*)\};$", re.M)
 
 
@@ -67,11 +68,13 @@ def text_of(crate, item):
     lines = item.path.read_text().split("\n")
     head = next(i for i in range(item.lines[0], -1, -1) if lines[i].startswith("#[unsafe(no_mangle)]"))
     start = head
-    while lines[start - 1].startswith("//"):
+    while lines[start - 1]:
         start -= 1
+    # how its own body is proved is no matter of the call's
+    promise = TACTIC.sub("", "\n".join(lines[start : item.lines[0]]))
     names = re.findall(r"(?:^\(|, )(\w+):", item.signature.replace(",)", ")").replace("( ", "("))
     call = "::".join((crate, *item.module, item.name))
-    return "\n".join([*lines[start : item.lines[0]], "{", f"    {call}({', '.join(names)})", "}"])
+    return "\n".join([promise, "{", f"    {call}({', '.join(names)})", "}"])
 
 
 def files():

@@ -17,7 +17,8 @@ import sources
 from sources import ROOT
 
 PAGES = sorted([*ROOT.glob("*.md"), *ROOT.glob("docs/*.md"), *ROOT.glob("hosts/*.md"), *ROOT.glob("hosts/program/*.md"), *ROOT.glob("captures/*.md")])
-MADE = {"ENTRY-POINTS.md", "MUTATIONS.md"}  # by other tools, tables for the most part
+# by other tools, tables for the most part; and old and new words side by side
+WIDE = {"ENTRY-POINTS.md", "MUTATIONS.md", "PORT.md", "PORT-C.md"}
 COLUMNS = 100
 README_BYTES = 8192
 PRINTED = re.compile(r"(<!-- from (\S+): ([^>]+?) -->\n\n```text\n)(.*?)(```\n)", re.S)
@@ -90,7 +91,7 @@ def faults(page):
     text, name = page.read_text(), page.relative_to(ROOT)
     if renewed(page) != text:
         yield f"{name}: what it prints of the sources differs: run tools/pages.py"
-    if page.name not in MADE:
+    if page.name not in WIDE:
         yield from (f"{name}:{number}: more than {COLUMNS} columns" for number in wide(text))
     yield from (f"{name}: {target} leads nowhere" for target in links(page, text))
     if name.name == "README.md" and page.parent == ROOT and len(text.encode()) > README_BYTES:
