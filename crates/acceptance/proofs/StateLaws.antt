@@ -6,7 +6,7 @@ use mathlib.Core.Path.{◌≡◌, refl}
 use lib.ListN.{length, get_or}
 use lib.Dec.{eqb}
 use borrow.Author.Tests.{lt-ltb, le-ltb, ne_eqb}
-use Rattle.wire.specs.Choice.{if◌then◌else◌}
+use Rattle.std.specs.Prelude.{if◌then◌else◌}
 use Rattle.wire.proofs.Cases.{below_or_not}
 use Rattle.soupbintcp_server.specs.declared.server.ServerState.TheVariants as server
 use Rattle.soupbintcp_client.specs.declared.client.ClientState.TheVariants as client

@@ -1,6 +1,5 @@
 -- The states that hosts keep: what is promised of each, and that each is open by its first byte alone.
-use Rattle.std.specs.Prelude.{ℕ, ◌<◌, ◌≤◌, List, [], ◌∷◌, Bool, true, false, not, ◌≡◌, length, get_or, eqb}
-use Rattle.wire.specs.Choice.{if◌then◌else◌}
+use Rattle.std.specs.Prelude.{ℕ, ◌<◌, ◌≤◌, List, [], ◌∷◌, Bool, true, false, not, ◌≡◌, length, get_or, eqb, if◌then◌else◌}
 use Rattle.capture.specs.Reading.{is_over}
 use Rattle.capture_events.specs.Events.{is_over_at}
 use Rattle.capture_events.specs.Next.{at_of}

@@ -1,6 +1,5 @@
 -- A table of account records, beside one that is lent as bytes.
-use Rattle.std.specs.Prelude.{ℕ, ◌<◌, List, [], ◌∷◌, ◌++◌, ◌≡◌, length, ltb}
-use Rattle.wire.specs.Choice.{if◌then◌else◌}
+use Rattle.std.specs.Prelude.{ℕ, ◌<◌, List, [], ◌∷◌, ◌++◌, ◌≡◌, length, ltb, if◌then◌else◌}
 use Rattle.text_fields.specs.Sound.{username_size, password_size}
 use Rattle.login.specs.declared.account.Account.{Account}
 use Rattle.login.specs.Table.{account_size, accounts_of}

@@ -7,7 +7,7 @@ use native.Mathlib.Omega.{arith}
 use lib.ListN.{length, drop, replicate, length-replicate}
 use lib.Dec.{ltb, eqb}
 use borrow.Author.Tests.{eq-eqb, ltb-true}
-use Rattle.wire.specs.Choice.{if◌then◌else◌}
+use Rattle.std.specs.Prelude.{if◌then◌else◌}
 use Rattle.receiver.specs.Receiver.{refused_receiver}
 use Rattle.feed.specs.Session.{Datagram}
 use Rattle.early_holding.specs.declared.holding.EarlyReceiver.{EarlyReceiver}

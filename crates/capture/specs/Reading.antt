@@ -1,6 +1,5 @@
 -- A capture read piece by piece, as a list of bytes: the report is a fold over its events.
-use Rattle.std.specs.Prelude.{ℕ, ◌-◌, ◌≤◌, List, Bool, true, false, ◌≡◌, take, eqb}
-use Rattle.wire.specs.Choice.{if◌then◌else◌}
+use Rattle.std.specs.Prelude.{ℕ, ◌-◌, ◌≤◌, List, Bool, true, false, ◌≡◌, take, eqb, if◌then◌else◌}
 use Rattle.receiver.specs.Receiver.{refused_receiver}
 use Rattle.early_holding.specs.declared.holding.EarlyReceiver.{EarlyReceiver}
 use Rattle.early_holding.specs.Holding.{early}

@@ -1,6 +1,5 @@
 -- A program that reads a capture over one lent buffer: a reading, and how many bytes are kept at the buffer's front.
-use Rattle.std.specs.Prelude.{ℕ, List, [], ◌∷◌, length}
-use Rattle.wire.specs.Choice.{if◌then◌else◌}
+use Rattle.std.specs.Prelude.{ℕ, List, [], ◌∷◌, length, if◌then◌else◌}
 use Rattle.wire.specs.Output.{put}
 use Rattle.capture_events.specs.Turns.{Turn, turn_of}
 use Rattle.capture.specs.declared.reading.Reading.{Reading}

@@ -1,6 +1,5 @@
 -- A whole capture: what it means, and that the pieces it comes in don't matter.
-use Rattle.std.specs.Prelude.{ℕ, ◌≤◌, List, [], ◌∷◌, ◌++◌, true, ◌≡◌, length, drop, replicate, eqb}
-use Rattle.wire.specs.Choice.{if◌then◌else◌}
+use Rattle.std.specs.Prelude.{ℕ, ◌≤◌, List, [], ◌∷◌, ◌++◌, true, ◌≡◌, length, drop, replicate, eqb, if◌then◌else◌}
 use Rattle.wire.specs.Bounds.{session_size}
 use Rattle.wire.specs.Bytes.{joined, AreBytes}
 use Rattle.receiver.specs.Receiver.{receiver_start_refusal, refused_receiver}

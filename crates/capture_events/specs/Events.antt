@@ -1,7 +1,6 @@
 -- A capture as a list of events, whatever is made of them: its settings, the datagrams of its records, and a record
 -- that is cut short.
-use Rattle.std.specs.Prelude.{ℕ, zero, suc, ◌+◌, ◌-◌, List, [], ◌∷◌, ◌++◌, Bool, true, false, length, drop, ltb, eqb}
-use Rattle.wire.specs.Choice.{if◌then◌else◌}
+use Rattle.std.specs.Prelude.{ℕ, zero, suc, ◌+◌, ◌-◌, List, [], ◌∷◌, ◌++◌, Bool, true, false, length, drop, ltb, eqb, if◌then◌else◌}
 use Rattle.capture_settings.specs.declared.settings.Settings as declared
 use Rattle.capture_settings.specs.Settings.{settings_of}
 use Rattle.capture_settings.specs.Statements.{longest}

@@ -1,6 +1,5 @@
 -- A capture that comes in pieces gives the whole's events, and so does a program that turns over one lent buffer.
-use Rattle.std.specs.Prelude.{ℕ, ◌+◌, ◌-◌, ◌≤◌, ◌<◌, List, [], ◌∷◌, ◌++◌, true, ◌≡◌, length, take, drop, eqb}
-use Rattle.wire.specs.Choice.{if◌then◌else◌}
+use Rattle.std.specs.Prelude.{ℕ, ◌+◌, ◌-◌, ◌≤◌, ◌<◌, List, [], ◌∷◌, ◌++◌, true, ◌≡◌, length, take, drop, eqb, if◌then◌else◌}
 use Rattle.wire.specs.Bounds.{length_size}
 use Rattle.wire.specs.Bytes.{joined, AreBytes}
 use Rattle.wire.specs.Output.{put}

@@ -1,6 +1,5 @@
 -- The buffer of a program that reads piece by piece.
-use Rattle.std.specs.Prelude.{ℕ, ◌-◌, List, Bool, false, not, length, take, drop, ltb}
-use Rattle.wire.specs.Choice.{if◌then◌else◌}
+use Rattle.std.specs.Prelude.{ℕ, ◌-◌, List, Bool, false, not, length, take, drop, ltb, if◌then◌else◌}
 use Rattle.wire.specs.Output.{put}
 
 -- these are places of a buffer of n, one not behind the other

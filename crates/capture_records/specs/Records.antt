@@ -1,7 +1,6 @@
 -- The records of a capture, as a list of bytes.
-use Rattle.std.specs.Prelude.{ℕ, zero, suc, ◌+◌, ◌-◌, ◌^◌, ◌≤◌, Bool, false, not, ◌≡◌, length, take, drop, ltb}
+use Rattle.std.specs.Prelude.{ℕ, zero, suc, ◌+◌, ◌-◌, ◌^◌, ◌≤◌, Bool, false, not, ◌≡◌, length, take, drop, ltb, if◌then◌else◌}
 use mathlib.Core.List.{List, [], ◌∷◌, ◌++◌, Memᴰ}
-use Rattle.wire.specs.Choice.{if◌then◌else◌}
 use Rattle.wire.specs.Bounds.{largest_count, length_size}
 use Rattle.wire.specs.Words.{Words, says, Injective}
 use Rattle.wire.specs.Bytes.{number, bytes, AreBytes}

@@ -10,7 +10,7 @@ use lib.Dec.{eqb}
 use mir.Val.{Fits}
 use mir.Syntax.{w64}
 use borrow.Author.Tests.{le-leb, lt-leb, lt-ltb, le-ltb, eq-eqb, ne_eqb}
-use Rattle.wire.specs.Choice.{if◌then◌else◌}
+use Rattle.std.specs.Prelude.{if◌then◌else◌}
 use Rattle.wire.specs.Bounds.{least_number, least_limit, largest_limit, session_size, blank}
 use Rattle.wire.specs.Bytes.{same_bytes}
 use Rattle.wire.proofs.Numbers.{part_to_end}

@@ -1,6 +1,5 @@
 -- The settings at the front of a capture, as a list of bytes.
-use Rattle.std.specs.Prelude.{ℕ, ◌+◌, List, [], ◌∷◌, Bool, true, not, ◌&&◌, length, take, drop, get_or, ltb, leb, eqb}
-use Rattle.wire.specs.Choice.{if◌then◌else◌}
+use Rattle.std.specs.Prelude.{ℕ, ◌+◌, List, [], ◌∷◌, Bool, true, not, ◌&&◌, length, take, drop, get_or, ltb, leb, eqb, if◌then◌else◌}
 use Rattle.wire.specs.Refusals.{bad_setting}
 use Rattle.wire.specs.Bytes.{same_bytes}
 use Rattle.wire.specs.Text.{letter, ascii}

@@ -9,7 +9,7 @@ use lib.ListN.{length, get_or, length-append, get_or-append}
 use lib.Dec.{ltb, leb}
 use borrow.Author.Tests.{lt-ltb, le-ltb, ltb-true, ltb-false, le-leb, leb-true, leb-false}
 use Rattle.io.specs.Digits.{last_digits as io-digits, IsDigitCount, hex_digit_ascii}
-use Rattle.wire.specs.Choice.{if◌then◌else◌}
+use Rattle.std.specs.Prelude.{if◌then◌else◌}
 use Rattle.wire.specs.Bounds.{largest_number}
 use Rattle.wire.specs.Words.{Case, answer, refused}
 use Rattle.wire.proofs.Words.{read_back}

@@ -1,7 +1,6 @@
 -- Decimal numbers as text, in ASCII.
-use Rattle.std.specs.Prelude.{ℕ, zero, suc, ◌+◌, ◌*◌, ◌-◌, ◌/◌, ◌%◌, ◌<◌, ◌≤◌, List, [], ◌∷◌, ◌++◌, Bool, true, false, ◌&&◌, ◌≡◌, length, get_or, ltb, leb}
+use Rattle.std.specs.Prelude.{ℕ, zero, suc, ◌+◌, ◌*◌, ◌-◌, ◌/◌, ◌%◌, ◌<◌, ◌≤◌, List, [], ◌∷◌, ◌++◌, Bool, true, false, ◌&&◌, ◌≡◌, length, get_or, ltb, leb, if◌then◌else◌}
 use Rattle.wire.specs.Text.{letter}
-use Rattle.wire.specs.Choice.{if◌then◌else◌}
 use Rattle.wire.specs.Bounds.{largest_number}
 use Rattle.wire.specs.Words.{Words, says, Injective}
 use Rattle.decimal.specs.declared.reading.Appended.{Appended}

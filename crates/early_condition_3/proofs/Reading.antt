@@ -8,7 +8,7 @@ use lib.ListN.{length}
 use lib.Dec.{ltb}
 use lib.Pow.{shr-shr}
 use borrow.Author.Tests.{lt-ltb, ltb-true, ltb-false}
-use Rattle.wire.specs.Choice.{if◌then◌else◌}
+use Rattle.std.specs.Prelude.{if◌then◌else◌}
 use Rattle.feed.specs.Session.{Message}
 use Rattle.early_word.specs.Word.{bit, run, ones_of, past}
 use Rattle.early_word.proofs.WordLaws.{bit_past, bit-none, ones-set, past-lt}

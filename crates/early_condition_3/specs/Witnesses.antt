@@ -1,6 +1,5 @@
 -- The statements of orders 6 and 13 speak of something, and rule something out.
-use Rattle.std.specs.Prelude.{ℕ, ◌+◌, ◌≡◌, List, [], ◌∷◌, true, false, length, replicate, ltb, leb}
-use Rattle.wire.specs.Choice.{if◌then◌else◌}
+use Rattle.std.specs.Prelude.{ℕ, ◌+◌, ◌≡◌, List, [], ◌∷◌, true, false, length, replicate, ltb, leb, if◌then◌else◌}
 use Rattle.moldudp64.specs.Header.{number_of}
 use Rattle.moldudp64.specs.Downstream.{messages_of}
 use Rattle.feed.specs.Session.{Datagram, Message, Session, AllOfKind}

@@ -11,7 +11,7 @@ use lib.Pow.{pow_pos}
 use mir.Val.{Fits}
 use mir.Syntax.{w16, w64}
 use borrow.Author.Tests.{lt-ltb, le-ltb, le-leb, lt-leb, ltb-true, ltb-false, leb-false, not-true, not-false, eq-eqb, eqb-true, eqb-false}
-use Rattle.wire.specs.Choice.{if◌then◌else◌}
+use Rattle.std.specs.Prelude.{if◌then◌else◌}
 use Rattle.wire.specs.Bytes.{bytes}
 use Rattle.wire.specs.Output.{put, Writes}
 use Rattle.wire.specs.declared.output.Written.{Written}

@@ -1,7 +1,6 @@
 -- All that a datagram l delivers, in one walk: the number to come, how many are left, and a cursor over the datagram's
 -- own messages. The three may be made up, or used with another datagram.
-use Rattle.std.specs.Prelude.{ℕ, zero, suc, ◌+◌, ◌-◌, min, List, ◌≡◌, length, eqb}
-use Rattle.wire.specs.Choice.{if◌then◌else◌}
+use Rattle.std.specs.Prelude.{ℕ, zero, suc, ◌+◌, ◌-◌, min, List, ◌≡◌, length, eqb, if◌then◌else◌}
 use Rattle.wire.specs.Bounds.{largest_number, largest_count}
 use Rattle.moldudp64.specs.Header.{number_of}
 use Rattle.moldudp64_messages.specs.declared.cursor.Cursor.{Cursor}

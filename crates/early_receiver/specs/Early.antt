@@ -1,7 +1,6 @@
 -- The receiver that keeps early messages: its start, its refusals, what it is after a datagram, what it answers, and
 -- what it asks for.
-use Rattle.std.specs.Prelude.{ℕ, ◌+◌, ◌-◌, min, List, [], ◌∷◌, Bool, true, ◌&&◌, ◌≡◌, length, ltb, eqb}
-use Rattle.wire.specs.Choice.{if◌then◌else◌}
+use Rattle.std.specs.Prelude.{ℕ, ◌+◌, ◌-◌, min, List, [], ◌∷◌, Bool, true, ◌&&◌, ◌≡◌, length, ltb, eqb, if◌then◌else◌}
 use Rattle.wire.specs.Bounds.{largest_count}
 use Rattle.wire.specs.Refusals.{bad_setting}
 use Rattle.wire.specs.Words.{Words, Case, answer, refused, says, refuses}

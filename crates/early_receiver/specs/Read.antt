@@ -1,8 +1,7 @@
 -- The same by what a reader found, in its words w; l is the datagram whose session and whose blocks are looked at.
 -- Anyone can make the words up, or take another datagram's: a message that isn't there then has no bytes, and a refusal
 -- of number 0 is none, so that it may name and ask.
-use Rattle.std.specs.Prelude.{ℕ, zero, suc, List, [], ◌∷◌, ◌≡◌, eqb}
-use Rattle.wire.specs.Choice.{if◌then◌else◌}
+use Rattle.std.specs.Prelude.{ℕ, zero, suc, List, [], ◌∷◌, ◌≡◌, eqb, if◌then◌else◌}
 use Rattle.wire.specs.Words.{Words, Case, answer, refused, refuses}
 use Rattle.moldudp64.specs.Downstream.{DownstreamKind, data_packet, heartbeat, end_of_session, downstream_of}
 use Rattle.moldudp64_messages.specs.declared.cursor.Cursor.{Cursor}

@@ -1,7 +1,6 @@
 -- What a datagram comes to where that can be told without what is lent: data or a heartbeat that isn't ahead, of the
 -- receiver's name, which doesn't end in a space. Nothing is kept then.
-use Rattle.std.specs.Prelude.{ℕ, List, Bool, true, false, ◌≡◌, leb}
-use Rattle.wire.specs.Choice.{if◌then◌else◌}
+use Rattle.std.specs.Prelude.{ℕ, List, Bool, true, false, ◌≡◌, leb, if◌then◌else◌}
 use Rattle.wire.specs.Words.{Words, Case, answer, refused}
 use Rattle.moldudp64.specs.Downstream.{DownstreamKind, data_packet, heartbeat, end_of_session}
 use Rattle.receiver.specs.Table.{AnswerKind, deliver, old, quiet, ask, ended}

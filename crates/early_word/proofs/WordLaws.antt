@@ -11,7 +11,7 @@ use mir.Syntax.{w16, w64}
 use lib.Pow.{shr-shr, shr_le, pow_mono, pow-lt, pow_pos}
 use lib.Bits.{bit_or, or_shr, or_step, or_lt}
 use borrow.Author.Tests.{lt-ltb, le-ltb, ltb-true, eqb-true, eqb-false}
-use Rattle.wire.specs.Choice.{if◌then◌else◌}
+use Rattle.std.specs.Prelude.{if◌then◌else◌}
 use Rattle.wire.proofs.Cases.{below_or_not}
 use Rattle.early_word.specs.Word.{bit, ones_of, zeros_of, past, marked}
 

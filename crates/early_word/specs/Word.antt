@@ -1,7 +1,6 @@
 -- The word of 64 bits that marks held numbers: its lowest bit is bit 0.
-use Rattle.std.specs.Prelude.{ℕ, zero, suc, ◌/◌, ◌%◌, ◌^◌, Bool, eqb, ltb}
+use Rattle.std.specs.Prelude.{ℕ, zero, suc, ◌/◌, ◌%◌, ◌^◌, Bool, eqb, ltb, if◌then◌else◌}
 use Rattle.std.specs.Int.Bits.{bit_or}
-use Rattle.wire.specs.Choice.{if◌then◌else◌}
 
 -- the bits of a word
 abbrev pub word_bits : ℕ

@@ -1,7 +1,6 @@
 -- What the exported functions of a reading promise: the lent bytes l become m, the slots ss become ss', and the lent
 -- words ws become ws'.
-use Rattle.std.specs.Prelude.{ℕ, ◌≤◌, List, [], ◌∷◌, Bool, false, not, ◌||◌, ◌≡◌, length, ltb, eqb}
-use Rattle.wire.specs.Choice.{if◌then◌else◌}
+use Rattle.std.specs.Prelude.{ℕ, ◌≤◌, List, [], ◌∷◌, Bool, false, not, ◌||◌, ◌≡◌, length, ltb, eqb, if◌then◌else◌}
 use Rattle.early_holding.specs.Holding.{slot_bytes}
 use Rattle.capture.specs.declared.reading.Fed.{Fed}
 use Rattle.capture.specs.Reading.{start_reading, LentReading, LentFed, fed_reading, feed_of, finish_of, is_over}

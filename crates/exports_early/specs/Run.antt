@@ -1,9 +1,8 @@
 -- A host that hands datagrams to the exported receiver one by one, and keeps the state's bytes and the slots between two
 -- calls. Before each datagram is taken it walks over what that will deliver. Each record of a call is the very promise
 -- of the function.
-use Rattle.std.specs.Prelude.{ℕ, ◌+◌, ◌≤◌, List, [], ◌∷◌, ◌++◌, Bool, true, ◌≡◌, length, get_or, take, drop, eqb}
+use Rattle.std.specs.Prelude.{ℕ, ◌+◌, ◌≤◌, List, [], ◌∷◌, ◌++◌, Bool, true, ◌≡◌, length, get_or, take, drop, eqb, if◌then◌else◌}
 use Rattle.wire.specs.Bytes.{AreBytes}
-use Rattle.wire.specs.Choice.{if◌then◌else◌}
 use Rattle.feed.specs.Session.{Datagram, Message, Session, OfKind, AllOfKind, last_of, messages_from}
 use Rattle.feed.specs.Machine.{after, delivered}
 use Rattle.feed.specs.Faithful.{Opens}

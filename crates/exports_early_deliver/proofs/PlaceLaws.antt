@@ -6,7 +6,7 @@ use mathlib.Core.Path.{◌≡◌, refl, ap, ap₂, ◌∙◌}
 use native.Mathlib.Omega.{arith}
 use lib.ListN.{length, take, drop}
 use lib.Dec.{eqb}
-use Rattle.wire.specs.Choice.{if◌then◌else◌}
+use Rattle.std.specs.Prelude.{if◌then◌else◌}
 use Rattle.moldudp64.specs.Header.{number_of}
 use Rattle.moldudp64.specs.Downstream.{DownstreamKind, messages_of}
 use Rattle.moldudp64.proofs.DownstreamLaws.{sound, count-sound}

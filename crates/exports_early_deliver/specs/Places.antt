@@ -1,8 +1,7 @@
 -- The places of delivered messages, three words each: whether it lies in the slots, the offset of its first byte there or
 -- in the datagram, and its length.
-use Rattle.std.specs.Prelude.{ℕ, zero, suc, ◌+◌, ◌-◌, ◌*◌, ◌/◌, ◌<◌, ◌≤◌, List, [], ◌∷◌, ◌++◌, ◌≡◌, length, take, drop, eqb}
+use Rattle.std.specs.Prelude.{ℕ, zero, suc, ◌+◌, ◌-◌, ◌*◌, ◌/◌, ◌<◌, ◌≤◌, List, [], ◌∷◌, ◌++◌, ◌≡◌, length, take, drop, eqb, if◌then◌else◌}
 use Rattle.wire.specs.Bounds.{length_size}
-use Rattle.wire.specs.Choice.{if◌then◌else◌}
 use Rattle.moldudp64.specs.Header.{header_size, largest_datagram}
 use Rattle.feed.specs.Session.{Message}
 use Rattle.early_holding.specs.Holding.{slot_count, Lent}

@@ -8,7 +8,7 @@ use lib.ListN.{length, drop, length-drop, drop_of_length-le}
 use lib.Dec.{ltb, leb, eqb}
 use borrow.Rule.Slice.PartMut.{mid_of, put_mid}
 use borrow.Author.Tests.{lt-ltb, le-ltb, ne_eqb}
-use Rattle.wire.specs.Choice.{if◌then◌else◌}
+use Rattle.std.specs.Prelude.{if◌then◌else◌}
 use Rattle.wire.specs.Output.{written_words, write_refusal, Writes}
 use Rattle.wire.specs.declared.output.Written.{Written}
 use Rattle.wire.proofs.Numbers.{part_to_end}

@@ -1,7 +1,6 @@
 -- What the exported functions of what is missing promise: the lent bytes l become m, the words of the edges es become
 -- es', and the lent words ws become ws'.
-use Rattle.std.specs.Prelude.{ℕ, ◌≤◌, List, [], ◌∷◌, Bool, true, false, not, ◌&&◌, ◌||◌, ◌≡◌, length, ltb, eqb}
-use Rattle.wire.specs.Choice.{if◌then◌else◌}
+use Rattle.std.specs.Prelude.{ℕ, ◌≤◌, List, [], ◌∷◌, Bool, true, false, not, ◌&&◌, ◌||◌, ◌≡◌, length, ltb, eqb, if◌then◌else◌}
 use Rattle.wire.specs.Refusals.{bad_setting}
 use Rattle.capture_events.specs.declared.place.Place.{Place}
 use Rattle.capture_events.specs.declared.place.Place.TheVariants.{Settings, Records, Done, Refused}

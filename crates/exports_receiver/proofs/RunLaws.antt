@@ -8,7 +8,7 @@ use lib.ListN.{length, get_or}
 use lib.Seq.{take_all}
 use lib.Dec.{eqb}
 use borrow.Author.Tests.{le-ltb, eqb-true}
-use Rattle.wire.specs.Choice.{if◌then◌else◌}
+use Rattle.std.specs.Prelude.{if◌then◌else◌}
 use Rattle.wire.specs.Bounds.{session_size}
 use Rattle.wire.specs.Refusals.{bad_setting}
 use Rattle.wire.specs.Words.{says}

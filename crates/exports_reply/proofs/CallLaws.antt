@@ -9,7 +9,7 @@ use lib.Seq.{take_all, drop-length}
 use lib.Dec.{ltb, eqb}
 use borrow.Author.Tests.{ne_eqb, lt-ltb, le-ltb, ltb-true}
 use borrow.Rule.Slice.PartMut.{mid_of, put_mid}
-use Rattle.wire.specs.Choice.{if◌then◌else◌}
+use Rattle.std.specs.Prelude.{if◌then◌else◌}
 use Rattle.wire.specs.Refusals.{output_short}
 use Rattle.wire.specs.Words.{answer}
 use Rattle.wire.specs.Output.{put, write_output}

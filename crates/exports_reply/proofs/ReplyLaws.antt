@@ -7,7 +7,7 @@ use native.Mathlib.Omega.{arith}
 use lib.ListN.{length}
 use lib.Dec.{leb, eqb}
 use borrow.Author.Tests.{eq-eqb, eqb-false}
-use Rattle.wire.specs.Choice.{if◌then◌else◌}
+use Rattle.std.specs.Prelude.{if◌then◌else◌}
 use Rattle.wire.specs.Refusals.{output_short, field_not_written}
 use Rattle.wire.specs.Words.{Case, answer, refused, says, refuses}
 use Rattle.wire.specs.Output.{write_refusal}

@@ -8,7 +8,7 @@ use lib.ListN.{length, get_or}
 use lib.Seq.{get_or_at}
 use lib.Dec.{ltb, eqb}
 use borrow.Author.Tests.{eq-eqb, ne_eqb, le-ltb}
-use Rattle.wire.specs.Choice.{if◌then◌else◌}
+use Rattle.std.specs.Prelude.{if◌then◌else◌}
 use Rattle.wire.specs.Words.{refused}
 use Rattle.wire.specs.Output.{put}
 use Rattle.wire.proofs.Cases.{zero_or_not}

@@ -1,6 +1,5 @@
 -- What the exported functions of the server promise: the lent bytes l become m, and the lent words ws become ws'.
-use Rattle.std.specs.Prelude.{ℕ, List, ◌≡◌, length, ltb}
-use Rattle.wire.specs.Choice.{if◌then◌else◌}
+use Rattle.std.specs.Prelude.{ℕ, List, ◌≡◌, length, ltb, if◌then◌else◌}
 use Rattle.wire.specs.Bounds.{session_size}
 use Rattle.wire.specs.Refusals.{bad_setting}
 use Rattle.wire.specs.Parts.{first_bytes}

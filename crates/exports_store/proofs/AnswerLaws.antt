@@ -10,7 +10,7 @@ use lib.Seq.{take_all, drop-length}
 use lib.Dec.{ltb, leb, eqb}
 use borrow.Author.Tests.{ne_eqb, not-true, not-false}
 use borrow.Rule.Slice.PartMut.{mid_of, put_mid}
-use Rattle.wire.specs.Choice.{if◌then◌else◌}
+use Rattle.std.specs.Prelude.{if◌then◌else◌}
 use Rattle.wire.specs.Refusals.{output_short, store_differs, not_in_store, message_long}
 use Rattle.wire.specs.Bounds.{session_size}
 use Rattle.wire.specs.Bytes.{same_bytes}

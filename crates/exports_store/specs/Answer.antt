@@ -1,6 +1,5 @@
 -- What the exported store refuses.
-use Rattle.std.specs.Prelude.{ℕ, List, length, eqb}
-use Rattle.wire.specs.Choice.{if◌then◌else◌}
+use Rattle.std.specs.Prelude.{ℕ, List, length, eqb, if◌then◌else◌}
 use Rattle.wire.specs.Bounds.{session_size}
 use Rattle.wire.specs.Refusals.{output_short}
 use Rattle.moldudp64.specs.Request.{request_refusal}

@@ -8,7 +8,7 @@ use lib.ListN.{length, get_or, take, drop}
 use lib.Seq.{take_at}
 use lib.Dec.{leb, eqb}
 use borrow.Author.Tests.{le-ltb, eq-eqb, ne_eqb, eqb-true}
-use Rattle.wire.specs.Choice.{if◌then◌else◌}
+use Rattle.std.specs.Prelude.{if◌then◌else◌}
 use Rattle.wire.specs.Bounds.{session_size}
 use Rattle.wire.specs.Output.{put, write_refusal}
 use Rattle.wire.specs.Parts.{first_bytes}

@@ -8,7 +8,7 @@ use lib.ListN.{length, drop}
 use lib.Dec.{leb, eqb}
 use borrow.Author.Tests.{leb-true, eqb-false, ne_eqb}
 use Rattle.wire.proofs.Cases.{zero_or_not}
-use Rattle.wire.specs.Choice.{if◌then◌else◌}
+use Rattle.std.specs.Prelude.{if◌then◌else◌}
 use Rattle.wire.specs.Refusals.{output_short}
 use Rattle.wire.specs.Output.{put, write_refusal}
 use Rattle.wire.proofs.Outputs.{put-room}

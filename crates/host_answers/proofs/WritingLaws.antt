@@ -11,7 +11,7 @@ use lib.Seq.{take_all, drop-length}
 use lib.Dec.{ltb, leb, eqb}
 use borrow.Rule.Slice.PartMut.{mid_of, put_mid}
 use borrow.Author.Tests.{eq-eqb, ne_eqb, leb-false}
-use Rattle.wire.specs.Choice.{if◌then◌else◌}
+use Rattle.std.specs.Prelude.{if◌then◌else◌}
 use Rattle.wire.specs.Refusals.{output_short}
 use Rattle.wire.specs.Output.{written_words, put, write_refusal, write_answer, write_output, Writes}
 use Rattle.wire.specs.declared.output.Written.{Written}

@@ -1,6 +1,5 @@
 -- What an exported function answers: its code, and what it leaves in lent words and in a lent output.
-use Rattle.std.specs.Prelude.{ℕ, zero, suc, List, [], ◌∷◌, ◌++◌, Bool, true, false, not, ◌≡◌, length, drop, ltb, eqb}
-use Rattle.wire.specs.Choice.{if◌then◌else◌}
+use Rattle.std.specs.Prelude.{ℕ, zero, suc, List, [], ◌∷◌, ◌++◌, Bool, true, false, not, ◌≡◌, length, drop, ltb, eqb, if◌then◌else◌}
 use Rattle.wire.specs.Bounds.{session_size}
 use Rattle.wire.specs.Refusals.{output_short}
 use Rattle.wire.specs.Words.{Words, Case, answer, refused}

@@ -1,7 +1,6 @@
 -- A reading of a capture as bytes: its code while it isn't over, its stage, its receiver with the lengths of the
 -- messages in its slots, how many records were read, and its five counts.
-use Rattle.std.specs.Prelude.{ℕ, ◌+◌, ◌≤◌, min, List, ◌∷◌, ◌++◌, Bool, not, ◌≡◌, length, get_or, drop, ltb, eqb}
-use Rattle.wire.specs.Choice.{if◌then◌else◌}
+use Rattle.std.specs.Prelude.{ℕ, ◌+◌, ◌≤◌, min, List, ◌∷◌, ◌++◌, Bool, not, ◌≡◌, length, get_or, drop, ltb, eqb, if◌then◌else◌}
 use Rattle.wire.specs.Output.{put}
 use Rattle.receiver.specs.Receiver.{refused_receiver}
 use Rattle.early_holding.specs.Holding.{early}

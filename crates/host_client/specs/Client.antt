@@ -1,6 +1,5 @@
 -- A client as bytes: the fields of a session.
-use Rattle.std.specs.Prelude.{ℕ, List, Bool, true, false, length, ltb, eqb}
-use Rattle.wire.specs.Choice.{if◌then◌else◌}
+use Rattle.std.specs.Prelude.{ℕ, List, Bool, true, false, length, ltb, eqb, if◌then◌else◌}
 use Rattle.soupbintcp_client.specs.declared.client.ClientState.{ClientState}
 use Rattle.soupbintcp_client.specs.declared.client.ClientState.TheVariants as state
 use Rattle.soupbintcp_client.specs.declared.client.Client.{Client}

@@ -4,7 +4,7 @@ use mathlib.Core.List.{List, [], ◌∷◌}
 use mathlib.Core.Path.{refl}
 use lib.ListN.{length, drop}
 use lib.Dec.{ltb, eqb}
-use Rattle.wire.specs.Choice.{if◌then◌else◌}
+use Rattle.std.specs.Prelude.{if◌then◌else◌}
 use Rattle.wire.specs.Words.{says}
 use Rattle.moldudp64.specs.Header.{header_size, largest_datagram, number_of}
 use Rattle.moldudp64.specs.Blocks.{all_fit, after_blocks, blocks_refusal}

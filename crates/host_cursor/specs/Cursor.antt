@@ -1,6 +1,5 @@
 -- A cursor as bytes: its code, its place in the datagram (8), and how many messages are left (2).
-use Rattle.std.specs.Prelude.{ℕ, ◌+◌, List, ◌∷◌, ◌++◌, Bool, length, ltb}
-use Rattle.wire.specs.Choice.{if◌then◌else◌}
+use Rattle.std.specs.Prelude.{ℕ, ◌+◌, List, ◌∷◌, ◌++◌, Bool, length, ltb, if◌then◌else◌}
 use Rattle.wire.specs.Bounds.{count_size}
 use Rattle.moldudp64_messages.specs.declared.cursor.Cursor as declared
 use Rattle.moldudp64_messages.specs.Cursor.{cursor}

@@ -1,7 +1,6 @@
 -- A receiver that keeps early messages as bytes: its code while it isn't ended, its session's name, its number, its asking
 -- limit, the word of held numbers, and the lengths of the messages in its slots.
-use Rattle.std.specs.Prelude.{ℕ, ◌+◌, ◌≤◌, List, ◌++◌, Bool, not, ◌≡◌, length, take, drop, replicate, ltb}
-use Rattle.wire.specs.Choice.{if◌then◌else◌}
+use Rattle.std.specs.Prelude.{ℕ, ◌+◌, ◌≤◌, List, ◌++◌, Bool, not, ◌≡◌, length, take, drop, replicate, ltb, if◌then◌else◌}
 use Rattle.wire.specs.Bounds.{number_size, count_size}
 use Rattle.wire.specs.Output.{put}
 use Rattle.receiver.specs.Receiver.{receiver, refused_receiver}

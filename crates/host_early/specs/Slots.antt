@@ -1,6 +1,5 @@
 -- Slots that are lent beside a state.
-use Rattle.std.specs.Prelude.{ℕ, List, Bool, length, eqb}
-use Rattle.wire.specs.Choice.{if◌then◌else◌}
+use Rattle.std.specs.Prelude.{ℕ, List, Bool, length, eqb, if◌then◌else◌}
 use Rattle.wire.specs.Refusals.{bad_setting}
 use Rattle.early_holding.specs.Holding.{slot_bytes}
 use Rattle.host_answers.specs.Answers.{or_else, short}

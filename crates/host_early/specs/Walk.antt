@@ -1,7 +1,6 @@
 -- A walk over what a datagram will deliver as bytes: its code, the number to come (8), how many messages are left (2), its
 -- place in the datagram (8), and how many blocks are left there (2).
-use Rattle.std.specs.Prelude.{ℕ, ◌+◌, List, ◌∷◌, ◌++◌, Bool, length, ltb}
-use Rattle.wire.specs.Choice.{if◌then◌else◌}
+use Rattle.std.specs.Prelude.{ℕ, ◌+◌, List, ◌∷◌, ◌++◌, Bool, length, ltb, if◌then◌else◌}
 use Rattle.wire.specs.Bounds.{number_size, count_size}
 use Rattle.moldudp64_messages.specs.Cursor.{cursor}
 use Rattle.early_messages.specs.declared.walk.Walk as declared

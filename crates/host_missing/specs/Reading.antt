@@ -1,8 +1,7 @@
 -- A reading of what is missing from a capture, as bytes: its code while it isn't over, its stage, its session, the
 -- highest next number, how many records may still be read, how many ranges have both edges, and whether they are
 -- refused.
-use Rattle.std.specs.Prelude.{ℕ, ◌+◌, min, List, [], ◌∷◌, ◌++◌, Bool, not, length, get_or, drop, ltb, eqb}
-use Rattle.wire.specs.Choice.{if◌then◌else◌}
+use Rattle.std.specs.Prelude.{ℕ, ◌+◌, min, List, [], ◌∷◌, ◌++◌, Bool, not, length, get_or, drop, ltb, eqb, if◌then◌else◌}
 use Rattle.wire.specs.Bounds.{session_size, number_size}
 use Rattle.wire.specs.Parts.{first_bytes}
 use Rattle.capture_records.specs.Records.{most_records}

@@ -1,6 +1,5 @@
 -- A receiver as bytes: its code while it isn't ended, its session's name, its number, and its asking limit.
-use Rattle.std.specs.Prelude.{ℕ, ◌+◌, List, ◌++◌, Bool, not, length, ltb}
-use Rattle.wire.specs.Choice.{if◌then◌else◌}
+use Rattle.std.specs.Prelude.{ℕ, ◌+◌, List, ◌++◌, Bool, not, length, ltb, if◌then◌else◌}
 use Rattle.wire.specs.Bounds.{number_size, count_size}
 use Rattle.receiver.specs.declared.receiver.Receiver as declared
 use Rattle.receiver.specs.Receiver.{receiver, refused_receiver}

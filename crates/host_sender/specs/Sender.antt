@@ -1,6 +1,5 @@
 -- Who sends a stream, by number.
-use Rattle.std.specs.Prelude.{ℕ, eqb}
-use Rattle.wire.specs.Choice.{if◌then◌else◌}
+use Rattle.std.specs.Prelude.{ℕ, eqb, if◌then◌else◌}
 use Rattle.soupbintcp.specs.declared.packet.Sender.{Sender}
 use Rattle.soupbintcp.specs.declared.packet.Sender.TheVariants.{Server, Client}
 

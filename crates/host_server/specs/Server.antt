@@ -1,6 +1,5 @@
 -- A server as bytes: the fields of a session.
-use Rattle.std.specs.Prelude.{ℕ, List, Bool, true, false, length, ltb, eqb}
-use Rattle.wire.specs.Choice.{if◌then◌else◌}
+use Rattle.std.specs.Prelude.{ℕ, List, Bool, true, false, length, ltb, eqb, if◌then◌else◌}
 use Rattle.wire.specs.Refusals.{bad_setting}
 use Rattle.soupbintcp.specs.declared.packet.Sender.TheVariants.{Client}
 use Rattle.soupbintcp.specs.Front.{front_of}

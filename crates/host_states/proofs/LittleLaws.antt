@@ -25,7 +25,7 @@ little-back (suc n) v h a b k e =
     let g = little-back n (v / 256) (omega (arith, pow-suc 256 n)) (a ++ (v % 256 ∷ [])) b (k + 1) m in
     let d = get_or_at a (v % 256) (little_bytes n (v / 256) ++ b) 0 k e in
     let high : little (a ++ (little_bytes (suc n) v ++ b)) (k + 1) n ≡ v / 256 =
-        ap (λ (l : List ℕ). little l (k + 1) n) (sym f) ∙ g in
+    ap (λ (l : List ℕ). little l (k + 1) n) (sym f) ∙ g in
     rw (d, high) (omega arith)
 
 reads_back : LittleReadsBack

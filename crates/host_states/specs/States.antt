@@ -1,6 +1,5 @@
 -- A state kept in lent bytes: when it is open, what is promised of it, and the fields that several states have.
-use Rattle.std.specs.Prelude.{ℕ, ◌+◌, ◌≤◌, List, ◌∷◌, ◌++◌, Bool, true, false, ◌≡◌, length, get_or, drop, eqb}
-use Rattle.wire.specs.Choice.{if◌then◌else◌}
+use Rattle.std.specs.Prelude.{ℕ, ◌+◌, ◌≤◌, List, ◌∷◌, ◌++◌, Bool, true, false, ◌≡◌, length, get_or, drop, eqb, if◌then◌else◌}
 use Rattle.wire.specs.Bounds.{session_size, number_size}
 use Rattle.wire.specs.Output.{put}
 use Rattle.wire.specs.Parts.{first_bytes}

@@ -1,6 +1,5 @@
 -- A transmitter's progress as bytes: its code, how many messages went out (8), and the bytes of their data (8).
-use Rattle.std.specs.Prelude.{ℕ, ◌+◌, ◌-◌, ◌^◌, List, ◌∷◌, ◌++◌, Bool, length, ltb}
-use Rattle.wire.specs.Choice.{if◌then◌else◌}
+use Rattle.std.specs.Prelude.{ℕ, ◌+◌, ◌-◌, ◌^◌, List, ◌∷◌, ◌++◌, Bool, length, ltb, if◌then◌else◌}
 use Rattle.transmitter.specs.declared.turns.Progress as declared
 use Rattle.transmitter.specs.Turns.{progress}
 use Rattle.host_states.specs.Little.{little, little_bytes}

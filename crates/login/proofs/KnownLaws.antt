@@ -4,7 +4,7 @@ use mathlib.Core.List.{List, [], ◌∷◌}
 use mathlib.Core.Bool.{Bool, true, false}
 use Prim.Native.Nat.{ℕ, zero, suc, ◌<◌}
 use native.Mathlib.Omega.{arith}
-use Rattle.wire.specs.Choice.{if◌then◌else◌}
+use Rattle.std.specs.Prelude.{if◌then◌else◌}
 use Rattle.text_fields.specs.Sound.{sound_username, sound_password}
 use Rattle.text_fields.proofs.SoundLaws.{sound-exactly-when}
 use Rattle.login.specs.declared.account.Account.{Account}

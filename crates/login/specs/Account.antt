@@ -1,6 +1,5 @@
 -- Account records: an entry has the same two fields, and the first sound record with its username decides.
-use Rattle.std.specs.Prelude.{ℕ, List, [], ◌∷◌, Bool, true, false, length, replicate, ltb}
-use Rattle.wire.specs.Choice.{if◌then◌else◌}
+use Rattle.std.specs.Prelude.{ℕ, List, [], ◌∷◌, Bool, true, false, length, replicate, ltb, if◌then◌else◌}
 use Rattle.wire.specs.Refusals.{bad_setting}
 use Rattle.wire.specs.Bytes.{same_bytes}
 use Rattle.wire.specs.Words.{Words, says, refuses}

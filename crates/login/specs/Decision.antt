@@ -1,6 +1,5 @@
 -- The decision on a login.
-use Rattle.std.specs.Prelude.{ℕ, ◌+◌, max, List, [], ◌∷◌, Bool, true, leb, eqb}
-use Rattle.wire.specs.Choice.{if◌then◌else◌}
+use Rattle.std.specs.Prelude.{ℕ, ◌+◌, max, List, [], ◌∷◌, Bool, true, leb, eqb, if◌then◌else◌}
 use Rattle.wire.specs.Bounds.{least_number, blank}
 use Rattle.wire.specs.Bytes.{same_bytes}
 use Rattle.wire.specs.Words.{Words, Case, answer, refused, says, refuses, refused_words}

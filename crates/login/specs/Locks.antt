@@ -1,6 +1,5 @@
 -- The rules of a login rule something out: locks that let everyone in, or no one, or stop comparing too early.
-use Rattle.std.specs.Prelude.{ℕ, List, [], ◌∷◌, Bool, false, ◌≡◌, length, take, ltb, eqb}
-use Rattle.wire.specs.Choice.{if◌then◌else◌}
+use Rattle.std.specs.Prelude.{ℕ, List, [], ◌∷◌, Bool, false, ◌≡◌, length, take, ltb, eqb, if◌then◌else◌}
 use Rattle.wire.specs.Text.{ascii, readroom}
 use Rattle.wire.specs.Refusals.{bad_setting}
 use Rattle.wire.specs.Words.{answer, says, refuses}

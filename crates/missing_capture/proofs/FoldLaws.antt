@@ -5,7 +5,7 @@ use mathlib.Core.Bool.{Bool, true, false}
 use Prim.Native.Nat.{ℕ}
 use native.Mathlib.Omega.{arith}
 use lib.ListN.{length, drop}
-use Rattle.wire.specs.Choice.{if◌then◌else◌}
+use Rattle.std.specs.Prelude.{if◌then◌else◌}
 use Rattle.wire.specs.Output.{put}
 use Rattle.capture_events.specs.declared.place.Place.{Place}
 use Rattle.capture_events.specs.declared.place.Place.TheVariants.{Settings, Records, Done, Refused}

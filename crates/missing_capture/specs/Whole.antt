@@ -1,6 +1,5 @@
 -- A whole capture: what is missing from it, and that the pieces it comes in don't matter.
-use Rattle.std.specs.Prelude.{ℕ, ◌≤◌, List, [], ◌∷◌, ◌++◌, true, ◌≡◌, length, drop, replicate, eqb}
-use Rattle.wire.specs.Choice.{if◌then◌else◌}
+use Rattle.std.specs.Prelude.{ℕ, ◌≤◌, List, [], ◌∷◌, ◌++◌, true, ◌≡◌, length, drop, replicate, eqb, if◌then◌else◌}
 use Rattle.wire.specs.Bounds.{session_size}
 use Rattle.wire.specs.Bytes.{joined, AreBytes}
 use Rattle.capture_settings.specs.Settings.{settings_of}

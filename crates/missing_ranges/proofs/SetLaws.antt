@@ -9,7 +9,7 @@ use lib.ListN.{length, get_or, take, drop, take-append-drop}
 use lib.Seq.{drop-length, length-take-le}
 use lib.Dec.{ltb, leb, eqb}
 use borrow.Author.Tests.{le-leb, lt-leb, ltb-true, ltb-false, leb-true, leb-false, eqb-true, eqb-false}
-use Rattle.wire.specs.Choice.{if◌then◌else◌}
+use Rattle.std.specs.Prelude.{if◌then◌else◌}
 use Rattle.missing_ranges.specs.Edges.{is_odd, halved, place_past, place_of, start_place, end_place, edge_if, middle, replaced}
 use Rattle.missing_ranges.proofs.PlaceLaws.{middle-below, past-le, place-le}
 

@@ -8,7 +8,7 @@ use lib.ListN.{length, get_or, take, drop, length-append, length-drop, drop_of_l
 use lib.Seq.{length-take-le, get_or-take, get_or-drop, get_or-append-add, get_or-append_seam}
 use lib.Dec.{ltb, leb}
 use borrow.Author.Tests.{lt-ltb, le-ltb, ltb-true, ltb-false, leb-true, leb-false, eq-eqb}
-use Rattle.wire.specs.Choice.{if◌then◌else◌}
+use Rattle.std.specs.Prelude.{if◌then◌else◌}
 use Rattle.missing_ranges.specs.Edges.{is_odd, edge_if, place_past, place_of, middle, replaced, without, range, ranges_of, most_ranges}
 use Rattle.missing_ranges.specs.Notes.{too_many, last_after, later}
 use Rattle.missing_ranges.proofs.EdgeLaws.{odd_code}

@@ -1,6 +1,5 @@
 -- The missing numbers as edges: a rising list of the numbers at which missing and present change places.
-use Rattle.std.specs.Prelude.{ℕ, zero, suc, ◌+◌, ◌-◌, ◌/◌, List, [], ◌∷◌, ◌++◌, Bool, true, false, not, ◌&&◌, length, take, drop, get_or, ltb, leb, eqb}
-use Rattle.wire.specs.Choice.{if◌then◌else◌}
+use Rattle.std.specs.Prelude.{ℕ, zero, suc, ◌+◌, ◌-◌, ◌/◌, List, [], ◌∷◌, ◌++◌, Bool, true, false, not, ◌&&◌, length, take, drop, get_or, ltb, leb, eqb, if◌then◌else◌}
 use Rattle.wire.specs.Bounds.{up_to}
 
 -- ---- the ranges that edges bound

@@ -1,6 +1,5 @@
 -- What noting numbers one after the other comes to, and what it means.
-use Rattle.std.specs.Prelude.{ℕ, ◌≤◌, ◌<◌, List, [], ◌∷◌, ◌++◌, Bool, true, false, not, ◌&&◌, ◌≡◌, length, ltb, leb}
-use Rattle.wire.specs.Choice.{if◌then◌else◌}
+use Rattle.std.specs.Prelude.{ℕ, ◌≤◌, ◌<◌, List, [], ◌∷◌, ◌++◌, Bool, true, false, not, ◌&&◌, ◌≡◌, length, ltb, leb, if◌then◌else◌}
 use Rattle.wire.specs.Bounds.{largest_number}
 use Rattle.missing_ranges.specs.Edges.{Range, is_listed, rises_from, total_from, listed_below, most_ranges}
 use Rattle.missing_ranges.specs.Notes.{Lent, ranges_in, room, later, start_in, note_of}

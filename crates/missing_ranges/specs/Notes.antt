@@ -1,6 +1,5 @@
 -- The missing ranges of a session, kept in lent words while its datagrams are read.
-use Rattle.std.specs.Prelude.{ℕ, ◌+◌, ◌-◌, ◌/◌, ◌%◌, ◌≤◌, ◌<◌, List, [], ◌∷◌, Bool, true, false, not, ◌&&◌, ◌≡◌, length, take, get_or, ltb, leb, eqb}
-use Rattle.wire.specs.Choice.{if◌then◌else◌}
+use Rattle.std.specs.Prelude.{ℕ, ◌+◌, ◌-◌, ◌/◌, ◌%◌, ◌≤◌, ◌<◌, List, [], ◌∷◌, Bool, true, false, not, ◌&&◌, ◌≡◌, length, take, get_or, ltb, leb, eqb, if◌then◌else◌}
 use Rattle.wire.specs.Output.{put}
 use Rattle.missing_ranges.specs.Edges.{Range, range, ranges_of, total_from, most_ranges}
 use Rattle.missing_ranges.specs.Edges.{place_past, place_of, middle, without}

@@ -1,6 +1,5 @@
 -- What is promised of the missing ranges of every list of datagrams.
-use Rattle.std.specs.Prelude.{ℕ, ◌+◌, ◌≤◌, ◌<◌, List, [], ◌∷◌, Bool, true, false, not, ◌&&◌, ◌≡◌, length, take, ltb, leb}
-use Rattle.wire.specs.Choice.{if◌then◌else◌}
+use Rattle.std.specs.Prelude.{ℕ, ◌+◌, ◌≤◌, ◌<◌, List, [], ◌∷◌, Bool, true, false, not, ◌&&◌, ◌≡◌, length, take, ltb, leb, if◌then◌else◌}
 use Rattle.wire.specs.Bounds.{largest_number}
 use Rattle.wire.specs.Text.{ascii, readroom}
 use Rattle.moldudp64.specs.Header.{number_of}

@@ -1,6 +1,5 @@
 -- The missing ranges of a session, from datagram to datagram.
-use Rattle.std.specs.Prelude.{ℕ, ◌+◌, List, [], ◌∷◌, Bool, true, false, ◌≡◌, take}
-use Rattle.wire.specs.Choice.{if◌then◌else◌}
+use Rattle.std.specs.Prelude.{ℕ, ◌+◌, List, [], ◌∷◌, Bool, true, false, ◌≡◌, take, if◌then◌else◌}
 use Rattle.wire.specs.Bounds.{session_size}
 use Rattle.wire.specs.Bytes.{same_bytes}
 use Rattle.moldudp64.specs.Header.{number_of}

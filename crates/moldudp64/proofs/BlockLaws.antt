@@ -8,7 +8,7 @@ use native.Mathlib.Numerals.{sub-one}
 use lib.ListN.{length, take, drop}
 use lib.Dec.{leb, eqb}
 use borrow.Author.Tests.{le-leb, lt-leb, leb-true, eq-eqb, ne_eqb, eqb-true}
-use Rattle.wire.specs.Choice.{if◌then◌else◌}
+use Rattle.std.specs.Prelude.{if◌then◌else◌}
 use Rattle.wire.specs.Bytes.{number}
 use Rattle.wire.proofs.Numbers.{part_to_end}
 use Rattle.moldudp64.specs.Blocks.{block_length, block_size, fits, after_block, all_fit, after_blocks, messages, blocks_refusal}

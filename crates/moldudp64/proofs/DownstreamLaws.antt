@@ -8,7 +8,7 @@ use lib.ListN.{length, get_or, take, drop, length-take}
 use lib.Seq.{take_all}
 use lib.Dec.{ltb, eqb}
 use borrow.Author.Tests.{lt-ltb, le-ltb, ne_eqb, ltb-false, eqb-true, eqb-false}
-use Rattle.wire.specs.Choice.{if◌then◌else◌}
+use Rattle.std.specs.Prelude.{if◌then◌else◌}
 use Rattle.wire.specs.Words.{Case, answer, refused, says, refuses, Injective}
 use Rattle.wire.specs.Bytes.{same_bytes}
 use Rattle.wire.specs.declared.refusal.Refusal.{Refusal}

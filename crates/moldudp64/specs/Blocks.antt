@@ -1,7 +1,6 @@
 -- Message blocks: a 2-byte length that doesn't count itself, and so many data bytes, perhaps none.
-use Rattle.std.specs.Prelude.{ℕ, zero, suc, ◌+◌, List, [], ◌∷◌, ◌++◌, Bool, true, false, length, take, drop, leb, eqb}
+use Rattle.std.specs.Prelude.{ℕ, zero, suc, ◌+◌, List, [], ◌∷◌, ◌++◌, Bool, true, false, length, take, drop, leb, eqb, if◌then◌else◌}
 use Rattle.wire.specs.Bounds.{length_size}
-use Rattle.wire.specs.Choice.{if◌then◌else◌}
 use Rattle.wire.specs.Refusals.{block_past_end, bytes_after_blocks}
 use Rattle.wire.specs.Bytes.{number, bytes}
 

@@ -1,6 +1,5 @@
 -- Downstream packets: what a datagram says, or the number of its refusal.
-use Rattle.std.specs.Prelude.{ℕ, ◌+◌, List, [], ◌∷◌, Bool, length, get_or, take, drop, ltb, eqb}
-use Rattle.wire.specs.Choice.{if◌then◌else◌}
+use Rattle.std.specs.Prelude.{ℕ, ◌+◌, List, [], ◌∷◌, Bool, length, get_or, take, drop, ltb, eqb, if◌then◌else◌}
 use Rattle.wire.specs.Refusals.{datagram_short, datagram_long, number_zero, numbers_run_out}
 use Rattle.wire.specs.Bounds.{largest_number, session_size}
 use Rattle.wire.specs.Words.{Words, says, refuses, refused_words}

@@ -1,6 +1,5 @@
 -- Request packets: session, first number wanted, how many.
-use Rattle.std.specs.Prelude.{ℕ, List, [], ◌∷◌, not, length, take, eqb}
-use Rattle.wire.specs.Choice.{if◌then◌else◌}
+use Rattle.std.specs.Prelude.{ℕ, List, [], ◌∷◌, not, length, take, eqb, if◌then◌else◌}
 use Rattle.wire.specs.Refusals.{number_zero, request_size, request_count}
 use Rattle.wire.specs.Bounds.{session_size}
 use Rattle.wire.specs.Words.{Words, says, refuses, refused_words}

@@ -12,7 +12,7 @@ use lib.Dec.{ltb, eqb}
 use mir.Val.{Fits}
 use mir.Syntax.{w64}
 use borrow.Author.Tests.{lt-ltb, le-ltb, ltb-true, ltb-false, ne_eqb, eqb-false}
-use Rattle.wire.specs.Choice.{if◌then◌else◌}
+use Rattle.std.specs.Prelude.{if◌then◌else◌}
 use Rattle.wire.specs.Bytes.{bytes}
 use Rattle.wire.proofs.Cases.{zero_or_not}
 use Rattle.wire.proofs.Numbers.{part_to_end, length-bytes}

@@ -1,8 +1,7 @@
 -- Where a message is: by its place from 0, and by a cursor that moves from block to block.
-use Rattle.std.specs.Prelude.{ℕ, zero, suc, ◌+◌, ◌-◌, List, [], ◌∷◌, true, false, ◌≡◌, length, take, drop, ltb, eqb}
+use Rattle.std.specs.Prelude.{ℕ, zero, suc, ◌+◌, ◌-◌, List, [], ◌∷◌, true, false, ◌≡◌, length, take, drop, ltb, eqb, if◌then◌else◌}
 use Rattle.wire.specs.Bounds.{length_size}
 use Rattle.wire.specs.Words.{says}
-use Rattle.wire.specs.Choice.{if◌then◌else◌}
 use Rattle.moldudp64.specs.Header.{header_size}
 use Rattle.moldudp64.specs.Blocks.{block_length, block_size, fits, blocks_of}
 use Rattle.moldudp64.specs.Downstream.{data_packet, downstream_of, messages_of, message_of}

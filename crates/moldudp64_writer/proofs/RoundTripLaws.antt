@@ -8,7 +8,7 @@ use lib.ListN.{length, get_or, take, drop, length-append, length-take, length-dr
 use lib.Seq.{take_all, take_at, drop_at, take-add}
 use lib.Dec.{eqb}
 use borrow.Author.Tests.{le-leb, eq-eqb, eqb-true}
-use Rattle.wire.specs.Choice.{if◌then◌else◌}
+use Rattle.std.specs.Prelude.{if◌then◌else◌}
 use Rattle.wire.specs.Words.{says}
 use Rattle.wire.specs.Bytes.{number, bytes, joined, AreBytes}
 use Rattle.wire.specs.Output.{write_refusal, write_answer}

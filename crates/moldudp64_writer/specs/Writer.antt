@@ -1,7 +1,6 @@
 -- What the writers of downstream packets are given, and what they refuse.
-use Rattle.std.specs.Prelude.{ℕ, ◌+◌, ◌*◌, ◌-◌, List, [], ◌∷◌, Bool, not, length, take, drop, ltb, leb, eqb}
+use Rattle.std.specs.Prelude.{ℕ, ◌+◌, ◌*◌, ◌-◌, List, [], ◌∷◌, Bool, not, length, take, drop, ltb, leb, eqb, if◌then◌else◌}
 use Rattle.wire.specs.Bounds.{length_size}
-use Rattle.wire.specs.Choice.{if◌then◌else◌}
 use Rattle.wire.specs.Refusals.{datagram_long, number_zero, numbers_run_out, too_many_messages, lengths_differ}
 use Rattle.moldudp64.specs.Header.{header_size, largest_datagram, end_count}
 use Rattle.moldudp64.specs.Downstream.{run_out}

@@ -1,7 +1,6 @@
 -- How many whole messages a packet of a size holds: ks are the lengths of the messages, in order.
-use Rattle.std.specs.Prelude.{ℕ, suc, ◌+◌, ◌*◌, ◌-◌, ◌≤◌, List, [], ◌∷◌, Bool, true, false, ◌≡◌, length, take, ltb, leb}
+use Rattle.std.specs.Prelude.{ℕ, suc, ◌+◌, ◌*◌, ◌-◌, ◌≤◌, List, [], ◌∷◌, Bool, true, false, ◌≡◌, length, take, ltb, leb, if◌then◌else◌}
 use Rattle.wire.specs.Bounds.{length_size}
-use Rattle.wire.specs.Choice.{if◌then◌else◌}
 use Rattle.wire.specs.Refusals.{bad_setting}
 use Rattle.moldudp64.specs.Header.{header_size, largest_datagram}
 use Rattle.moldudp64_writer.specs.Writer.{total}

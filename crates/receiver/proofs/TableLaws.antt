@@ -8,7 +8,7 @@ use mir.Val.{Fits}
 use mir.Syntax.{w16, w64}
 use lib.Dec.{eqb}
 use borrow.Author.Tests.{lt-ltb, le-ltb, eq-eqb, ne_eqb}
-use Rattle.wire.specs.Choice.{if◌then◌else◌}
+use Rattle.std.specs.Prelude.{if◌then◌else◌}
 use Rattle.wire.specs.Bounds.{blank}
 use Rattle.wire.proofs.Cases.{zero_or_not}
 use Rattle.wire.proofs.Same.{different}

@@ -1,6 +1,5 @@
 -- What a deliver answer delivers, and the cursor that visits it.
-use Rattle.std.specs.Prelude.{ℕ, ◌+◌, ◌<◌, ◌≤◌, List, [], ◌∷◌, true, false, ◌≡◌, length, get_or, drop, ltb}
-use Rattle.wire.specs.Choice.{if◌then◌else◌}
+use Rattle.std.specs.Prelude.{ℕ, ◌+◌, ◌<◌, ◌≤◌, List, [], ◌∷◌, true, false, ◌≡◌, length, get_or, drop, ltb, if◌then◌else◌}
 use Rattle.wire.specs.Bounds.{largest_count}
 use Rattle.wire.specs.Words.{Words, Case, answer, refused, says}
 use Rattle.wire.specs.Bytes.{AreBytes}

@@ -1,6 +1,5 @@
 -- The receiver: its start, its refusals, and what it answers to a datagram.
-use Rattle.std.specs.Prelude.{ℕ, ◌-◌, List, Bool, true, false, not, ◌≡◌, get_or, take, ltb, eqb}
-use Rattle.wire.specs.Choice.{if◌then◌else◌}
+use Rattle.std.specs.Prelude.{ℕ, ◌-◌, List, Bool, true, false, not, ◌≡◌, get_or, take, ltb, eqb, if◌then◌else◌}
 use Rattle.wire.specs.Refusals.{bad_setting, session_differs, session_ended, end_below_expected}
 use Rattle.wire.specs.Bounds.{least_number, largest_number, least_limit, largest_limit, session_size, blank}
 use Rattle.wire.specs.Words.{Words, Case, answer, refused, refuses}

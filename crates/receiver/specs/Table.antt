@@ -1,7 +1,6 @@
 -- The receiver's table: what an accepted datagram with number f and count c is answered at the expected number n.
-use Rattle.std.specs.Prelude.{ℕ, ◌+◌, ◌-◌, ◌<◌, ◌≤◌, min, [], ◌∷◌, Bool, true, false, ◌≡◌, ltb}
+use Rattle.std.specs.Prelude.{ℕ, ◌+◌, ◌-◌, ◌<◌, ◌≤◌, min, [], ◌∷◌, Bool, true, false, ◌≡◌, ltb, if◌then◌else◌}
 use Rattle.wire.specs.Bounds.{largest_number}
-use Rattle.wire.specs.Choice.{if◌then◌else◌}
 use Rattle.wire.specs.Words.{Words, says, refused_words}
 use Rattle.moldudp64.specs.Downstream.{DownstreamKind, data_packet, heartbeat, end_of_session}
 use Rattle.receiver.specs.declared.receiver.Answer.{Answer}

@@ -1,6 +1,5 @@
 -- Condition 3 speaks of something, and rules something out.
-use Rattle.std.specs.Prelude.{ℕ, ◌≡◌, List, [], ◌∷◌, ◌++◌, Bool, true, false, replicate, ltb, eqb}
-use Rattle.wire.specs.Choice.{if◌then◌else◌}
+use Rattle.std.specs.Prelude.{ℕ, ◌≡◌, List, [], ◌∷◌, ◌++◌, Bool, true, false, replicate, ltb, eqb, if◌then◌else◌}
 use Rattle.wire.specs.Refusals.{datagram_short, session_differs}
 use Rattle.wire.specs.Words.{says, refuses}
 use Rattle.moldudp64.specs.Header.{number_of, count_of}

@@ -8,7 +8,7 @@ use native.Mathlib.Omega.{arith}
 use lib.ListN.{get_or}
 use lib.Dec.{eqb}
 use borrow.Author.Tests.{eqb-true}
-use Rattle.wire.specs.Choice.{if◌then◌else◌}
+use Rattle.std.specs.Prelude.{if◌then◌else◌}
 use Rattle.wire.specs.Words.{Words, Case, answer, refused, says}
 use Rattle.text_fields.specs.Number.{NumberKind, value, bad}
 use Rattle.soupbintcp.specs.declared.packet.Sender.{Sender}

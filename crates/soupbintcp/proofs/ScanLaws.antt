@@ -11,7 +11,7 @@ use lib.Dec.{ltb, eqb}
 use mir.Val.{Fits}
 use mir.Syntax.{w64}
 use borrow.Author.Tests.{ltb-false, eqb-false, lt-ltb, not-true, not-false}
-use Rattle.wire.specs.Choice.{if◌then◌else◌}
+use Rattle.std.specs.Prelude.{if◌then◌else◌}
 use Rattle.wire.specs.Refusals.{length_zero, payload_long, letter_not_sent, length_wrong, field_bad}
 use Rattle.wire.specs.Words.{Words, Case, answer, refused, says, refuses}
 use Rattle.wire.specs.declared.refusal.Refusal.{Refusal}

@@ -8,7 +8,7 @@ use lib.ListN.{length, get_or, take, drop, length-drop, take-append-drop, get_or
 use lib.Seq.{take-append-le, drop-append-le, length-take-le, get_or-take}
 use lib.Dec.{eqb}
 use borrow.Author.Tests.{eqb-true}
-use Rattle.wire.specs.Choice.{if◌then◌else◌}
+use Rattle.std.specs.Prelude.{if◌then◌else◌}
 use Rattle.wire.specs.Words.{Words, Case, says}
 use Rattle.text_fields.specs.Number.{NumberKind}
 use Rattle.soupbintcp.specs.declared.packet.Sender.{Sender}

@@ -1,7 +1,6 @@
 -- The fields of a packet that is there whole, by its letter.
-use Rattle.std.specs.Prelude.{ℕ, ◌+◌, List, [], ◌∷◌, Bool, true, not, get_or, take, drop, eqb}
+use Rattle.std.specs.Prelude.{ℕ, ◌+◌, List, [], ◌∷◌, Bool, true, not, get_or, take, drop, eqb, if◌then◌else◌}
 use Rattle.wire.specs.Text.{letter}
-use Rattle.wire.specs.Choice.{if◌then◌else◌}
 use Rattle.wire.specs.Bounds.{least_number, session_size}
 use Rattle.wire.specs.Words.{Words, Case, answer, refused, says}
 use Rattle.text_fields.specs.Session.{good_session}

@@ -1,6 +1,5 @@
 -- The front of a stream, and the parts of the packet there.
-use Rattle.std.specs.Prelude.{ℕ, ◌+◌, List, [], ◌∷◌, ◌++◌, ◌≡◌, get_or, take, drop, eqb}
-use Rattle.wire.specs.Choice.{if◌then◌else◌}
+use Rattle.std.specs.Prelude.{ℕ, ◌+◌, List, [], ◌∷◌, ◌++◌, ◌≡◌, get_or, take, drop, eqb, if◌then◌else◌}
 use Rattle.wire.specs.Refusals.{field_bad}
 use Rattle.wire.specs.Words.{Words, Case, answer, refused, says, refuses, refused_words, Injective}
 use Rattle.soupbintcp.specs.declared.packet.Sender.{Sender}

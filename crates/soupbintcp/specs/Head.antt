@@ -1,7 +1,6 @@
 -- The front of a stream as far as its length and letter tell.
-use Rattle.std.specs.Prelude.{ℕ, ◌+◌, ◌-◌, List, [], ◌∷◌, not, length, get_or, ltb, eqb}
+use Rattle.std.specs.Prelude.{ℕ, ◌+◌, ◌-◌, List, [], ◌∷◌, not, length, get_or, ltb, eqb, if◌then◌else◌}
 use Rattle.wire.specs.Bounds.{length_size}
-use Rattle.wire.specs.Choice.{if◌then◌else◌}
 use Rattle.wire.specs.Refusals.{length_zero, payload_long, letter_not_sent, length_wrong}
 use Rattle.wire.specs.Words.{Words, says, refuses, refused_words}
 use Rattle.wire.specs.Bytes.{number}

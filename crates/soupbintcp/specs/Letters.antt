@@ -1,7 +1,6 @@
 -- The packets, and document 01's table of letters.
-use Rattle.std.specs.Prelude.{ℕ, ◌+◌, List, [], ◌∷◌, Bool, true, false, ltb, leb, eqb}
+use Rattle.std.specs.Prelude.{ℕ, ◌+◌, List, [], ◌∷◌, Bool, true, false, ltb, leb, eqb, if◌then◌else◌}
 use Rattle.wire.specs.Text.{letter}
-use Rattle.wire.specs.Choice.{if◌then◌else◌}
 use Rattle.wire.specs.Bounds.{session_size}
 use Rattle.text_fields.specs.Number.{number_field_size}
 use Rattle.text_fields.specs.Sound.{username_size, password_size}

@@ -1,6 +1,5 @@
 -- The session at the client.
-use Rattle.std.specs.Prelude.{ℕ, ◌+◌, ◌-◌, List, [], ◌∷◌, Bool, true, ◌≡◌, get_or, drop, ltb, eqb}
-use Rattle.wire.specs.Choice.{if◌then◌else◌}
+use Rattle.std.specs.Prelude.{ℕ, ◌+◌, ◌-◌, List, [], ◌∷◌, Bool, true, ◌≡◌, get_or, drop, ltb, eqb, if◌then◌else◌}
 use Rattle.wire.specs.Bounds.{blank, largest_number, session_size}
 use Rattle.wire.specs.Refusals.{bad_setting, packet_not_taken, state_closed, login_not_asked, numbers_used_up}
 use Rattle.wire.specs.Words.{Words, Case, answer, refused, says, refuses}

@@ -1,6 +1,5 @@
 -- The messages that a client hands up over a stream, from its answers and from the packets alone.
-use Rattle.std.specs.Prelude.{ℕ, ◌+◌, List, [], ◌∷◌, Bool, true, false, get_or, drop, eqb}
-use Rattle.wire.specs.Choice.{if◌then◌else◌}
+use Rattle.std.specs.Prelude.{ℕ, ◌+◌, List, [], ◌∷◌, Bool, true, false, get_or, drop, eqb, if◌then◌else◌}
 use Rattle.wire.specs.Words.{Case, answer, refused}
 use Rattle.soupbintcp.specs.declared.packet.Sender.TheVariants.{Server}
 use Rattle.soupbintcp.specs.Letters.{letter_accepted, letter_sequenced}

@@ -7,7 +7,7 @@ use native.Mathlib.Omega.{arith}
 use lib.ListN.{length}
 use lib.Dec.{ltb}
 use borrow.Author.Tests.{eq-eqb, ne_eqb, ltb-false, le-ltb, lt-leb}
-use Rattle.wire.specs.Choice.{if◌then◌else◌}
+use Rattle.std.specs.Prelude.{if◌then◌else◌}
 use Rattle.wire.specs.Bounds.{session_size, largest_number}
 use Rattle.wire.specs.Words.{Case, answer, refused, says}
 use Rattle.wire.specs.Refusals.{output_short}

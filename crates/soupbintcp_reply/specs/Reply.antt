@@ -1,7 +1,6 @@
 -- A server's step that writes its reply: A with the server's session and the granted number, J with its reason, and
 -- nothing for another answer.
-use Rattle.std.specs.Prelude.{ℕ, List, [], ◌∷◌, ◌≡◌, length, get_or, eqb}
-use Rattle.wire.specs.Choice.{if◌then◌else◌}
+use Rattle.std.specs.Prelude.{ℕ, List, [], ◌∷◌, ◌≡◌, length, get_or, eqb, if◌then◌else◌}
 use Rattle.wire.specs.Words.{Words, Case, answer, refused, refuses}
 use Rattle.wire.specs.Output.{write_refusal, write_output}
 use Rattle.wire.specs.declared.output.Written.{Written}

@@ -7,7 +7,7 @@ use native.Mathlib.Omega.{arith}
 use lib.ListN.{length, drop, get_or}
 use borrow.Author.Tests.{le-ltb}
 use Rattle.wire.specs.Refusals.{bad_setting}
-use Rattle.wire.specs.Choice.{if◌then◌else◌}
+use Rattle.std.specs.Prelude.{if◌then◌else◌}
 use Rattle.wire.specs.Words.{Words, Case, answer, refused, says, refuses}
 use Rattle.soupbintcp.specs.declared.packet.Sender.TheVariants.{Client}
 use Rattle.soupbintcp.specs.Letters.{PacketKind, login, unsequenced, client_heartbeat, debug, logout, letter_for}

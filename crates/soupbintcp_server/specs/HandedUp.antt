@@ -1,6 +1,5 @@
 -- The messages that a server hands up over a stream, from its answers and from the packets alone.
-use Rattle.std.specs.Prelude.{ℕ, List, [], ◌∷◌, Bool, true, false, drop, eqb}
-use Rattle.wire.specs.Choice.{if◌then◌else◌}
+use Rattle.std.specs.Prelude.{ℕ, List, [], ◌∷◌, Bool, true, false, drop, eqb, if◌then◌else◌}
 use Rattle.wire.specs.Words.{Case, answer, refused}
 use Rattle.soupbintcp.specs.Letters.{letter_unsequenced}
 use Rattle.soupbintcp.specs.Head.{head_size, letter_of}

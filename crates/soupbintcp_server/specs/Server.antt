@@ -1,6 +1,5 @@
 -- The session at the server.
-use Rattle.std.specs.Prelude.{ℕ, ◌-◌, List, [], ◌∷◌, false, ◌≡◌, get_or, drop, ltb, eqb}
-use Rattle.wire.specs.Choice.{if◌then◌else◌}
+use Rattle.std.specs.Prelude.{ℕ, ◌-◌, List, [], ◌∷◌, false, ◌≡◌, get_or, drop, ltb, eqb, if◌then◌else◌}
 use Rattle.wire.specs.Bounds.{largest_number, blank}
 use Rattle.wire.specs.Refusals.{bad_setting, packet_not_taken, state_closed}
 use Rattle.wire.specs.Words.{Words, Case, answer, refused, says, refuses}

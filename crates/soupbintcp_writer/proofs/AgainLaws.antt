@@ -8,7 +8,7 @@ use lib.ListN.{length, get_or, take, drop, length-drop, take-append-drop, drop_o
 use lib.Seq.{take-take, take-suc, take-add, drop_at, drop-drop, length-take-le}
 use lib.Dec.{ltb, leb}
 use borrow.Author.Tests.{le-ltb, leb-true, ne_eqb}
-use Rattle.wire.specs.Choice.{if◌then◌else◌}
+use Rattle.std.specs.Prelude.{if◌then◌else◌}
 use Rattle.wire.specs.Bounds.{largest_number}
 use Rattle.wire.specs.Words.{Words, answer, says}
 use Rattle.wire.specs.Bytes.{bytes, AreBytes}

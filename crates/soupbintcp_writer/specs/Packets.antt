@@ -1,7 +1,6 @@
 -- SoupBinTCP logical packets, as they are written, and the grounds of 22 and 46.
-use Rattle.std.specs.Prelude.{ℕ, ◌+◌, List, [], ◌∷◌, ◌++◌, Bool, true, false, length, ltb, eqb}
+use Rattle.std.specs.Prelude.{ℕ, ◌+◌, List, [], ◌∷◌, ◌++◌, Bool, true, false, length, ltb, eqb, if◌then◌else◌}
 use Rattle.wire.specs.Bounds.{length_size}
-use Rattle.wire.specs.Choice.{if◌then◌else◌}
 use Rattle.wire.specs.Refusals.{payload_long, field_not_written}
 use Rattle.wire.specs.Bytes.{bytes}
 use Rattle.text_fields.specs.Session.{good_session}

@@ -12,7 +12,7 @@ use mir.Syntax.{w64}
 use Rattle.wire.specs.declared.refusal.Refusal.{Refusal}
 use Rattle.wire.specs.declared.kinds.SequenceNumber.{SequenceNumber}
 use Rattle.wire.specs.declared.kinds.MessageCount.{MessageCount}
-use Rattle.wire.specs.Choice.{if◌then◌else◌}
+use Rattle.std.specs.Prelude.{if◌then◌else◌}
 use Rattle.wire.specs.Words.{says, refuses, refused_words}
 use Rattle.wire.specs.Bytes.{same_bytes}
 use Rattle.wire.proofs.Words.{which-of, refusal-of, values-of}

@@ -1,6 +1,5 @@
 -- The steps of an answer, each over what it is given: for private helpers alone; no public promise uses it.
-use Rattle.std.specs.Prelude.{ℕ, ◌+◌, ◌-◌, ◌≤◌, min, List, Bool, true, false, not, length, take, drop, ◌≡◌, ltb, leb, eqb}
-use Rattle.wire.specs.Choice.{if◌then◌else◌}
+use Rattle.std.specs.Prelude.{ℕ, ◌+◌, ◌-◌, ◌≤◌, min, List, Bool, true, false, not, length, take, drop, ◌≡◌, ltb, leb, eqb, if◌then◌else◌}
 use Rattle.wire.specs.Refusals.{bad_setting, not_in_store, store_differs}
 use Rattle.wire.specs.Bytes.{same_bytes}
 use Rattle.moldudp64.specs.Header.{number_of, count_of}

@@ -1,7 +1,6 @@
 -- A branch store, and how it answers a request: st is the store, size the most bytes of a packet, header included, and
 -- q the request's bytes.
-use Rattle.std.specs.Prelude.{ℕ, ◌-◌, List, Bool, false, not, length, get_or, take, drop, ltb, leb, eqb}
-use Rattle.wire.specs.Choice.{if◌then◌else◌}
+use Rattle.std.specs.Prelude.{ℕ, ◌-◌, List, Bool, false, not, length, get_or, take, drop, ltb, leb, eqb, if◌then◌else◌}
 use Rattle.wire.specs.Refusals.{bad_setting, lengths_differ, not_in_store, message_long, store_differs}
 use Rattle.wire.specs.Bytes.{same_bytes}
 use Rattle.moldudp64.specs.Header.{number_of, count_of}

@@ -9,7 +9,7 @@ use lib.ListN.{length, drop, get_or, replicate, length-append, length-replicate}
 use lib.Seq.{drop_at}
 use lib.Dec.{ltb, leb, eqb}
 use borrow.Author.Tests.{le-leb, lt-ltb, ltb-true, leb-true, ne_eqb, eqb-true}
-use Rattle.wire.specs.Choice.{if◌then◌else◌}
+use Rattle.std.specs.Prelude.{if◌then◌else◌}
 use Rattle.wire.specs.Bounds.{largest_number}
 use Rattle.wire.specs.Words.{Case, answer, refused, says, Injective}
 use Rattle.wire.proofs.Words.{which-of, values-of, read_back}

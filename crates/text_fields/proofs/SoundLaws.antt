@@ -8,7 +8,7 @@ use lib.ListN.{length, take, drop, replicate, take-append-drop}
 use lib.Seq.{length-take-le, drop_at}
 use lib.Dec.{ltb, eqb}
 use borrow.Author.Tests.{le-ltb, ltb-false, eqb-true}
-use Rattle.wire.specs.Choice.{if◌then◌else◌}
+use Rattle.std.specs.Prelude.{if◌then◌else◌}
 use Rattle.decimal.specs.Decimal.{is_digit}
 use Rattle.text_fields.specs.Letters.{is_letter_or_digit, are_letters_or_digits, space}
 use Rattle.text_fields.specs.Sound.{word_length, are_spaces, sound, Sound, SoundExactlyWhen}

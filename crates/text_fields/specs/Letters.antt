@@ -1,7 +1,6 @@
 -- Letters, digits and spaces, in ASCII.
-use Rattle.std.specs.Prelude.{ℕ, suc, ◌+◌, ◌-◌, List, [], ◌∷◌, Bool, true, ◌&&◌, drop, ltb, leb, eqb}
+use Rattle.std.specs.Prelude.{ℕ, suc, ◌+◌, ◌-◌, List, [], ◌∷◌, Bool, true, ◌&&◌, drop, ltb, leb, eqb, if◌then◌else◌}
 use Rattle.wire.specs.Text.{letter}
-use Rattle.wire.specs.Choice.{if◌then◌else◌}
 use Rattle.decimal.specs.Decimal.{is_digit}
 
 -- `0` to `9`, `A` to `Z`, `a` to `z`

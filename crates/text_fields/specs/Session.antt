@@ -1,6 +1,5 @@
 -- A session field: spaces, then letters or digits.
-use Rattle.std.specs.Prelude.{ℕ, List, [], ◌∷◌, Bool, true, false, ◌&&◌, ◌≡◌, length, eqb}
-use Rattle.wire.specs.Choice.{if◌then◌else◌}
+use Rattle.std.specs.Prelude.{ℕ, List, [], ◌∷◌, Bool, true, false, ◌&&◌, ◌≡◌, length, eqb, if◌then◌else◌}
 use Rattle.text_fields.specs.declared.session.SessionState.{SessionState}
 use Rattle.text_fields.specs.declared.session.SessionState.TheVariants.{Blank, Named, Bad}
 use Rattle.text_fields.specs.Letters.{is_letter_or_digit, are_letters_or_digits, space, after_spaces}

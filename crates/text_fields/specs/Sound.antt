@@ -1,6 +1,5 @@
 -- Username and password.
-use Rattle.std.specs.Prelude.{ℕ, suc, ◌≤◌, List, [], ◌∷◌, ◌++◌, Bool, true, false, ◌&&◌, ◌≡◌, length, drop, replicate, ltb, eqb}
-use Rattle.wire.specs.Choice.{if◌then◌else◌}
+use Rattle.std.specs.Prelude.{ℕ, suc, ◌≤◌, List, [], ◌∷◌, ◌++◌, Bool, true, false, ◌&&◌, ◌≡◌, length, drop, replicate, ltb, eqb, if◌then◌else◌}
 use Rattle.text_fields.specs.Letters.{is_letter_or_digit, are_letters_or_digits, space}
 
 -- how many letters or digits stand at the left end

@@ -11,7 +11,7 @@ use lib.Dec.{eqb}
 use mir.Val.{Fits}
 use mir.Syntax.{w64}
 use borrow.Author.Tests.{ltb-false, lt-ltb, le-ltb, le-leb, lt-leb, ne_eqb, eqb-true, eqb-false, not-false}
-use Rattle.wire.specs.Choice.{if◌then◌else◌}
+use Rattle.std.specs.Prelude.{if◌then◌else◌}
 use Rattle.moldudp64.specs.Downstream.{run_out}
 use Rattle.moldudp64.proofs.DownstreamLaws.{past-ground}
 use Rattle.moldudp64_writer.specs.Writer.{total, add_up}

@@ -9,7 +9,7 @@ use lib.Dec.{leb, eqb}
 use mir.Val.{Fits}
 use mir.Syntax.{w64}
 use borrow.Author.Tests.{ltb-false, leb-false, eq-eqb, ne_eqb, eqb-true, eqb-false, not-false}
-use Rattle.wire.specs.Choice.{if◌then◌else◌}
+use Rattle.std.specs.Prelude.{if◌then◌else◌}
 use Rattle.wire.specs.Words.{says, refuses}
 use Rattle.wire.specs.Output.{wrote, written_words, write_refusal, write_answer, Writes}
 use Rattle.wire.specs.declared.refusal.Refusal.{Refusal}

@@ -1,7 +1,6 @@
 -- What the transmitter is given, what it refuses, and the packet at a place: ks are the lengths of the messages, d
 -- their joined data, n the number of the first, and size the most bytes of a packet, its header included.
-use Rattle.std.specs.Prelude.{ℕ, ◌+◌, List, not, length, leb, eqb}
-use Rattle.wire.specs.Choice.{if◌then◌else◌}
+use Rattle.std.specs.Prelude.{ℕ, ◌+◌, List, not, length, leb, eqb, if◌then◌else◌}
 use Rattle.wire.specs.Refusals.{number_zero, numbers_run_out, lengths_differ, message_long, no_such_packet}
 use Rattle.moldudp64.specs.Downstream.{run_out}
 use Rattle.moldudp64.specs.Written.{encoded}

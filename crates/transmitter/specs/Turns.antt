@@ -1,6 +1,5 @@
 -- The packets of a run one after another: p is how far earlier packets have come, and each turn writes the next one.
-use Rattle.std.specs.Prelude.{ℕ, suc, ◌+◌, List, [], ◌∷◌, Bool, not, ◌≡◌, length, take, drop, leb, eqb}
-use Rattle.wire.specs.Choice.{if◌then◌else◌}
+use Rattle.std.specs.Prelude.{ℕ, suc, ◌+◌, List, [], ◌∷◌, Bool, not, ◌≡◌, length, take, drop, leb, eqb, if◌then◌else◌}
 use Rattle.wire.specs.Refusals.{number_zero, numbers_run_out, lengths_differ, message_long, no_such_packet}
 use Rattle.wire.specs.Output.{write_refusal}
 use Rattle.moldudp64.specs.Downstream.{run_out}

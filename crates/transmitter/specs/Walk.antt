@@ -1,6 +1,5 @@
 -- What the code goes through between packets: a group is the most that fit of the messages that are left.
-use Rattle.std.specs.Prelude.{ℕ, zero, suc, ◌+◌, List, not, ◌≡◌, drop, leb, eqb}
-use Rattle.wire.specs.Choice.{if◌then◌else◌}
+use Rattle.std.specs.Prelude.{ℕ, zero, suc, ◌+◌, List, not, ◌≡◌, drop, leb, eqb, if◌then◌else◌}
 use Rattle.wire.specs.Refusals.{number_zero, numbers_run_out, lengths_differ, message_long, no_such_packet}
 use Rattle.wire.specs.Output.{Writes}
 use Rattle.wire.specs.declared.output.Written.{Written}

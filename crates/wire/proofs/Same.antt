@@ -10,7 +10,7 @@ use lib.ListN.{length, get_or, take, drop, length-take, length-drop, get_or-eq_d
 use lib.Seq.{take_all, take-add, take-take, get_or-take, get_or-drop}
 use lib.Dec.{eqb}
 use borrow.Author.Tests.{eq-eqb, eqb-true, eqb-false}
-use Rattle.wire.specs.Choice.{if◌then◌else◌}
+use Rattle.std.specs.Prelude.{if◌then◌else◌}
 use Rattle.wire.specs.Bytes.{same_bytes, AreBytes, as_number}
 use Rattle.wire.proofs.Cases.{below_or_not}
 use Rattle.wire.proofs.Numbers.{part_to_end}

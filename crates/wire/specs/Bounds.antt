@@ -1,6 +1,5 @@
 -- Bounds that more than one crate names.
-use Rattle.std.specs.Prelude.{ℕ, ◌+◌, ◌-◌, ◌^◌, List, replicate, ltb}
-use Rattle.wire.specs.Choice.{if◌then◌else◌}
+use Rattle.std.specs.Prelude.{ℕ, ◌+◌, ◌-◌, ◌^◌, List, replicate, ltb, if◌then◌else◌}
 use Rattle.wire.specs.Text.{letter}
 
 -- the smallest number that a message has

@@ -1,6 +1,5 @@
 -- Numbers in a list of bytes, and lists compared.
-use Rattle.std.specs.Prelude.{ℕ, zero, suc, ◌+◌, ◌*◌, ◌/◌, ◌%◌, ◌<◌, List, [], ◌∷◌, ◌++◌, Bool, true, false, get_or, eqb}
-use Rattle.wire.specs.Choice.{if◌then◌else◌}
+use Rattle.std.specs.Prelude.{ℕ, zero, suc, ◌+◌, ◌*◌, ◌/◌, ◌%◌, ◌<◌, List, [], ◌∷◌, ◌++◌, Bool, true, false, get_or, eqb, if◌then◌else◌}
 
 -- the number that n bytes make at a place, the most significant first; a byte past the end counts as 0
 unfoldable pub number : List ℕ → ℕ → ℕ → ℕ

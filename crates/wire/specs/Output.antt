@@ -1,6 +1,5 @@
 -- A lent output, and what a writer answers and leaves in it.
-use Rattle.std.specs.Prelude.{ℕ, ◌+◌, ◌^◌, ◌<◌, ◌≤◌, List, [], ◌∷◌, ◌++◌, ◌≡◌, length, take, drop, leb, eqb}
-use Rattle.wire.specs.Choice.{if◌then◌else◌}
+use Rattle.std.specs.Prelude.{ℕ, ◌+◌, ◌^◌, ◌<◌, ◌≤◌, List, [], ◌∷◌, ◌++◌, ◌≡◌, length, take, drop, leb, eqb, if◌then◌else◌}
 use Rattle.wire.specs.Refusals.{output_short}
 use Rattle.wire.specs.Words.{Words, refused, says, refuses, refused_words, Injective}
 use Rattle.wire.specs.Bytes.{number, bytes}

@@ -1,6 +1,5 @@
 -- The first bytes of a slice, where an array of them is wanted.
-use Rattle.std.specs.Prelude.{ℕ, List, length, take, replicate, ltb}
-use Rattle.wire.specs.Choice.{if◌then◌else◌}
+use Rattle.std.specs.Prelude.{ℕ, List, length, take, replicate, ltb, if◌then◌else◌}
 
 -- the first k bytes; k zeros where there are fewer
 unfoldable pub first_bytes : ℕ → List ℕ → List ℕ

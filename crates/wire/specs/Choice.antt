@@ -1,7 +1,0 @@
--- A choice by a test, in which every rule is written.
-use Rattle.std.specs.Prelude.{Bool, true, false}
-
-infixr 20 if◌then◌else◌
-abbrev pub if◌then◌else◌ : {A : Type 0} → Bool → A → A → A
-if true then a else b = a
-if false then a else b = b
