@@ -14,7 +14,7 @@ use Rattle.wire.proofs.Same.{same-equal, same_refl}
 use Rattle.wire.specs.Words.{answer, says, refuses}
 use Rattle.wire.specs.Parts.{first_bytes}
 use Rattle.soupbintcp.specs.declared.packet.Sender.TheVariants.{Server}
-use Rattle.soupbintcp.specs.Letters.{accepted, sequenced, letter_for}
+use Rattle.soupbintcp.specs.Letters.{accepted, letter_for}
 use Rattle.soupbintcp.specs.Fields.{has_fields}
 use Rattle.soupbintcp.specs.Front.{session_of}
 use Rattle.soupbintcp_session.specs.Answer.{incoming, StepOutcome, stays, takes}

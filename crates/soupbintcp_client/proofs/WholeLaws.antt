@@ -6,7 +6,7 @@ use native.Mathlib.Omega.{arith}
 use lib.ListN.{length, drop}
 use lib.Seq.{take_at, drop_at}
 use Rattle.wire.specs.Bounds.{largest_number}
-use Rattle.wire.specs.Bytes.{number, joined}
+use Rattle.wire.specs.Bytes.{joined}
 use Rattle.wire.specs.Words.{Words, answer, says}
 use Rattle.soupbintcp.specs.declared.packet.Sender.TheVariants.{Server}
 use Rattle.soupbintcp.specs.Letters.{PacketKind, sequenced, server_heartbeat, debug, letter_for}
