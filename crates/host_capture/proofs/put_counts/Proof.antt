@@ -6,14 +6,14 @@ use Rattle.host_capture.proofs.put_counts.Tie as tie
 
 returns : tie.Need-returns
 returns c =
-    let sixth = c.before.before in
+    let sixth = c.before in
     let fifth = sixth.before.before.before.before in
     let fourth = fifth.before.before.before.before in
     let third = fourth.before.before.before.before in
     let second = third.before.before.before.before in
     let first = second.before.before.before.before in
-    counts-put _ _ _ _ _ _ _ _ _ _ _ _ _ first.before.before.before.requires first.put_count.ensures second.put-count2.ensures third.put-count3.ensures
-    fourth.put-count4.ensures fifth.put-count5.ensures sixth.put-count6.ensures
+    counts-put _ _ _ _ _ _ _ _ _ _ _ _ _ first.before.before.before.requires first.put_count.ensures second.put_count-2.ensures third.put_count-3.ensures
+    fourth.put_count-4.ensures fifth.put_count-5.ensures sixth.put_count-6.ensures
 
 pub put_counts_spec : {M : Type 1} → statement M
 put_counts_spec =

@@ -6,19 +6,19 @@ use Rattle.exports_moldudp64.proofs.Rules.{words}
 use Rattle.exports_moldudp64.proofs.datagrams.datagram_words.Statement.{statement}
 use Rattle.exports_moldudp64.proofs.datagrams.datagram_words.Tie as tie
 
-returns : tie.Need-returns
+returns : tie.Need-returns-in-Data
 unfolding downstream_words words_at kind_number padded
 returns c = search words
 
-returns-2 : tie.Need-returns-2
+returns-2 : tie.Need-returns-in-Heartbeat
 unfolding downstream_words words_at kind_number padded
 returns-2 c = search words
 
-returns-3 : tie.Need-returns-3
+returns-3 : tie.Need-returns-in-EndOfSession
 unfolding downstream_words words_at kind_number padded
 returns-3 c = search words
 
-returns-4 : tie.Need-returns-4
+returns-4 : tie.Need-returns-in-Refused
 unfolding downstream_words words_at kind_number padded
 returns-4 c = search words
 

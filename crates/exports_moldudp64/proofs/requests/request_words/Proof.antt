@@ -5,11 +5,11 @@ use Rattle.exports_moldudp64.proofs.Rules.{words}
 use Rattle.exports_moldudp64.proofs.requests.request_words.Statement.{statement}
 use Rattle.exports_moldudp64.proofs.requests.request_words.Tie as tie
 
-returns : tie.Need-returns
+returns : tie.Need-returns-in-Wanted
 unfolding request_words padded
 returns c = search words
 
-returns-2 : tie.Need-returns-2
+returns-2 : tie.Need-returns-in-Refused
 unfolding request_words padded
 returns-2 c = search words
 
