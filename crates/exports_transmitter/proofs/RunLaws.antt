@@ -116,6 +116,7 @@ module _ (name : List ℕ) (size n : ℕ) (ks d : List ℕ) (e : run_ground size
           let s = same_size name size n ks d e l i h r c.code m _ _ _ _ c.call in
           one_more i k p qs (its-packet name size n ks d e l i h r c.code m _ _ _ _ c.call z)
           (later (suc i) (omega arith) (moves name size n ks d e l i h r c.code m _ _ _ _ c.call z))
+      go (p ∷ (_ ∷ _)) x later = elim x [ ]
 
 pub hands_on : HandsOn
 unfolding HandsOn

@@ -4,10 +4,10 @@ use Rattle.exports_deliver.proofs.Rules.{passing}
 use Rattle.exports_deliver.proofs.behind_blocks.Statement.{statement}
 use Rattle.exports_deliver.proofs.behind_blocks.Tie as tie
 
-abbrev invariant-loop : tie.invariant-loop
+abbrev invariant-loop : tie.invariant-loop-left
 invariant-loop datagram blocks at₀ left₀ at left = Passing datagram blocks at left
 
-abbrev decreases-loop : tie.decreases-loop
+abbrev decreases-loop : tie.decreases-loop-left
 decreases-loop datagram blocks at₀ left₀ at left = left
 
 pub behind_blocks_spec : {M : Type 1} → statement M

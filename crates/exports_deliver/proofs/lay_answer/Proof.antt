@@ -15,7 +15,7 @@ lay_answer_spec =
     (λ c κs. search answering)  -- answer-requires
     (λ c. search answering)  -- same-length
     (λ c. search answering)  -- returns
-    (λ c κs. (search (lay-long), search (lay-there), lay-room _ _ _ _ _ _ _ _ c.before.before.before.before.before.before.before.or-few.ensures c.before.before.before.before.answer.ensures c.before.if1.false))  -- lay-behind-requires
+    (λ c κs. (search (lay-long), search (lay-there), lay-room _ _ _ _ _ _ _ _ c.or_few-refused.ensures c.answer-code.ensures c.if-code-ne0.false))  -- lay-behind-requires
     (λ c. search answering)  -- same-length-2
     (λ c. search answering)  -- same-length-3
     (λ c. search answering)  -- returns-2

@@ -4,10 +4,10 @@ use Rattle.exports_deliver.proofs.Rules.{laying}
 use Rattle.exports_deliver.proofs.lay_places.Statement.{statement}
 use Rattle.exports_deliver.proofs.lay_places.Tie as tie
 
-abbrev invariant-loop : tie.invariant-loop
+abbrev invariant-loop : tie.invariant-loop-left
 invariant-loop datagram from count places₀ at₀ left₀ word₀ places at left word = Laying datagram places₀ from count places at left word
 
-abbrev decreases-loop : tie.decreases-loop
+abbrev decreases-loop : tie.decreases-loop-left
 decreases-loop datagram from count places₀ at₀ left₀ word₀ places at left word = left
 
 pub lay_places_spec : {M : Type 1} → statement M

@@ -5,11 +5,11 @@ use Rattle.exports_early_deliver.proofs.Rules.{laying}
 use Rattle.exports_early_deliver.proofs.lay_places.Statement.{statement}
 use Rattle.exports_early_deliver.proofs.lay_places.Tie as tie
 
-abbrev invariant-loop : tie.invariant-loop
+abbrev invariant-loop : tie.invariant-loop-left
 invariant-loop receiver lengths slots datagram places₀ here₀ left₀ word₀ places here left word =
     Laying (lent receiver lengths slots) datagram places₀ places here left word
 
-abbrev decreases-loop : tie.decreases-loop
+abbrev decreases-loop : tie.decreases-loop-left
 decreases-loop receiver lengths slots datagram places₀ here₀ left₀ word₀ places here left word = left
 
 pub lay_places_spec : {M : Type 1} → statement M

@@ -26,8 +26,8 @@ eiderwagon_transmitter_next_spec =
     (λ c. search nexts)  -- same-length-2
     (λ c. search nexts)  -- same-length-3
     (λ c. (
-      next-packet _ _ _ _ _ _ _ _ _ c.before.before.before.before.before.before.before.before.before.before.before.before.before.before.before.ten.ensures c.before.before.before.before.before.before.before.before.before.before.before.before.before.before.before.before.lent-from.ensures c.before.before.before.before.before.before.answer-written.ensures.0 _ _ _ _ _ _ c.before.before.before.before.before.before.before.before.before.before.before.next.ensures.0 c.before.before.before.before.before.before.before.before.before.before.before.next.ensures.1 _ _ _
-          c.before.before.before.before.before.before.before.before.before.before.before.before.before.before.before.before.before.if1.false c.before.before.before.before.before.before.before.before.before.before.before.before.before.read.ensures c.before.before.write.ensures.0 c.before.before.write.ensures.1.0,
-      next-only _ _ _ _ _ _ _ _ _ _ _ _ _ c.before.before.before.before.before.before.answer-written.ensures.0 _ _ _ c.before.before.before.before.before.before.before.before.before.before.before.next.ensures.0 c.before.before.write.ensures.0,
+      next-packet _ _ _ _ _ _ _ _ _ c.ten-name.ensures c.lent_from-from.ensures c.answer_written-code.ensures.0 _ _ _ _ _ _ c.next-turn.ensures.0 c.next-turn.ensures.1 _ _ _
+          c.if-state-lt-SIZE.false c.read.ensures c.write.ensures.0 c.write.ensures.1.0,
+      next-only _ _ _ _ _ _ _ _ _ _ _ _ _ c.answer_written-code.ensures.0 _ _ _ c.next-turn.ensures.0 c.write.ensures.0,
     ))  -- returns-2
     )
