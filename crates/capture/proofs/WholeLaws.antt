@@ -41,7 +41,7 @@ use Rattle.capture_text.proofs.TextLaws.{report-fits}
 use Rattle.capture.specs.declared.reading.Stage.{Stage}
 use Rattle.capture.specs.declared.reading.Stage.TheVariants.{Settings, Records, Done, Refused}
 use Rattle.capture.specs.declared.reading.Reading.{Reading}
-use Rattle.capture.specs.Reading.{reading, start_reading, LentReading, lent_reading, reading_with, report_in, started_of, reported, at_stage, at_of, stage_of, ended_by, finish_of, text_at, text_of, Prints}
+use Rattle.capture.specs.Reading.{start_reading, LentReading, lent_reading, reading_with, report_in, started_of, reported, at_stage, at_of, stage_of, ended_by, finish_of, text_at, text_of, Prints}
 use Rattle.capture.specs.Turning.{turning, start_turning, lent_turning, turn_at, turned_of}
 use Rattle.capture.specs.Whole.{records_report, capture_of, capture_text, AnyCutting, AnyTurns, AnySlots, EndIsOver, StartTakesSettings, CapturePromises}
 use Rattle.capture.proofs.FoldLaws.{over-stage, fold-datagrams, pieces-fold, turns-fold}

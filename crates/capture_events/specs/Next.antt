@@ -1,5 +1,5 @@
 -- Events one by one: the one in front of some bytes, if one is there, and what comes next then.
-use Rattle.std.specs.Prelude.{ℕ, zero, suc, ◌+◌, ◌-◌, List, [], ◌∷◌, ◌++◌, Bool, true, false, ◌≡◌, length, take, drop, eqb, if◌then◌else◌}
+use Rattle.std.specs.Prelude.{ℕ, zero, suc, ◌+◌, List, [], ◌∷◌, ◌++◌, Bool, true, false, ◌≡◌, length, take, drop, eqb, if◌then◌else◌}
 use Rattle.wire.specs.Bounds.{length_size}
 use Rattle.capture_settings.specs.declared.settings.Settings as declared
 use Rattle.capture_settings.specs.Settings.{settings_of}

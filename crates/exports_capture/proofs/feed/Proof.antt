@@ -4,13 +4,13 @@ use Rattle.exports_capture.proofs.Rules.{feeds}
 use Rattle.exports_capture.proofs.feed.Statement.{statement}
 use Rattle.exports_capture.proofs.feed.Tie as tie
 
-returns : tie.Need-returns
+returns : tie.Need-returns-then-fed-over
 returns c =
-    (feeds-laid _ _ _ _ _ _ _ _ _ _ _ _ c.before.before.before.before.before.before.before.before.before.before.before.before.before.before.before.before.before.before.before.before.before.before.before.before.before.before.before.requires.0 c.before.before.before.before.before.before.before.before.before.before.before.before.before.before.before.before.before.before.before.before.before.before.before.before.before.before.before.requires.1 c.before.before.before.before.before.before.before.before.before.before.before.before.before.before.before.before.before.before.before.before.before.read.ensures c.before.before.before.before.before.before.before.before.before.before.before.before.before.before.before.before.before.before.feed.ensures.0 c.before.before.before.before.before.before.before.before.before.before.before.before.is-over.ensures c.before.before.before.before.before.before.before.before.before.before.before.flag.ensures c.before.before.before.before.before.before.before.before.answer.ensures _ c.before.before.before.before.if1.true c.before.before.write.ensures, feed-none _ _ _ _ _ _ _ _ _ _ _ _ c.before.before.before.before.before.before.before.before.before.before.before.before.before.before.before.before.before.before.before.before.before.before.before.before.before.before.before.requires.0 c.before.before.before.before.before.before.before.before.before.before.before.before.before.before.before.before.before.before.before.before.before.before.before.before.before.before.before.requires.1 c.before.before.before.before.before.before.before.before.before.before.before.before.before.before.before.before.before.before.before.before.before.read.ensures c.before.before.before.before.before.before.before.before.before.before.before.before.before.before.before.before.before.before.feed.ensures.0 c.before.before.before.before.before.before.before.before.before.before.before.before.is-over.ensures c.before.before.before.before.before.before.before.before.before.before.before.flag.ensures c.before.before.before.before.before.before.before.before.answer.ensures)
+    (feeds-laid _ _ _ _ _ _ _ _ _ _ _ _ c.requires.0 c.requires.1 c.read-start.ensures c.feed-fed.ensures.0 c.is_over-over.ensures c.flag.ensures c.answer-code.ensures _ c.if-fed-over.true c.write.ensures, feed-none _ _ _ _ _ _ _ _ _ _ _ _ c.requires.0 c.requires.1 c.read-start.ensures c.feed-fed.ensures.0 c.is_over-over.ensures c.flag.ensures c.answer-code.ensures)
 
-returns-2 : tie.Need-returns-2
+returns-2 : tie.Need-returns-else-fed-over
 returns-2 c =
-    (feeds-more _ _ _ _ _ _ _ _ _ _ _ _ c.before.before.before.before.before.before.before.before.before.before.before.before.before.before.before.before.before.before.before.before.before.before.before.requires.0 c.before.before.before.before.before.before.before.before.before.before.before.before.before.before.before.before.before.before.before.before.before.before.before.requires.1 c.before.before.before.before.before.before.before.before.before.before.before.before.before.before.before.before.before.read.ensures c.before.before.before.before.before.before.before.before.before.before.before.before.before.before.feed.ensures.0 c.before.before.before.before.before.before.before.before.is-over.ensures c.before.before.before.before.before.before.before.flag.ensures c.before.before.before.before.answer.ensures c.if1.false, feed-none _ _ _ _ _ _ _ _ _ _ _ _ c.before.before.before.before.before.before.before.before.before.before.before.before.before.before.before.before.before.before.before.before.before.before.before.requires.0 c.before.before.before.before.before.before.before.before.before.before.before.before.before.before.before.before.before.before.before.before.before.before.before.requires.1 c.before.before.before.before.before.before.before.before.before.before.before.before.before.before.before.before.before.read.ensures c.before.before.before.before.before.before.before.before.before.before.before.before.before.before.feed.ensures.0 c.before.before.before.before.before.before.before.before.is-over.ensures c.before.before.before.before.before.before.before.flag.ensures c.before.before.before.before.answer.ensures)
+    (feeds-more _ _ _ _ _ _ _ _ _ _ _ _ c.requires.0 c.requires.1 c.read-start.ensures c.feed-fed.ensures.0 c.is_over-over.ensures c.flag.ensures c.answer-code.ensures c.if-fed-over.false, feed-none _ _ _ _ _ _ _ _ _ _ _ _ c.requires.0 c.requires.1 c.read-start.ensures c.feed-fed.ensures.0 c.is_over-over.ensures c.flag.ensures c.answer-code.ensures)
 
 pub feed_spec : {M : Type 1} → statement M
 feed_spec =

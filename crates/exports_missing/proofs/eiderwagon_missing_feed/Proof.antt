@@ -5,9 +5,9 @@ use Rattle.exports_missing.proofs.Rules.{refusals}
 use Rattle.exports_missing.proofs.eiderwagon_missing_feed.Statement.{statement}
 use Rattle.exports_missing.proofs.eiderwagon_missing_feed.Tie as tie
 
-returns-3 : tie.Need-returns-3
+returns-3 : tie.Need-returns
 returns-3 c =
-    let fed = c.before.before.before.before.before.before.feed in
+    let fed = c.feed in
     (fed.ensures.0, (none_only _ fed.ensures.1, missing-hands-on))
 
 pub eiderwagon_missing_feed_spec : {M : Type 1} → statement M

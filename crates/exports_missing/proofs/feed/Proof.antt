@@ -4,21 +4,13 @@ use Rattle.exports_missing.proofs.Rules.{feeds}
 use Rattle.exports_missing.proofs.feed.Statement.{statement}
 use Rattle.exports_missing.proofs.feed.Tie as tie
 
-returns : tie.Need-returns
-returns c =
-    let wrote = c.before.before in
-    let tested = wrote.before.before in
-    let answered = tested.before.before.before.before in
-    let flagged = answered.before.before.before in
-    let over = flagged.before in
-    let fed = over.before.before.before.before in
-    let read = fed.before.before in
-    let start = read.before.before.before.before.before.before in (
-      feeds-laid _ _ _ _ _ _ _ _ _ _ _ start.requires.0 start.requires.1 read.read.ensures fed.feed.ensures.0 over.is-over.ensures flagged.flag.ensures answered.answer.ensures
-          _ wrote.write.ensures.0 _ tested.if1.true wrote.write.ensures.1.0,
-      laid-zero _ _ _ _ _ _ _ _ _ _ _ start.requires.0 start.requires.1 read.read.ensures fed.feed.ensures.0 over.is-over.ensures flagged.flag.ensures answered.answer.ensures
-          _ wrote.write.ensures.0,
-    )
+returns : tie.Need-returns-then-fed-over
+returns c = (
+  feeds-laid _ _ _ _ _ _ _ _ _ _ _ c.requires.0 c.requires.1 c.read-start.ensures c.feed-fed.ensures.0 c.is_over-over.ensures c.flag.ensures c.answer-code.ensures
+      _ c.write.ensures.0 _ c.if-fed-over.true c.write.ensures.1.0,
+  laid-zero _ _ _ _ _ _ _ _ _ _ _ c.requires.0 c.requires.1 c.read-start.ensures c.feed-fed.ensures.0 c.is_over-over.ensures c.flag.ensures c.answer-code.ensures
+      _ c.write.ensures.0,
+)
 
 pub feed_spec : {M : Type 1} → statement M
 feed_spec =
