@@ -1,6 +1,6 @@
 // Runs recorded vectors through what no exported function reaches: a reader over a datagram, and the lookup and the
 // server's step over account records. `vector_lines` tells the form of a vector. A caller of a function over a `Reader`
-// or over `&[Account]` needs a proof by hand, so the plain functions are called that go through these.
+// or over `&[Account]` needed a proof by hand with an older kit: the plain functions are called that go through these.
 #![tactic(auto)]
 
 ghost use Rattle.std.specs.Prelude.{◌≤◌, length};

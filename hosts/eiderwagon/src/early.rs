@@ -17,6 +17,7 @@
 //! assert_eq!(taken.answer, Answer::Ahead);
 //! let request = taken.request.expect("something is missing");
 //! assert_eq!((request.first, request.count), (1, 1));
+//! assert_eq!(receiver.held_count(), 1);
 //! assert!(receiver.holds(2) && !receiver.holds(1));
 //!
 //! // With message 1 both are delivered, and nothing is missing.
