@@ -26,6 +26,6 @@ if [ "$2" = run ] && grep -q "^rt: running out/$1" "$log"; then
     status=0
 fi
 if [ "$status" -ne 0 ]; then
-    tail -n 40 "$log" >&2
+    grep -Ev '^(statements|library|axioms) ' "$log" | tail -n 40 >&2
     exit 1
 fi
