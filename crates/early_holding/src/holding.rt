@@ -145,6 +145,7 @@ impl EarlyReceiver {
     }
 
     // Whether a message of this number and length is to be kept: not too long, not too far, and not held already.
+    #[tactic(auto, using(crate::proofs::Rules::places))]
     fn keeps(self, number: SequenceNumber, size: usize) -> bool
         ensures { result ≡ keeps self number.0 size }
     {

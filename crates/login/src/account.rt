@@ -154,6 +154,7 @@ fn has_password(account: Account, entry: Account) -> bool
 }
 
 // Whether a record opens the door to an entry: it is of the entry, and has its password.
+#[tactic(auto, using(crate::proofs::Rules::accounts))]
 pub fn is_known(account: Account, entry: Account) -> bool
     ensures { result ≡ is_known (account ∷ []) entry }
 {

@@ -183,6 +183,7 @@ impl Receiver {
 
     // Whether the datagram is of another session; without a name, whether its session is blank. A name that doesn't end
     // in a space isn't blank, which is told first.
+    #[tactic(auto, using(crate::proofs::Rules::names))]
     fn is_other_session(self, datagram: &[u8]) -> bool
         ensures { result ≡ other_session self datagram.now }
     {
@@ -222,6 +223,7 @@ impl Receiver {
 
     // The receiver under its name, or the datagram's where it has none yet: the one place where a name is learned. A
     // datagram that isn't of another session has that name in either case, so nothing is tested.
+    #[tactic(auto, using(crate::proofs::Rules::names))]
     fn named_by(self, datagram: &[u8]) -> Receiver
         requires { other_session self datagram.now ≡ false }
         ensures { result ≡ named_by self datagram.now }

@@ -36,6 +36,7 @@ fn smaller(a: usize, b: usize) -> usize
 }
 
 // So many from a number on, at most to the store's end; 51 where the number isn't there.
+#[tactic(auto, using(crate::proofs::Rules::steps))]
 fn from_number(
     first: SequenceNumber,
     held: usize,
