@@ -26,7 +26,7 @@ text_checks() {
     step "direct dependencies" python3 tools/direct_dependencies.py --check
     step "refusals" python3 tools/refusals.py --check
     step "signatures" python3 tools/signatures.py
-    step "library" python3 tools/library.py --check
+    step "static libraries" python3 tools/library.py --check
     step "header's refusals" python3 tools/header_refusals.py --check
     step "must-fail edits" python3 tools/edits.py
     step "mutations" python3 tools/mutations.py --check

@@ -1,12 +1,23 @@
 #!/usr/bin/env bash
-# Builds the library for hosts in other languages, target/staticlib/libeiderwagon.a: the static library of the crate
-# `eiderwagon`, over what was proved already. What hasn't changed since isn't proved again, but for that crate itself.
+# Builds the library for hosts in other languages, target/staticlib/libeiderwagon.a: the archives of the static libraries
+# `exports_.._c` as one. What was proved and hasn't changed isn't proved again, but for these crates themselves. Each is
+# compiled by itself, so that what one caller of it calls is compiled into that caller (docs/DECISIONS.md).
 set -euo pipefail
 cd "$(dirname "$0")/.."
-library=target/staticlib/libeiderwagon.a
+library=$PWD/target/staticlib/libeiderwagon.a
+crates=$(sed -n 's/^\(exports_[a-z0-9_]*_c\) staticlib:.*/\1/p' crates.txt)
 
-tools/rt_in.sh eiderwagon lib
+# the archives are joined with binutils, which come from Debian's packages where they are missing
+command -v ar >/dev/null || { apt-get update -q && apt-get install -qy binutils; }
+
 mkdir -p target/staticlib
-cp crates/eiderwagon/out/libeiderwagon.a "$library.part"
-mv "$library.part" "$library"
-echo "built $library: $(nm --defined-only -g "$library" | grep -c ' T eiderwagon_') functions"
+room=$(mktemp -d)
+trap 'rm -rf "$room"' EXIT
+for crate in $crates; do
+    tools/rt_in.sh "$crate" lib
+    mkdir "$room/$crate"
+    (cd "$room/$crate" && ar x "$OLDPWD/crates/$crate/out/lib$crate.a")
+done
+ar rcs "$room/libeiderwagon.a" "$room"/*/*.o
+mv "$room/libeiderwagon.a" "$library"
+echo "built target/staticlib/libeiderwagon.a: $(nm --defined-only -g "$library" | grep -c ' T eiderwagon_') functions"

@@ -1,12 +1,12 @@
 #!/usr/bin/env python3
-"""The static library crates/eiderwagon: each function that the crates `exports_` export, with its clauses, as a call.
+"""The static libraries: each function that a crate `exports_X` exports, with its clauses, as a call in `exports_X_c`.
 
-    tools/library.py            writes crates/eiderwagon/src from their sources; `rt fmt` there lays it out
+    tools/library.py            writes crates/exports_X_c/src from the sources of crates/exports_X; `rt fmt` lays it out
     tools/library.py --check    compares, and exits 1 on a difference
 
 A crate is a library or a static library, and a static library exports only functions of its own. So the crates
-`exports_` are libraries, for the crates above them, and hosts in other languages link this one. A function has the same
-name, parameters and clauses in both, and its body is the call. Each crate `exports_X` has a module `X_calls` here.
+`exports_` are libraries, for the crates above them, and hosts in other languages link the static ones, whose archives
+tools/host_library.sh joins. A function has the same name, parameters and clauses in both, and its body is the call.
 """
 import re
 import sys
@@ -14,26 +14,14 @@ import sys
 import sources
 from sources import ROOT
 
-CRATE = "eiderwagon"
-SRC = ROOT / "crates" / CRATE / "src"
 PREFIX = "exports_"
-ROOT_FILE = """// The library for hosts in other languages: the functions of the crates `exports_`, which hosts link as one archive.
-// `include/eiderwagon.h` says what each function takes and answers. Made by tools/library.py from those crates.
-#![tactic(auto)]
-
-"""
 TACTIC = re.compile(r"^#\[tactic\((?:[^()]|\([^()]*\))*\)\]\n", re.M)
 IMPORT = re.compile(r"^ghost use ([\w.]+)\.\{([^}]*)\};$", re.M)
 
 
 def exporting():
-    """The crates whose functions the library has, in the order of crates.txt."""
-    return [name for name in sources.crates() if name.startswith(PREFIX)]
-
-
-def module_of(crate):
-    """The module's name is no crate's: of a library that a crate uses none may have the name."""
-    return f"{crate.removeprefix(PREFIX)}_calls"
+    """The crates whose functions hosts link, in the order of crates.txt."""
+    return [name for name in sources.libraries() if name.startswith(PREFIX)]
 
 
 def is_named(word, clauses):
@@ -77,17 +65,12 @@ def text_of(crate, item):
     return "\n".join([promise, "{", f"    {call}({', '.join(names)})", "}"])
 
 
-def files():
-    """Each file of the library by its name, with its text."""
-    found, modules = {}, []
-    for crate in exporting():
-        items = [item for item in sources.items_of(crate) if item.is_exported]
-        about = re.match(r"(?://[^\n]*\n)+", (ROOT / "crates" / crate / "src/lib.rt").read_text()).group(0)
-        head = "\n".join([about.rstrip(), *imports_of(items)])
-        found[f"{module_of(crate)}.rt"] = "\n\n".join([head, *(text_of(crate, item) for item in items)]) + "\n"
-        modules.append(module_of(crate))
-    found["lib.rt"] = ROOT_FILE + "".join(f"mod {module};\n" for module in sorted(modules))
-    return found
+def static_of(crate):
+    """The source of a crate's static library."""
+    items = [item for item in sources.items_of(crate) if item.is_exported]
+    about = re.match(r"(?://[^\n]*\n)+", (ROOT / "crates" / crate / "src/lib.rt").read_text()).group(0)
+    head = f"{about}// Made by tools/library.py from the crate {crate}, whose functions it calls.\n#![tactic(auto)]\n"
+    return "\n".join([head, *imports_of(items), "", *"\n\n".join(text_of(crate, i) for i in items).split("\n"), ""])
 
 
 def words_of(text):
@@ -98,17 +81,16 @@ def words_of(text):
 def main():
     if sys.argv[1:] not in ([], ["--check"]):
         sys.exit(__doc__)
-    wanted, faults = files(), []
-    if not sys.argv[1:]:
-        SRC.mkdir(parents=True, exist_ok=True)
-        for name, text in wanted.items():
-            (SRC / name).write_text(text)
-    there = {path.name: path.read_text() for path in SRC.glob("*.rt")}
-    for name in sorted(wanted.keys() | there.keys()):
-        if words_of(wanted.get(name, "")) != words_of(there.get(name, "")):
-            faults.append(f"crates/{CRATE}/src/{name} isn't what the crates exports_ have: run tools/library.py")
-    functions = sum(text.count("#[unsafe(no_mangle)]") for text in wanted.values())
-    print("\n".join([*faults, f"library: {functions} functions, {len(faults)} faults"]))
+    faults, functions = [], 0
+    for crate in exporting():
+        path, wanted = ROOT / "crates" / f"{crate}_c" / "src/lib.rt", static_of(crate)
+        if not sys.argv[1:]:
+            path.parent.mkdir(parents=True, exist_ok=True)
+            path.write_text(wanted)
+        if not path.exists() or words_of(path.read_text()) != words_of(wanted):
+            faults.append(f"crates/{crate}_c isn't what {crate} has: run tools/library.py")
+        functions += wanted.count("#[unsafe(no_mangle)]")
+    print("\n".join([*faults, f"static libraries: {functions} functions, {len(faults)} faults"]))
     sys.exit(1 if faults else 0)
 
 

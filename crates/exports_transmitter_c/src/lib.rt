@@ -1,0 +1,78 @@
+// The transmitter for hosts in other languages: a run of messages cut into packets, asked for by place or one after
+// another. `include/eiderwagon.h` says what each function takes and answers.
+// Made by tools/library.py from the crate exports_transmitter, whose functions it calls.
+#![tactic(auto)]
+
+ghost use Rattle.std.specs.Prelude.{[], ◌∷◌};
+ghost use Rattle.wire.specs.Bounds.{session_size};
+ghost use Rattle.wire.specs.Parts.{first_bytes};
+ghost use Rattle.transmitter.specs.Transmitter.{transmit_ground, packet_at};
+ghost use Rattle.host_answers.specs.Answers.{named, RefusesOnly, AnswersWriting};
+ghost use Rattle.exports_transmitter.specs.Calls.{StartsTransmitter, NextPacket};
+ghost use Rattle.exports_transmitter.specs.Run.{HandsOn};
+ghost use Rattle.exports_transmitter.specs.Example.{HandedExample};
+
+// Writes the packet at a place.
+#[unsafe(no_mangle)]
+pub extern "C" fn eiderwagon_transmitter_packet(
+    session: &[u8],
+    first: u64,
+    lengths: &[u16],
+    joined: &[u8],
+    size: u64,
+    place: u64,
+    out: &mut [u8],
+    words: &mut [u64],
+) -> u32
+    ensures answers_writing { AnswersWriting result words.old words.new out.old
+        out.new
+        (named session.now
+        (transmit_ground size first lengths.now joined.now place))
+        (packet_at (first_bytes session_size session.now) size first lengths.now
+        joined.now place) }
+    ensures refuses { RefusesOnly result (19 ∷ 44 ∷ 13 ∷ 14 ∷ 52 ∷ 54 ∷ 41 ∷ []) }
+{
+    exports_transmitter::eiderwagon_transmitter_packet(
+        session, first, lengths, joined, size, place, out, words,
+    )
+}
+
+// Starts the packets of a run one after another.
+#[unsafe(no_mangle)]
+pub extern "C" fn eiderwagon_transmitter_start(
+    first: u64,
+    lengths: &[u16],
+    joined: &[u8],
+    size: u64,
+    state: &mut [u8],
+) -> u32
+    ensures starts_transmitter { StartsTransmitter result size first lengths.now joined.now state.old
+        state.new }
+    ensures refuses { RefusesOnly result (19 ∷ 44 ∷ 13 ∷ 14 ∷ 52 ∷ 41 ∷ []) }
+    ensures hands_on { HandsOn }
+    ensures not_vacuous { HandedExample }
+{
+    exports_transmitter::eiderwagon_transmitter_start(first, lengths, joined, size, state)
+}
+
+// Writes the next packet.
+#[unsafe(no_mangle)]
+pub extern "C" fn eiderwagon_transmitter_next(
+    session: &[u8],
+    first: u64,
+    lengths: &[u16],
+    joined: &[u8],
+    size: u64,
+    state: &mut [u8],
+    out: &mut [u8],
+    words: &mut [u64],
+) -> u32
+    ensures next_packet { NextPacket result session.now size first lengths.now joined.now
+        state.old state.new out.old out.new words.old
+        words.new }
+    ensures refuses { RefusesOnly result (19 ∷ 44 ∷ 13 ∷ 14 ∷ 52 ∷ 54 ∷ 41 ∷ []) }
+{
+    exports_transmitter::eiderwagon_transmitter_next(
+        session, first, lengths, joined, size, state, out, words,
+    )
+}
