@@ -12,7 +12,7 @@ use Rattle.text_fields.specs.Sound.{word_length, are_spaces, sound}
 use Rattle.login.specs.Account.{lowered, same_text, sound_account, is_of, has_password, is_known, verdict_of, lookup_of}
 use Rattle.login.specs.Decision.{accepted, rejected, rejects, session_holds, number_holds, granted, decision_at, Attempt, login_of}
 use Rattle.login.specs.Statements.{Lock, NotRefused, Rules, LoginRules}
-use Rattle.login.specs.Locks.{lets_everyone_in, lets_no_one_in, front_of, same_front, stops_early, stops_at_zero_or_space, her_own, too_short, behind_azero, empty, WrongLocks}
+use Rattle.login.specs.Locks.{lets_everyone_in, lets_no_one_in, front_of, same_front, stops_early, stops_at_zero_or_space, her_own, too_short, behind_zero_byte, empty, WrongLocks}
 use Rattle.login.proofs.StatementLaws.{accepted_exactly_when}
 
 -- what ours rejects breaks the rules
@@ -42,7 +42,7 @@ wrong_locks =
       stopping_early = lets-in stops_at_zero_or_space too_short (omega arith) refl refl;
       by_her_own = accepted_exactly_when.rules.only_when her_own refl;
       too_short_refused = breaks too_short (omega arith) refl;
-      behind_a_zero = breaks behind_azero (omega arith) refl;
+      behind_a_zero = breaks behind_zero_byte (omega arith) refl;
       nothing = breaks empty (omega arith) refl;
       too_short_in = refl;
       behind_a_zero_in = refl;

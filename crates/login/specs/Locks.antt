@@ -56,8 +56,8 @@ her_own = attempts (ann ∷ []) ann readroom 3
 abbrev pub too_short : Attempt
 too_short = ann_with (ascii "cafe")
 
-abbrev pub behind_azero : Attempt
-behind_azero = ann_with (99 ∷ 97 ∷ 102 ∷ 101 ∷ 55 ∷ 0 ∷ 120 ∷ [])
+abbrev pub behind_zero_byte : Attempt
+behind_zero_byte = ann_with (99 ∷ 97 ∷ 102 ∷ 101 ∷ 55 ∷ 0 ∷ 120 ∷ [])
 
 abbrev pub empty : Attempt
 empty = ann_with []
@@ -69,8 +69,8 @@ pub record WrongLocks : Type 0 where
   pub stopping_early : LoginRules stops_at_zero_or_space → ⊥
   pub by_her_own : Rules her_own
   pub too_short_refused : Rules too_short → ⊥
-  pub behind_a_zero : Rules behind_azero → ⊥
+  pub behind_a_zero : Rules behind_zero_byte → ⊥
   pub nothing : Rules empty → ⊥
   pub too_short_in : (stops_at_zero_or_space too_short).which ≡ answer accepted
-  pub behind_a_zero_in : (stops_at_zero_or_space behind_azero).which ≡ answer accepted
+  pub behind_a_zero_in : (stops_at_zero_or_space behind_zero_byte).which ≡ answer accepted
   pub empty_in : (stops_at_zero_or_space empty).which ≡ answer accepted
