@@ -1,6 +1,6 @@
 // The leaf that reads an eight-byte number, as it is and as it was before order 3, for a benchmark alone
 // (bench/numbers.sh). Both promise the same.
-#![tactic(auto)]
+#![tactic(auto, using(crate::proofs::Rules::numbers))]
 
 ghost use Rattle.std.specs.Prelude.{◌≡◌, ◌+◌, ◌*◌};
 ghost use Rattle.wire.specs.Bytes.{number};

@@ -11,7 +11,7 @@ use mir.Syntax.{w64}
 use borrow.Author.Tests.{eq-eqb, ne_eqb}
 use Rattle.wire.specs.Bounds.{blank}
 use Rattle.wire.specs.Output.{Writes}
-use Rattle.wire.specs.declared.output.Written.{Written}
+use Rattle.wire.specs.Output.{Written}
 use Rattle.wire.proofs.Numbers.{part_to_end}
 use Rattle.wire.proofs.Cases.{zero_or_not}
 use Rattle.receiver.specs.Receiver.{receiver_start_refusal, start_receiver}

@@ -12,8 +12,8 @@ use Rattle.wire.specs.Bounds.{session_size}
 use Rattle.wire.specs.Words.{answer, refused, says}
 use Rattle.wire.specs.Output.{wrote, written_words, write_refusal, write_answer, Writes}
 use Rattle.wire.specs.declared.refusal.Refusal.{Refusal}
-use Rattle.wire.specs.declared.output.Written.{Written}
-use Rattle.wire.specs.declared.output.Written.TheVariants.{Wrote}
+use Rattle.wire.specs.Output.{Written}
+use Rattle.std.specs.Prelude.{Ok}
 use Rattle.wire.specs.declared.output.Written.TheVariants as written
 use Rattle.wire.proofs.Words.{which-of}
 use Rattle.wire.proofs.Outputs.{no-write-refusal, wrote_so, wrote-front}
@@ -252,7 +252,7 @@ unfolding write_answer
 said-room l bs z = rw z
 
 module _ (s : Reading) (w : Written) (l m : List ℕ) (h : Writes w l m 0 0 (text_of s)) where
-  pub printed-so : (k : ℕ) → w ≡ Wrote k → length l ≡ room → Prints (record { text = m; size = k }) (text_of s)
+  pub printed-so : (k : ℕ) → w ≡ Ok k → length l ≡ room → Prints (record { text = m; size = k }) (text_of s)
   unfolding written_words
   printed-so k e n =
       let a : write_answer 0 l 0 (text_of s) ≡ says wrote (k ∷ []) = sym h.answers ∙ ap written_words e in

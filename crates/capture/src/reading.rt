@@ -1,5 +1,6 @@
 // A capture that comes in pieces. What is there is fed; the bytes that were not used are kept, and fed again in front
 // of the next piece. The receiver's lengths and slots are lent to every call, as the one before left them.
+#![tactic(auto, using(crate::proofs::Rules::advancing, crate::proofs::Rules::feeding, crate::proofs::Rules::finishing, crate::proofs::Rules::printing, crate::proofs::Rules::starting, crate::proofs::Rules::telling, crate::proofs::Rules::writing))]
 ghost use Rattle.std.specs.Prelude.{◌≡◌, length};
 ghost use Rattle.wire.specs.Output.{Writes};
 ghost use Rattle.capture_events.specs.Events.{read_records, read_settings, read_on, waits_at};
@@ -19,7 +20,7 @@ use capture_text::report_text::ROOM;
 use early_condition_3;
 use wire::kinds;
 use wire::kinds::{LENGTH_SIZE, MessageCount, SequenceNumber};
-use wire::output::Written;
+use wire::refusal::Refusal;
 
 // What comes next of a capture: its settings, or records; or nothing, at its end or where its settings are refused.
 #[derive(Clone, Copy)]
@@ -240,7 +241,7 @@ impl Reading {
 
     // Writes what a reading prints: the report, or that the settings are refused, as they also are while none were
     // read.
-    pub fn write(self, out: &mut [u8]) -> Written
+    pub fn write(self, out: &mut [u8]) -> Result<usize, Refusal>
         ensures { Writes result out.old out.new 0 0 (text_of self) }
     {
         let stage = self.stage;
@@ -259,8 +260,8 @@ impl Reading {
     {
         let mut text = [0u8; ROOM];
         match self.write(&mut text) {
-            Written::Wrote { size } => Printed { text, size },
-            Written::Refused(_) => Printed { text, size: 0 },
+            Ok(size) => Printed { text, size },
+            Err(_) => Printed { text, size: 0 },
         }
     }
 }

@@ -5,11 +5,11 @@ ghost use Rattle.capture.specs.Example.{PrintedExample};
 
 use crate::reading::Reading;
 use early_holding::holding::{LENGTH_BYTES, SLOT_BYTES};
-use wire::output::Written;
+use wire::refusal::Refusal;
 
 // Writes what a capture prints: its report, or that its settings are refused. The receiver's lengths and slots are its
 // own.
-pub fn report(capture: &[u8], out: &mut [u8]) -> Written
+pub fn report(capture: &[u8], out: &mut [u8]) -> Result<usize, Refusal>
     ensures writes { Writes result out.old out.new 0 0 (capture_text capture.now) }
     ensures example { PrintedExample }
 {

@@ -1,6 +1,6 @@
 // A capture as events, one by one, and the turns of a program that reads one over a lent buffer, whatever it makes of
 // them.
-#![tactic(auto)]
+#![tactic(auto, using(crate::proofs::Rules::turning))]
 
 pub mod place;
 

@@ -1,4 +1,5 @@
 // How far a capture was read, and its events one by one.
+#![tactic(auto, using(crate::proofs::Rules::looking, crate::proofs::Rules::telling))]
 ghost use Rattle.std.specs.Prelude.{◌≡◌};
 ghost use Rattle.capture_events.specs.Events.{settings, records, is_over_at, waits_at};
 ghost use Rattle.capture_events.specs.Next.{at_of, next_of, is_found, read_by, OneByOne, EndsAt};

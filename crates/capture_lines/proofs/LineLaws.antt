@@ -6,8 +6,8 @@ use native.Mathlib.Omega.{arith}
 use lib.ListN.{length, length-append}
 use borrow.Author.Tests.{le-ltb}
 use Rattle.wire.specs.Bounds.{largest_number, up_to}
-use Rattle.wire.specs.declared.output.Written.{Written}
-use Rattle.wire.specs.declared.output.Written.TheVariants.{Wrote, Refused}
+use Rattle.wire.specs.Output.{Written}
+use Rattle.std.specs.Prelude.{Ok, Err}
 use Rattle.wire.specs.Output.{written_words, Writes}
 use Rattle.wire.proofs.Words.{which-of}
 use Rattle.wire.proofs.Outputs.{put-put, length-put, WroteSo, wrote_so, writes-done}
@@ -40,11 +40,11 @@ refused-fits = omega arith
 pub wrote-laid : (w : Written) {l m : List ℕ} {at a : ℕ} {bs : List ℕ} (most : ℕ) → Writes w l m 0 at bs → a ≡ behind_of at w
     → length bs ≤ most → at + most ≤ length l → length l * 1 < 2 ^ 63 → LaysLine a l m at bs most
 unfolding behind_of written_words up_to
-wrote-laid (Wrote k) {l} {m} {at} {a} {bs} most w e n h f =
+wrote-laid (Ok k) {l} {m} {at} {a} {bs} most w e n h f =
     let s : WroteSo 0 l at bs k = wrote_so 0 l at bs k (sym w.answers) in
     let g : at + k ≤ largest_number = omega (arith, s.size) in
     record { place = e ∙ rw (le-ltb _ _ g) (ap (λ (i : ℕ). at + i) s.size); bytes = w.leaves; within = n }
-wrote-laid (Refused q) {l} {m} {at} {a} {bs} most w e n h f =
+wrote-laid (Err q) {l} {m} {at} {a} {bs} most w e n h f =
     let d = (writes-done l at bs m (omega arith) w.leaves).answers in
     let c = which-of (w.answers ∙ sym d) in
     let z : ◌≡◌ {A = ℕ} 0 1 = cc in

@@ -10,8 +10,8 @@ use Rattle.io.specs.Digits.{last_digits as io-digits, IsDigitCount}
 use Rattle.wire.specs.Bounds.{up_to}
 use Rattle.wire.specs.Refusals.{output_short}
 use Rattle.wire.specs.declared.refusal.Refusal.{Refusal}
-use Rattle.wire.specs.declared.output.Written.{Written}
-use Rattle.wire.specs.declared.output.Written.TheVariants.{Wrote, Refused}
+use Rattle.wire.specs.Output.{Written}
+use Rattle.std.specs.Prelude.{Ok, Err}
 use Rattle.wire.specs.Output.{put, Writes}
 use Rattle.wire.proofs.Outputs.{put-put, writes_short, writes-done}
 use Rattle.decimal.proofs.SpellLaws.{decimal-digits}
@@ -23,16 +23,16 @@ use Rattle.capture_lines.proofs.LineLaws.{line-length}
 -- ---- a line
 
 module _ (l key value : List ℕ) (at : ℕ) where
-  pub line-beyond : length l < at → Writes (Refused (record { number = output_short })) l l 0 at (line key value)
+  pub line-beyond : length l < at → Writes (Err (record { number = output_short })) l l 0 at (line key value)
   line-beyond h = writes_short l at (line key value) (omega arith)
 
   pub line-over : at ≤ length l → length l - at < length key + length value + 1
-      → Writes (Refused (record { number = output_short })) l l 0 at (line key value)
+      → Writes (Err (record { number = output_short })) l l 0 at (line key value)
   line-over f h = writes_short l at (line key value) (omega (arith, line-length key value))
 
   pub line-done : (m o p : List ℕ) (x y z : Written) → at ≤ length l → length key + length value + 1 ≤ length l - at
       → Writes x l m 0 at key → Writes y m o 0 (at + length key) value → Writes z o p 0 (at + length key + length value) (line_feed ∷ [])
-      → Writes (Wrote (length key + length value + 1)) l p 0 at (line key value)
+      → Writes (Ok (length key + length value + 1)) l p 0 at (line key value)
   line-done m o p x y z f h u v w =
       let n = length-append key value in
       let both : o ≡ put l at (key ++ value) = v.leaves ∙ rw u.leaves (put-put l at key value (omega arith)) in
@@ -57,10 +57,10 @@ refused-line-done r l m key p = p
 
 -- ---- the place behind it
 
-pub behind-wrote : (w : Written) (at k s : ℕ) → w ≡ Wrote k → s ≡ up_to at k → s ≡ behind_of at w
+pub behind-wrote : (w : Written) (at k s : ℕ) → w ≡ Ok k → s ≡ up_to at k → s ≡ behind_of at w
 unfolding behind_of
 behind-wrote w at k s e p = rw e p
 
-pub behind-refused : (w : Written) (at : ℕ) (q : Refusal) → w ≡ Refused q → at ≡ behind_of at w
+pub behind-refused : (w : Written) (at : ℕ) (q : Refusal) → w ≡ Err q → at ≡ behind_of at w
 unfolding behind_of
 behind-refused w at q e = rw e

@@ -3,8 +3,8 @@ use Rattle.std.specs.Prelude.{ℕ, ◌+◌, ◌≤◌, List, ◌≡◌, length}
 use Rattle.wire.specs.Bounds.{up_to}
 use Rattle.wire.specs.Text.{ascii}
 use Rattle.wire.specs.Output.{put}
-use Rattle.wire.specs.declared.output.Written.{Written}
-use Rattle.wire.specs.declared.output.Written.TheVariants.{Wrote, Refused}
+use Rattle.wire.specs.Output.{Written}
+use Rattle.std.specs.Prelude.{Ok, Err}
 use Rattle.decimal.specs.Decimal.{digits}
 use Rattle.capture_settings.specs.Settings.{session_key}
 use Rattle.capture_settings.specs.Statements.{line}
@@ -33,8 +33,8 @@ settings_refused = refused_line settings_key
 
 -- the place behind what was written at one; a refusal wrote nothing
 unfoldable pub behind_of : ℕ → Written → ℕ
-behind_of at (Wrote size) = up_to at size
-behind_of at (Refused r) = at
+behind_of at (Ok size) = up_to at size
+behind_of at (Err r) = at
 
 -- ---- laying a text, line by line: for private helpers alone; no public promise uses it
 

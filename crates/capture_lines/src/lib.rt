@@ -1,5 +1,5 @@
 // Lines of text laid into a lent output, each at a place: where one has no room it is refused and nothing is laid.
-#![tactic(auto)]
+#![tactic(auto, using(crate::proofs::Rules::lines))]
 
 ghost use Rattle.std.specs.Prelude.{◌≡◌};
 ghost use Rattle.wire.specs.Output.{Writes};
@@ -7,31 +7,31 @@ ghost use Rattle.capture_settings.specs.Statements.{line};
 ghost use Rattle.capture_lines.specs.Lines.{number_line, session_line, refused_line, behind_of};
 
 use wire::kinds::{ByteOffset, SESSION_SIZE};
-use wire::output::Written;
+use wire::refusal::Refusal;
 use wire::{counts, output, refusal};
 
 // Lays a line: its key, its value and a line feed.
-pub fn put_line(out: &mut [u8], at: ByteOffset, key: &[u8], value: &[u8]) -> Written
+pub fn put_line(out: &mut [u8], at: ByteOffset, key: &[u8], value: &[u8]) -> Result<usize, Refusal>
     ensures { Writes result out.old out.new 0 at.0
         (line key.now value.now) }
 {
     let from = at.0;
     if out.len() < from {
-        return Written::Refused(refusal::OUTPUT_SHORT);
+        return Err(refusal::OUTPUT_SHORT);
     }
     let size = key.len() + value.len() + 1;
     if out.len() - from < size {
-        return Written::Refused(refusal::OUTPUT_SHORT);
+        return Err(refusal::OUTPUT_SHORT);
     }
     let value_at = from + key.len();
     output::put_bytes(out, at, key);
     output::put_bytes(out, ByteOffset(value_at), value);
     output::put_bytes(out, ByteOffset(value_at + value.len()), b"\n");
-    Written::Wrote { size }
+    Ok(size)
 }
 
 // Lays a line with a number.
-pub fn put_number_line(out: &mut [u8], at: ByteOffset, key: &[u8], n: u64) -> Written
+pub fn put_number_line(out: &mut [u8], at: ByteOffset, key: &[u8], n: u64) -> Result<usize, Refusal>
     ensures { Writes result out.old out.new 0 at.0 (number_line key.now n) }
 {
     let mut text = [0u8; 20];
@@ -40,25 +40,25 @@ pub fn put_number_line(out: &mut [u8], at: ByteOffset, key: &[u8], n: u64) -> Wr
 }
 
 // Lays the line with the name of the session.
-pub fn put_session_line(out: &mut [u8], at: ByteOffset, name: [u8; SESSION_SIZE]) -> Written
+pub fn put_session_line(out: &mut [u8], at: ByteOffset, name: [u8; SESSION_SIZE]) -> Result<usize, Refusal>
     ensures { Writes result out.old out.new 0 at.0 (session_line name) }
 {
     put_line(out, at, b"session=", &name)
 }
 
 // Writes that what a key names is refused, and nothing else.
-pub fn put_refused(out: &mut [u8], key: &[u8]) -> Written
+pub fn put_refused(out: &mut [u8], key: &[u8]) -> Result<usize, Refusal>
     ensures { Writes result out.old out.new 0 0 (refused_line key.now) }
 {
     put_line(out, ByteOffset(0), key, b"refused")
 }
 
 // The place behind what was written at one; a refusal wrote nothing.
-pub fn behind(at: ByteOffset, written: Written) -> ByteOffset
+pub fn behind(at: ByteOffset, written: Result<usize, Refusal>) -> ByteOffset
     ensures { result.0 ≡ behind_of at.0 written }
 {
     match written {
-        Written::Wrote { size } => ByteOffset(counts::sum(at.0 as u64, size as u64) as usize),
-        Written::Refused(_) => at,
+        Ok(size) => ByteOffset(counts::sum(at.0 as u64, size as u64) as usize),
+        Err(_) => at,
     }
 }

@@ -1,4 +1,5 @@
 // The record in front of some bytes.
+#![tactic(auto, using(crate::proofs::Rules::fronts))]
 ghost use Rattle.std.specs.Prelude.{◌≡◌};
 ghost use Rattle.capture_records.specs.Records.{record_words, record_in_front, RecordPromises};
 

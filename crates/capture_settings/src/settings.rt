@@ -1,4 +1,5 @@
 // The settings of a capture, read strictly: no carriage return, sign, space, empty number or leading zero.
+#![tactic(auto, using(crate::proofs::Rules::opening))]
 ghost use Rattle.std.specs.Prelude.{◌≡◌};
 ghost use Rattle.capture_settings.specs.Settings.{refused_opened, numbers_of, settings_of};
 ghost use Rattle.capture_settings.specs.Statements.{SettingsPromises};
@@ -95,5 +96,5 @@ pub fn read(bytes: &[u8]) -> Opened
     if compare::is_name(name, kinds::BLANK) {
         return refused();
     }
-    numbers(parts::ten(a), &a[SESSION_SIZE + 1..])
+    numbers(parts::first(a), &a[SESSION_SIZE + 1..])
 }

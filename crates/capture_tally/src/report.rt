@@ -1,4 +1,5 @@
 // The report, from record to record.
+#![tactic(auto, using(crate::proofs::Rules::reports))]
 ghost use Rattle.std.specs.Prelude.{◌≡◌};
 ghost use Rattle.capture_tally.specs.Report.{fresh_of, lent_report, step_of, cut_of};
 ghost use Rattle.capture_tally.specs.Sums.{Sums};

@@ -1,4 +1,5 @@
 // The five counts of a report, and the parts that one answer, and the request beside it, add to them.
+#![tactic(auto, using(crate::proofs::Rules::tallies))]
 ghost use Rattle.std.specs.Prelude.{◌≡◌};
 ghost use Rattle.early_receiver.specs.Answers.{early_words, request_words};
 ghost use Rattle.capture_tally.specs.Tally.{tally, asks_of, parts_of, plus_of};

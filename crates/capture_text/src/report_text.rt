@@ -1,4 +1,5 @@
 // The lines of a report.
+#![tactic(auto, using(crate::proofs::Rules::reporting))]
 ghost use Rattle.std.specs.Prelude.{◌+◌, ◌≤◌, length};
 ghost use Rattle.wire.specs.Output.{Writes};
 ghost use Rattle.capture_lines.specs.Lines.{LaysLine, number_line, session_line};
@@ -10,7 +11,7 @@ use early_holding::holding::EarlyReceiver;
 use receiver::receiver::Receiver;
 use wire::kinds::{ByteOffset, SESSION_SIZE};
 use wire::output;
-use wire::output::Written;
+use wire::refusal::Refusal;
 
 // The bytes that are room enough for any report.
 pub const ROOM: usize = 256;
@@ -36,7 +37,7 @@ fn put_count(out: &mut [u8], at: ByteOffset, key: &[u8], n: u64) -> ByteOffset
 }
 
 // The line that says whether the session has ended.
-fn put_ended(out: &mut [u8], at: ByteOffset, ended: bool) -> Written
+fn put_ended(out: &mut [u8], at: ByteOffset, ended: bool) -> Result<usize, Refusal>
     ensures { Writes result out.old out.new 0 at.0 (ended_line ended) }
 {
     if ended {
@@ -81,7 +82,7 @@ fn put_report(out: &mut [u8], report: Report) -> ByteOffset
 }
 
 // Writes a report.
-pub fn write_report(out: &mut [u8], report: Report) -> Written
+pub fn write_report(out: &mut [u8], report: Report) -> Result<usize, Refusal>
     ensures { Writes result out.old out.new 0 0 (report_text report) }
 {
     let mut text = [0u8; ROOM];

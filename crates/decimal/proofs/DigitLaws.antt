@@ -10,7 +10,7 @@ use borrow.Author.Tests.{lt-ltb, le-ltb, le-leb, lt-leb}
 use Rattle.io.specs.Digits.{last_digits as io-digits, IsDigitCount}
 use Rattle.wire.specs.Bounds.{largest_number}
 use Rattle.wire.specs.Output.{Writes}
-use Rattle.wire.specs.declared.output.Written.{Written}
+use Rattle.wire.specs.Output.{Written}
 use Rattle.decimal.specs.declared.reading.Appended.TheVariants.{Value, NoDigit, TooLarge}
 use Rattle.decimal.specs.Decimal.{is_digit, appended_words, append_of, digits}
 use Rattle.decimal.proofs.SpellLaws.{decimal-digits}

@@ -7,7 +7,7 @@ use native.Mathlib.Omega.{arith}
 use lib.ListN.{length, get_or, take, drop, set, length-drop, take-append-drop}
 use lib.Seq.{length-take-le, take-length}
 use Rattle.wire.specs.Output.{put, Writes}
-use Rattle.wire.specs.declared.output.Written.{Written}
+use Rattle.wire.specs.Output.{Written}
 use Rattle.wire.proofs.Copy.{Copied, copied-step}
 use Rattle.wire.proofs.Outputs.{put-none, put-room, put-put}
 use Rattle.early_holding.specs.Holding.{eight_of}

@@ -1,4 +1,5 @@
 // A message kept in its slot, and how far the expected number moves.
+#![tactic(auto, using(crate::proofs::Rules::copies, crate::proofs::Rules::moves, crate::proofs::Rules::places, crate::proofs::Rules::stores))]
 ghost use Rattle.std.specs.Prelude.{◌≡◌, true, ◌+◌, ◌-◌, ◌<◌, ◌≤◌, min, length, take};
 ghost use Rattle.wire.specs.Output.{put};
 ghost use Rattle.wire.specs.Bounds.{largest_count};
@@ -39,7 +40,7 @@ pub struct Moved {
 pub fn move_to(next: SequenceNumber, held: Held, end: SequenceNumber) -> Moved
     ensures { result ≡ move_to next.0 held.0 end.0 }
 {
-    if !next.is_below(end) {
+    if next >= end {
         return Moved { next, held };
     }
     let from_end = held.past(next.gap(end).less_one());
@@ -137,7 +138,7 @@ impl EarlyReceiver {
     {
         let base = self.base;
         let next = base.next;
-        if !next.is_below(number) {
+        if next >= number {
             return false;
         }
         let held = self.held;
@@ -151,14 +152,14 @@ impl EarlyReceiver {
     {
         let base = self.base;
         let next = base.next;
-        if !next.is_below(number) {
+        if next >= number {
             return false;
         }
         if SLOT_SIZE < size {
             return false;
         }
         let place = self.place_of(number);
-        if !place.before().is_below(SLOTS) {
+        if place.before() >= SLOTS {
             return false;
         }
         let held = self.held;

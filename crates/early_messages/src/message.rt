@@ -1,4 +1,5 @@
 // How many messages a datagram will deliver, and one of them by its place.
+#![tactic(auto, using(crate::proofs::Rules::counts, crate::proofs::Rules::locates, crate::proofs::Rules::messages, crate::proofs::Rules::slots))]
 ghost use Rattle.std.specs.Prelude.{◌≡◌, ◌-◌, min, length, take, drop};
 ghost use Rattle.wire.specs.Bounds.{largest_count};
 ghost use Rattle.early_holding.specs.Holding.{slot_at, length_of, lent};
@@ -120,7 +121,7 @@ pub fn locate(
 {
     let there = count(receiver, lengths, slots, datagram);
     let before = place.before();
-    if !before.is_below(there) {
+    if before >= there {
         return no_part();
     }
     let base = receiver.base;

@@ -24,8 +24,8 @@ pub ruleset takes = (take-refused, take_open, take_row, take-moved, take_done, r
 
 pub ruleset wholes = (whole_takes, settled-takes, rules)
 
-pub ruleset kinds-here = (kind-data, kind-beat, kind-end, kind-refused, here-data, here-beat, here_end, here-refused, rules)
+pub ruleset kinds_here = (kind-data, kind-beat, kind-end, kind-refused, here-data, here-beat, here_end, here-refused, rules)
 
-pub ruleset rows-here = (row_next, row_open, row-deliver, row-old-open, row_old, row-quiet-open, row-quiet, row-ask, row-ended, row-refused, rules)
+pub ruleset rows_here = (row_next, row_open, row-deliver, row-old-open, row_old, row-quiet-open, row-quiet, row-ask, row-ended, row-refused, rules)
 
 pub ruleset settles = (here-open, here-not, not-here, settle-open, settle-answer, settle-after, settle-done, rules)

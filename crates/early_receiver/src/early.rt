@@ -1,4 +1,5 @@
 // The receiver's taking of a datagram.
+#![tactic(auto, using(crate::proofs::Rules::accepts, crate::proofs::Rules::aheads, crate::proofs::Rules::delivers, crate::proofs::Rules::keeping, crate::proofs::Rules::kinds_here, crate::proofs::Rules::refusals, crate::proofs::Rules::requests, crate::proofs::Rules::rows_here, crate::proofs::Rules::settles))]
 ghost use Rattle.std.specs.Prelude.{◌≡◌, true, false, ◌&&◌, [], ◌∷◌, ◌+◌, ◌-◌, ◌<◌, ◌≤◌, min, ltb, eqb};
 ghost use Rattle.wire.specs.Bounds.{largest_number, largest_count};
 ghost use Rattle.moldudp64.specs.Downstream.{downstream_words};
@@ -461,7 +462,7 @@ fn ask(receiver: EarlyReceiver, gap: MessageCount) -> Request
     let limit = base.limit;
     Request::Ask {
         from: next,
-        count: gap.smaller(limit),
+        count: gap.min(limit),
     }
 }
 
@@ -491,7 +492,7 @@ fn is_far(receiver: EarlyReceiver, number: SequenceNumber) -> bool
 {
     let base = receiver.base;
     let next = base.next;
-    SLOTS.is_below(next.gap(number))
+    SLOTS < next.gap(number)
 }
 
 // A datagram's messages, the first with this number, and the last just below end.
@@ -513,7 +514,7 @@ fn keep_to(
     let mut held = receiver.held;
     let mut number = first;
     let mut cursor = Cursor::first(first.gap(end));
-    while number.is_below(end) {
+    while number < end {
         let message = cursor.message(datagram);
         let after = cursor.next(datagram);
         held = EarlyReceiver { base, held }.keep(lengths, slots, number, message);

@@ -1,6 +1,6 @@
 // The word of 64 bits that marks the numbers of held messages: what stands at its low end, a bit tested and set, and
 // its low bits dropped. Its lowest bit stands for the number after the expected one.
-#![tactic(auto)]
+#![tactic(auto, using(crate::proofs::Rules::words))]
 
 ghost use Rattle.std.specs.Prelude.{◌≡◌, eqb};
 ghost use Rattle.early_word.specs.Word.{bit, run, lowest, past, marked};

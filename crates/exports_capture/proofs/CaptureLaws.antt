@@ -9,7 +9,7 @@ use lib.Dec.{ltb}
 use borrow.Author.Tests.{lt-ltb, le-ltb}
 use Rattle.wire.specs.Refusals.{bad_setting, output_short}
 use Rattle.wire.specs.Output.{written_words, write_refusal, Writes}
-use Rattle.wire.specs.declared.output.Written.{Written}
+use Rattle.wire.specs.Output.{Written}
 use Rattle.capture.specs.declared.reading.Reading.{Reading}
 use Rattle.capture.specs.Reading.{start_reading, text_of}
 use Rattle.host_answers.specs.Answers.{or_else, short, is_one_of, RefusesOnly, AnswersWith, AnswersWriting}

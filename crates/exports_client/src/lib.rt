@@ -19,7 +19,7 @@ pub extern "C" fn eiderwagon_client_start(session: &[u8], number: u64, state: &m
     ensures starts_client { StartsClient result session.now number state.old state.new }
     ensures refuses { RefusesOnly result (19 ∷ 41 ∷ []) }
 {
-    let started = Client::new(parts::ten(session), SequenceNumber(number));
+    let started = Client::new(parts::first(session), SequenceNumber(number));
     let client = started.client;
     let refused = host_answers::unless_sized(
         session.len(),

@@ -1,7 +1,7 @@
 // A datagram taken by the receiver and the places of all messages that it delivers, in one call, for hosts in other
 // languages. It has a crate of its own, so that the reader has one caller there and is compiled into it.
 // `include/eiderwagon.h` says what the function takes and answers.
-#![tactic(auto)]
+#![tactic(auto, using(crate::proofs::Rules::behind, crate::proofs::Rules::delivering, crate::proofs::Rules::finding, crate::proofs::Rules::passing))]
 
 ghost use Rattle.std.specs.Prelude.{◌≡◌, [], ◌∷◌, true, ◌+◌, ◌-◌, ◌*◌, ◌≤◌, length, drop, ltb};
 ghost use Rattle.wire.specs.Bounds.{length_size};

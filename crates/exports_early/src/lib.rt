@@ -1,6 +1,6 @@
 // The receiver that keeps early messages for hosts in other languages: started, and given datagrams.
 // `include/eiderwagon.h` says what each function takes and answers.
-#![tactic(auto)]
+#![tactic(auto, using(crate::proofs::Rules::keeps, crate::proofs::Rules::refuses, crate::proofs::Rules::takes))]
 
 ghost use Rattle.std.specs.Prelude.{◌≡◌, [], ◌∷◌, ◌≤◌, length};
 ghost use Rattle.moldudp64.specs.Downstream.{downstream_of, downstream_words};
@@ -35,7 +35,7 @@ pub extern "C" fn eiderwagon_early_start(
     ensures condition_3 { HostGetsTrue }
 {
     let started = early_condition_3::start(
-        parts::ten(session),
+        parts::first(session),
         SequenceNumber(next),
         MessageCount(limit),
     );

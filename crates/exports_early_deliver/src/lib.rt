@@ -1,6 +1,6 @@
 // A datagram taken by the receiver that keeps early messages and the places of all messages that it delivers, in one
 // call, for hosts in other languages. `include/eiderwagon.h` says what the function takes and answers.
-#![tactic(auto)]
+#![tactic(auto, using(crate::proofs::Rules::delivering, crate::proofs::Rules::laying))]
 
 ghost use Rattle.std.specs.Prelude.{◌≡◌, [], ◌∷◌, ◌+◌, ◌*◌, ◌≤◌, length, ltb};
 ghost use Rattle.wire.specs.Output.{put};

@@ -1,7 +1,7 @@
 // What a datagram will deliver, before the receiver that keeps early messages takes it: how many messages, each by its
 // place, and all in one walk, for hosts in other languages. `include/eiderwagon.h` says what each function takes and
 // answers.
-#![tactic(auto)]
+#![tactic(auto, using(crate::proofs::Rules::parts))]
 
 pub mod walks;
 

@@ -1,6 +1,6 @@
 // What is missing from a capture, for hosts in other languages. `include/eiderwagon.h` says what each function takes
 // and answers.
-#![tactic(auto)]
+#![tactic(auto, using(crate::proofs::Rules::finishes, crate::proofs::Rules::lending, crate::proofs::Rules::listing, crate::proofs::Rules::lists, crate::proofs::Rules::starts, crate::proofs::Rules::texts))]
 
 ghost use Rattle.std.specs.Prelude.{◌≡◌, [], ◌∷◌, ◌≤◌, length};
 ghost use Rattle.host_answers.specs.Answers.{RefusesOnly};

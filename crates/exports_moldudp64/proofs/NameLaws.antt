@@ -8,7 +8,7 @@ use lib.Dec.{ltb, eqb}
 use borrow.Rule.Slice.PartMut.{mid_of, put_mid}
 use Rattle.wire.specs.Bounds.{session_size}
 use Rattle.wire.specs.Output.{written_words, Writes}
-use Rattle.wire.specs.declared.output.Written.{Written}
+use Rattle.wire.specs.Output.{Written}
 use Rattle.wire.specs.Parts.{first_bytes}
 use Rattle.moldudp64.specs.Header.{header}
 use Rattle.moldudp64.specs.Request.{request_ground}

@@ -1,4 +1,5 @@
 // Datagrams, read.
+#![tactic(auto, using(crate::proofs::Rules::reads))]
 ghost use Rattle.std.specs.Prelude.{◌≡◌, [], ◌∷◌};
 ghost use Rattle.moldudp64.specs.Downstream.{downstream_words, downstream_of};
 ghost use Rattle.host_answers.specs.Answers.{words_of, RefusesOnly, Answers};

@@ -1,4 +1,5 @@
 // The messages of a datagram: one by its place, or all in one walk with a cursor that the host keeps.
+#![tactic(auto, using(crate::proofs::Rules::messages))]
 ghost use Rattle.std.specs.Prelude.{◌≡◌, [], ◌∷◌};
 ghost use Rattle.moldudp64_messages.specs.Cursor.{locate_of, start_of};
 ghost use Rattle.host_answers.specs.Answers.{RefusesOnly, AnswersWith};

@@ -1,4 +1,5 @@
 // Requests, read.
+#![tactic(auto, using(crate::proofs::Rules::reads))]
 ghost use Rattle.std.specs.Prelude.{◌≡◌, [], ◌∷◌};
 ghost use Rattle.moldudp64.specs.Request.{request_words, request_of};
 ghost use Rattle.host_answers.specs.Answers.{padded, RefusesOnly, AnswersWith};

@@ -1,4 +1,5 @@
 // Datagrams and requests, written. Document 01 has no ground for a session of another size: it is 41 here.
+#![tactic(auto, using(crate::proofs::Rules::names))]
 ghost use Rattle.std.specs.Prelude.{[], ◌∷◌};
 ghost use Rattle.wire.specs.Bounds.{session_size};
 ghost use Rattle.wire.specs.Parts.{first_bytes};
@@ -32,7 +33,7 @@ pub extern "C" fn eiderwagon_mold_write_data(
 {
     let unnamed = session.len() != SESSION_SIZE;
     let from = host_answers::lent_from(unnamed | (words.len() < WRITTEN_WORDS), out.len());
-    let name = parts::ten(session);
+    let name = parts::first(session);
     let written = downstream::write_messages(
         &mut out[from..],
         name,
@@ -58,7 +59,7 @@ pub extern "C" fn eiderwagon_mold_write_heartbeat(
 {
     let unnamed = session.len() != SESSION_SIZE;
     let from = host_answers::lent_from(unnamed | (words.len() < WRITTEN_WORDS), out.len());
-    let name = parts::ten(session);
+    let name = parts::first(session);
     let lengths = [0u16; 1];
     let written = downstream::write_messages(
         &mut out[from..],
@@ -85,7 +86,7 @@ pub extern "C" fn eiderwagon_mold_write_end(
 {
     let unnamed = session.len() != SESSION_SIZE;
     let from = host_answers::lent_from(unnamed | (words.len() < WRITTEN_WORDS), out.len());
-    let name = parts::ten(session);
+    let name = parts::first(session);
     let written = downstream::write_end_of_session(&mut out[from..], name, SequenceNumber(next));
     host_answers::answer_written(words, unnamed, written)
 }
@@ -106,7 +107,7 @@ pub extern "C" fn eiderwagon_mold_write_request(
 {
     let unnamed = session.len() != SESSION_SIZE;
     let from = host_answers::lent_from(unnamed | (words.len() < WRITTEN_WORDS), out.len());
-    let name = parts::ten(session);
+    let name = parts::first(session);
     let written = request::write(
         &mut out[from..],
         name,

@@ -1,6 +1,6 @@
 // The receiver for hosts in other languages: started, given datagrams, and what it delivers of them.
 // `include/eiderwagon.h` says what each function takes and answers.
-#![tactic(auto)]
+#![tactic(auto, using(crate::proofs::Rules::cursors, crate::proofs::Rules::receivers))]
 
 ghost use Rattle.std.specs.Prelude.{◌≡◌, [], ◌∷◌, ◌≤◌, length};
 ghost use Rattle.moldudp64.specs.Downstream.{downstream_of, downstream_words};
@@ -37,7 +37,7 @@ pub extern "C" fn eiderwagon_receiver_start(
     ensures not_vacuous { HandedExample }
 {
     let started = Receiver::new(
-        parts::ten(session),
+        parts::first(session),
         SequenceNumber(next),
         MessageCount(limit),
     );

@@ -1,7 +1,7 @@
 // The scan over the packets of a stream for hosts in other languages, in a crate of its own: so the reader of the front
 // has one caller here and one in the crate of `eiderwagon_soup_read`, and is compiled into both.
 // `include/eiderwagon.h` says what it takes and answers.
-#![tactic(auto)]
+#![tactic(auto, using(crate::proofs::Rules::answers, crate::proofs::Rules::stops))]
 
 ghost use Rattle.std.specs.Prelude.{◌≡◌, [], ◌∷◌};
 ghost use Rattle.soupbintcp.specs.Scan.{stop_words, scan_of};

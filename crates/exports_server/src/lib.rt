@@ -20,7 +20,7 @@ pub extern "C" fn eiderwagon_server_start(session: &[u8], last: u64, state: &mut
     ensures starts_server { StartsServer result session.now last state.old state.new }
     ensures refuses { RefusesOnly result (19 ∷ 41 ∷ []) }
 {
-    let started = Server::new(parts::ten(session), SequenceNumber(last));
+    let started = Server::new(parts::first(session), SequenceNumber(last));
     let server = started.server;
     let refused = host_answers::unless_sized(
         session.len(),

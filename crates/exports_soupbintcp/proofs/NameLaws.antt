@@ -11,7 +11,7 @@ use Rattle.std.specs.Prelude.{if◌then◌else◌}
 use Rattle.wire.specs.Bounds.{session_size}
 use Rattle.wire.specs.Refusals.{field_not_written}
 use Rattle.wire.specs.Output.{written_words, write_refusal, Writes}
-use Rattle.wire.specs.declared.output.Written.{Written}
+use Rattle.wire.specs.Output.{Written}
 use Rattle.wire.specs.Parts.{first_bytes}
 use Rattle.text_fields.specs.Sound.{username_size, password_size}
 use Rattle.soupbintcp.specs.Letters.{letter_accepted, letter_login}

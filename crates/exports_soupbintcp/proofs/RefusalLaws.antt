@@ -8,7 +8,7 @@ use lib.Dec.{ltb, eqb}
 use Rattle.wire.specs.Refusals.{field_not_written}
 use Rattle.wire.specs.Words.{Case, answer, refused}
 use Rattle.wire.specs.Output.{written_words, Writes}
-use Rattle.wire.specs.declared.output.Written.{Written}
+use Rattle.wire.specs.Output.{Written}
 use Rattle.text_fields.specs.Session.{good_session}
 use Rattle.soupbintcp.specs.declared.packet.Sender.{Sender}
 use Rattle.soupbintcp.specs.declared.front.Front.{Front}

@@ -1,4 +1,5 @@
 // The front of a stream.
+#![tactic(auto, using(crate::proofs::Rules::answers, crate::proofs::Rules::fronts))]
 ghost use Rattle.std.specs.Prelude.{◌≡◌, [], ◌∷◌};
 ghost use Rattle.host_answers.specs.Answers.{padded, words_of, RefusesOnly, Answers};
 ghost use Rattle.soupbintcp.specs.Letters.{packet_kind, packet_values, letter_for};

@@ -1,4 +1,5 @@
 // The writers of packets.
+#![tactic(auto, using(crate::proofs::Rules::names, crate::proofs::Rules::writers))]
 ghost use Rattle.std.specs.Prelude.{[], ◌∷◌, length};
 ghost use Rattle.wire.specs.Bounds.{session_size};
 ghost use Rattle.wire.specs.Refusals.{field_not_written};
@@ -55,7 +56,7 @@ pub extern "C" fn eiderwagon_soup_write_accepted(
     if session.len() != SESSION_SIZE {
         return NOT_WRITTEN;
     }
-    let name = parts::ten(session);
+    let name = parts::first(session);
     let from = host_answers::lent_from(words.len() < WRITTEN_WORDS, out.len());
     let written = server::write_accepted(&mut out[from..], name, SequenceNumber(number));
     host_answers::answer_written(words, false, written)
@@ -149,9 +150,9 @@ pub extern "C" fn eiderwagon_soup_write_login(
         return NOT_WRITTEN;
     }
     let login = Login {
-        username: parts::six(username),
-        password: parts::ten(password),
-        session: parts::ten(session),
+        username: parts::first(username),
+        password: parts::first(password),
+        session: parts::first(session),
         number: SequenceNumber(number),
     };
     let from = host_answers::lent_from(words.len() < WRITTEN_WORDS, out.len());

@@ -15,8 +15,8 @@ use Rattle.wire.specs.Refusals.{output_short, store_differs, not_in_store, messa
 use Rattle.wire.specs.Bounds.{session_size}
 use Rattle.wire.specs.Bytes.{same_bytes}
 use Rattle.wire.specs.Output.{written_words, put, write_refusal, write_output, Writes}
-use Rattle.wire.specs.declared.output.Written.{Written}
-use Rattle.wire.specs.declared.output.Written.TheVariants.{Wrote, Refused}
+use Rattle.wire.specs.Output.{Written}
+use Rattle.std.specs.Prelude.{Ok, Err}
 use Rattle.wire.specs.declared.refusal.Refusal.{Refusal}
 use Rattle.wire.specs.Parts.{first_bytes}
 use Rattle.wire.proofs.Cases.{zero_or_not}
@@ -103,13 +103,13 @@ never-zero : (g : ℕ) → or_else g output_short ≡ 0 → ⊥
 never-zero g e = zero_or_not ⊥ g (λ z. let f : output_short ≡ 0 = or-next g output_short z ∙ e in omega arith) (λ z. z (or-first g output_short z ∙ e))
 
 -- the steps of `nameless`
-pub nameless-wrote : (w : Written) (size : ℕ) → w ≡ Wrote size
-    → (written_words (Refused (record { number = 41 }))).refusal ≡ behind_stateless true 48 (written_words w).refusal
+pub nameless-wrote : (w : Written) (size : ℕ) → w ≡ Ok size
+    → (written_words (Err (record { number = 41 }))).refusal ≡ behind_stateless true 48 (written_words w).refusal
 unfolding written_words behind_stateless
 nameless-wrote w size e = rw e
 
-pub nameless-refused : (w : Written) (x y : Refusal) → w ≡ Refused x → y.number ≡ behind_stateless true 48 x.number
-    → (written_words (Refused y)).refusal ≡ behind_stateless true 48 (written_words w).refusal
+pub nameless-refused : (w : Written) (x y : Refusal) → w ≡ Err x → y.number ≡ behind_stateless true 48 x.number
+    → (written_words (Err y)).refusal ≡ behind_stateless true 48 (written_words w).refusal
 unfolding written_words
 nameless-refused w x y e f = rw e f
 

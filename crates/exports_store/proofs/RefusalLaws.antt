@@ -8,7 +8,7 @@ use lib.Dec.{ltb, leb, eqb}
 use Rattle.wire.specs.Refusals.{output_short}
 use Rattle.wire.specs.Bytes.{same_bytes}
 use Rattle.wire.specs.Output.{written_words, write_refusal, Writes}
-use Rattle.wire.specs.declared.output.Written.{Written}
+use Rattle.wire.specs.Output.{Written}
 use Rattle.wire.proofs.Words.{refusal-of}
 use Rattle.wire.proofs.Outputs.{answer-refusal}
 use Rattle.moldudp64.specs.Header.{header_size, end_count, number_of, count_of}

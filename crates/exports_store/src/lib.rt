@@ -1,6 +1,6 @@
 // A branch store for hosts in other languages. `include/eiderwagon.h` says what the function takes and answers.
 // Document 02 has no ground for a session of another size: it is 41 here.
-#![tactic(auto)]
+#![tactic(auto, using(crate::proofs::Rules::answers, crate::proofs::Rules::names))]
 
 ghost use Rattle.std.specs.Prelude.{[], ◌∷◌, true, ◌≡◌};
 ghost use Rattle.wire.specs.Bounds.{session_size};
@@ -12,7 +12,7 @@ ghost use Rattle.exports_store.specs.Answer.{named_store};
 
 use host_answers::WRITTEN_WORDS;
 use wire::kinds::{SESSION_SIZE, SequenceNumber};
-use wire::output::Written;
+use wire::refusal::Refusal;
 use wire::{parts, refusal};
 
 // The last refusal that needs no name: those behind it in the ladder have larger numbers, or are 41 themselves.
@@ -20,12 +20,12 @@ const LAST_OF_REQUEST: u8 = refusal::REQUEST_COUNT.number;
 
 // What a store without a name answers: 41 in place of every refusal behind the request's own. Nothing was lent to it to
 // write into.
-fn nameless(written: Written) -> Written
+fn nameless(written: Result<usize, Refusal>) -> Result<usize, Refusal>
     ensures { (written_words result).refusal ≡ behind_stateless true 48 (written_words written).refusal }
 {
     match written {
-        Written::Wrote { size } => Written::Refused(refusal::OUTPUT_SHORT),
-        Written::Refused(r) => Written::Refused(host_answers::behind_stateless(
+        Ok(size) => Err(refusal::OUTPUT_SHORT),
+        Err(r) => Err(host_answers::behind_stateless(
             true,
             LAST_OF_REQUEST,
             r,
@@ -56,7 +56,7 @@ pub extern "C" fn eiderwagon_store_answer(
 {
     let unnamed = session.len() != SESSION_SIZE;
     let from = host_answers::lent_from(unnamed | (words.len() < WRITTEN_WORDS), out.len());
-    let name = parts::ten(session);
+    let name = parts::first(session);
     let written = store::answer(
         &mut out[from..],
         name,

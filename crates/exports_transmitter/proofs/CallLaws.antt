@@ -11,7 +11,7 @@ use borrow.Rule.Slice.PartMut.{mid_of, put_mid}
 use Rattle.wire.specs.Bounds.{session_size}
 use Rattle.wire.specs.Refusals.{output_short}
 use Rattle.wire.specs.Output.{written_words, write_refusal, Writes}
-use Rattle.wire.specs.declared.output.Written.{Written}
+use Rattle.wire.specs.Output.{Written}
 use Rattle.wire.specs.Parts.{first_bytes}
 use Rattle.wire.proofs.Cases.{zero_or_not}
 use Rattle.wire.proofs.Numbers.{part_to_end}

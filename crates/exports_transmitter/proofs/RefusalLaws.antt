@@ -6,7 +6,7 @@ use mathlib.Core.Path.{◌≡◌, refl}
 use lib.ListN.{length}
 use lib.Dec.{ltb, leb, eqb}
 use Rattle.wire.specs.Output.{written_words, Writes}
-use Rattle.wire.specs.declared.output.Written.{Written}
+use Rattle.wire.specs.Output.{Written}
 use Rattle.moldudp64.specs.Downstream.{run_out}
 use Rattle.moldudp64_writer.specs.Writer.{add_up}
 use Rattle.packing.specs.Fit.{least_size, largest_size, size_ground, room_of, each_fits}

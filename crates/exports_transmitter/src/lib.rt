@@ -1,6 +1,6 @@
 // The transmitter for hosts in other languages: a run of messages cut into packets, asked for by place or one after
 // another. `include/eiderwagon.h` says what each function takes and answers.
-#![tactic(auto)]
+#![tactic(auto, using(crate::proofs::Rules::packets))]
 
 ghost use Rattle.std.specs.Prelude.{[], ◌∷◌};
 ghost use Rattle.wire.specs.Bounds.{session_size};
@@ -39,7 +39,7 @@ pub extern "C" fn eiderwagon_transmitter_packet(
 {
     let unnamed = session.len() != SESSION_SIZE;
     let from = host_answers::lent_from(unnamed | (words.len() < WRITTEN_WORDS), out.len());
-    let name = parts::ten(session);
+    let name = parts::first(session);
     let written = place::write(
         &mut out[from..],
         name,
@@ -95,7 +95,7 @@ pub extern "C" fn eiderwagon_transmitter_next(
     }
     let unnamed = session.len() != SESSION_SIZE;
     let from = host_answers::lent_from(unnamed | (words.len() < WRITTEN_WORDS), out.len());
-    let name = parts::ten(session);
+    let name = parts::first(session);
     let turn = host_transmitter::read(state).next(
         &mut out[from..],
         name,

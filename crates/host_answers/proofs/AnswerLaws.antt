@@ -13,8 +13,8 @@ use Rattle.wire.proofs.Copy.{Copied, copied-step, copied-end}
 use Rattle.wire.specs.Refusals.{output_short}
 use Rattle.wire.specs.Output.{put, written_words}
 use Rattle.wire.specs.declared.refusal.Refusal.{Refusal}
-use Rattle.wire.specs.declared.output.Written.{Written}
-use Rattle.wire.specs.declared.output.Written.TheVariants.{Wrote, Refused}
+use Rattle.wire.specs.Output.{Written}
+use Rattle.std.specs.Prelude.{Ok, Err}
 use Rattle.host_answers.specs.Answers.{or_else, short, unless_sized, behind_stateless, lent_from, on_success, padded, AnswersWith}
 
 -- ---- the ladder
@@ -151,12 +151,12 @@ module _ (r g : ℕ) (ws vs : List ℕ) where
 -- ---- what a writer answered
 
 module _ (w : Written) (r : ℕ) (ws ws' : List ℕ) (lacks : Bool) where
-  pub answers-wrote : (size x : ℕ) → w ≡ Wrote size → x ≡ or_else 0 (short lacks) → AnswersWith r ws ws' x (size ∷ [])
+  pub answers-wrote : (size x : ℕ) → w ≡ Ok size → x ≡ or_else 0 (short lacks) → AnswersWith r ws ws' x (size ∷ [])
       → AnswersWith r ws ws' (or_else (written_words w).refusal (short lacks)) (padded 1 (written_words w).values)
   unfolding written_words padded
   answers-wrote size x e f h = rw (e, ← f) h
 
-  pub answers-refused : (y : Refusal) (x : ℕ) → w ≡ Refused y → x ≡ or_else y.number (short lacks) → AnswersWith r ws ws' x (0 ∷ [])
+  pub answers-refused : (y : Refusal) (x : ℕ) → w ≡ Err y → x ≡ or_else y.number (short lacks) → AnswersWith r ws ws' x (0 ∷ [])
       → AnswersWith r ws ws' (or_else (written_words w).refusal (short lacks)) (padded 1 (written_words w).values)
   unfolding written_words padded
   answers-refused y x e f h = rw (e, ← f) h

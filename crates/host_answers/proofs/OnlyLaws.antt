@@ -11,7 +11,7 @@ use Rattle.std.specs.Prelude.{if◌then◌else◌}
 use Rattle.wire.specs.Refusals.{output_short}
 use Rattle.wire.specs.Words.{Words, refuses}
 use Rattle.wire.specs.Output.{written_words, write_refusal, Writes}
-use Rattle.wire.specs.declared.output.Written.{Written}
+use Rattle.wire.specs.Output.{Written}
 use Rattle.wire.proofs.Words.{refusal-of}
 use Rattle.wire.proofs.Outputs.{answer-refusal}
 use Rattle.host_answers.specs.Answers.{or_else, short, unless_sized, state_ladder, is_one_of, RefusesOnly, AnswersWith}

@@ -14,7 +14,7 @@ use borrow.Author.Tests.{eq-eqb, ne_eqb, leb-false}
 use Rattle.std.specs.Prelude.{if◌then◌else◌}
 use Rattle.wire.specs.Refusals.{output_short}
 use Rattle.wire.specs.Output.{written_words, put, write_refusal, write_answer, write_output, Writes}
-use Rattle.wire.specs.declared.output.Written.{Written}
+use Rattle.wire.specs.Output.{Written}
 use Rattle.wire.proofs.Cases.{zero_or_not}
 use Rattle.wire.proofs.Numbers.{part_to_end}
 use Rattle.wire.proofs.Words.{refusal-of, values-of}

@@ -1,13 +1,12 @@
 // What every exported function answers with: a code, 0 or the number of a refusal, and values laid into lent words on
 // success alone. 41, for lent memory that is too short, comes behind every other ground.
-#![tactic(auto)]
+#![tactic(auto, using(crate::proofs::Rules::answers, crate::proofs::Rules::ladders))]
 
 ghost use Rattle.std.specs.Prelude.{◌≡◌, ◌≤◌, length};
 ghost use Rattle.wire.specs.Output.{put, written_words};
 ghost use Rattle.host_answers.specs.Answers.{or_else, short, unless_sized, flag, padded, AnswersWith};
 ghost use Rattle.host_answers.specs.Answers.{HostPromises, behind_stateless, lent_from};
 
-use wire::output::Written;
 use wire::refusal;
 use wire::refusal::Refusal;
 
@@ -101,13 +100,13 @@ pub fn answer(words: &mut [u64], refused: Refusal, values: &[u64]) -> u32
 
 // Answers what a writer answered, where other lent memory than words and output may be too short: how many bytes it
 // wrote, or its refusal.
-pub fn answer_written(words: &mut [u64], lacks: bool, written: Written) -> u32
+pub fn answer_written(words: &mut [u64], lacks: bool, written: Result<usize, Refusal>) -> u32
     ensures answers_with { AnswersWith result words.old words.new
         (or_else (written_words written).refusal (short lacks)) (padded 1 (written_words written).values) }
     ensures promises { HostPromises }
 {
     match written {
-        Written::Wrote { size } => answer(words, or_short(refusal::NONE, lacks), &[size as u64]),
-        Written::Refused(r) => answer(words, or_short(r, lacks), &[0]),
+        Ok(size) => answer(words, or_short(refusal::NONE, lacks), &[size as u64]),
+        Err(r) => answer(words, or_short(r, lacks), &[0]),
     }
 }

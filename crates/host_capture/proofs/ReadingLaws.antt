@@ -11,7 +11,7 @@ use borrow.Rule.Slice.PartMut.{mid_of, put_mid}
 use borrow.Author.Tests.{eq-eqb, ne_eqb, le-ltb, lt-ltb}
 use Rattle.wire.specs.Bounds.{session_size}
 use Rattle.wire.specs.Output.{put, Writes}
-use Rattle.wire.specs.declared.output.Written.{Written}
+use Rattle.wire.specs.Output.{Written}
 use Rattle.wire.proofs.Numbers.{part_to_end}
 use Rattle.wire.proofs.Outputs.{length-put, put-room}
 use Rattle.capture_records.specs.Records.{most_records}

@@ -1,6 +1,6 @@
 // A reading of a capture, as a host keeps it. The bytes of its receiver stand in it, and are those of a receiver that
 // keeps early messages: its lengths are lent from there.
-#![tactic(auto)]
+#![tactic(auto, using(crate::proofs::Rules::readings, crate::proofs::Rules::stages))]
 
 ghost use Rattle.std.specs.Prelude.{◌≡◌, ◌≤◌, min, [], ◌∷◌, not, length, ltb};
 ghost use Rattle.wire.specs.Output.{put};

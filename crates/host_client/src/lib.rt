@@ -1,5 +1,5 @@
 // The SoupBinTCP session at the client, as a host keeps it.
-#![tactic(auto)]
+#![tactic(auto, using(crate::proofs::Rules::clients))]
 
 ghost use Rattle.std.specs.Prelude.{◌≡◌, length, ltb};
 ghost use Rattle.host_answers.specs.Answers.{or_else, short};
@@ -80,7 +80,7 @@ pub fn read(state: &[u8]) -> Client
     }
     let name_at = NAME_AT.0;
     Client {
-        session: parts::ten(&state[name_at..]),
+        session: parts::first(&state[name_at..]),
         number: SequenceNumber(little::get64(state, NUMBER_AT)),
         state: state_of(
             host_states::is_open(state, CLIENT),

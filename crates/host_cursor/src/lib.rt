@@ -1,5 +1,5 @@
 // A cursor over the messages of a datagram, as a host keeps it.
-#![tactic(auto)]
+#![tactic(auto, using(crate::proofs::Rules::cursors))]
 
 ghost use Rattle.std.specs.Prelude.{◌≡◌, ◌≤◌, length, ltb};
 ghost use Rattle.moldudp64_messages.specs.Cursor.{cursor};

@@ -9,7 +9,7 @@ use lib.Seq.{take_at, length-take-le}
 use borrow.Author.Tests.{lt-ltb, le-ltb, eq-eqb}
 use Rattle.wire.specs.Bounds.{session_size}
 use Rattle.wire.specs.Output.{put, Writes}
-use Rattle.wire.specs.declared.output.Written.{Written}
+use Rattle.wire.specs.Output.{Written}
 use Rattle.wire.specs.Parts.{first_bytes}
 use Rattle.wire.proofs.Cases.{below_or_not}
 use Rattle.wire.proofs.Numbers.{part_to_end}

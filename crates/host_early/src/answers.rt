@@ -1,4 +1,5 @@
 // What a receiver that keeps early messages answers, in words: by the table, and beside it a request.
+#![tactic(auto, using(crate::proofs::Rules::words))]
 ghost use Rattle.std.specs.Prelude.{◌≡◌};
 ghost use Rattle.early_receiver.specs.Answers.{early_words, request_words};
 ghost use Rattle.host_early.specs.Replies.{row_words, ask_words, part_words, EarlyWordsApart};

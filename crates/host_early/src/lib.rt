@@ -1,7 +1,7 @@
 // A receiver that keeps early messages, as a host keeps it: the lengths of the messages in its slots stand behind its
 // other fields, and are lent from there. What it answers a host is in `answers`, a walk over what a datagram will
 // deliver in `walk`.
-#![tactic(auto)]
+#![tactic(auto, using(crate::proofs::Rules::receivers))]
 
 pub mod answers;
 pub mod walk;
@@ -54,7 +54,7 @@ pub fn read(state: &[u8]) -> EarlyReceiver
     let name_at = NAME_AT.0;
     EarlyReceiver {
         base: Receiver {
-            session: parts::ten(&state[name_at..]),
+            session: parts::first(&state[name_at..]),
             next: SequenceNumber(little::get64(state, NUMBER_AT)),
             limit: MessageCount(little::get16(state, LIMIT_AT)),
             ended: !host_states::is_open(state, EARLY),

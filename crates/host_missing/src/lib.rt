@@ -1,5 +1,5 @@
 // A reading of what is missing from a capture, as a host keeps it. The words of the edges are lent beside it.
-#![tactic(auto)]
+#![tactic(auto, using(crate::proofs::Rules::places, crate::proofs::Rules::readings))]
 
 ghost use Rattle.std.specs.Prelude.{◌≡◌, ◌∷◌, ◌≤◌, min, length, ltb};
 ghost use Rattle.wire.specs.Output.{put};
@@ -129,7 +129,7 @@ pub fn read(state: &[u8]) -> Reading
             left,
         ),
         notes: Notes {
-            session: parts::ten(&state[session_at..]),
+            session: parts::first(&state[session_at..]),
             missing: Missing {
                 refused: parts::byte(state, REFUSED_AT) != 0,
                 closed: little::get64(state, CLOSED_AT) as usize,

@@ -1,5 +1,5 @@
 // A receiver, as a host keeps it; what it answers a host is in `answers`.
-#![tactic(auto)]
+#![tactic(auto, using(crate::proofs::Rules::receivers))]
 
 pub mod answers;
 
@@ -37,7 +37,7 @@ pub fn read(state: &[u8]) -> Receiver
     }
     let name_at = NAME_AT.0;
     Receiver {
-        session: parts::ten(&state[name_at..]),
+        session: parts::first(&state[name_at..]),
         next: SequenceNumber(little::get64(state, NUMBER_AT)),
         limit: MessageCount(little::get16(state, LIMIT_AT)),
         ended: !host_states::is_open(state, RECEIVER),

@@ -1,5 +1,5 @@
 // Who sends a SoupBinTCP stream, as a host says it.
-#![tactic(auto)]
+#![tactic(auto, using(crate::proofs::Rules::senders))]
 
 ghost use Rattle.std.specs.Prelude.{◌≡◌};
 ghost use Rattle.host_sender.specs.Sender.{sender_of};

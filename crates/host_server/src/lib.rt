@@ -1,5 +1,5 @@
 // The SoupBinTCP session at the server, as a host keeps it.
-#![tactic(auto)]
+#![tactic(auto, using(crate::proofs::Rules::servers))]
 
 ghost use Rattle.std.specs.Prelude.{◌≡◌, length, ltb};
 ghost use Rattle.soupbintcp_server.specs.Server.{server};
@@ -74,7 +74,7 @@ pub fn read(state: &[u8]) -> Server
     }
     let name_at = NAME_AT.0;
     Server {
-        session: parts::ten(&state[name_at..]),
+        session: parts::first(&state[name_at..]),
         last: SequenceNumber(little::get64(state, NUMBER_AT)),
         state: state_of(
             host_states::is_open(state, SERVER),

@@ -1,5 +1,5 @@
 // What the SoupBinTCP sessions of both ends share for hosts: the bytes of a state, and the words of an answer.
-#![tactic(auto)]
+#![tactic(auto, using(crate::proofs::Rules::sessions))]
 
 pub mod replies;
 

@@ -1,6 +1,6 @@
 // What the states that a host keeps share. A state is bytes of a fixed layout, and any bytes are one. Its first byte is
 // its kind's code while it is open, and another one, 0, once it is closed, ended or refused.
-#![tactic(auto)]
+#![tactic(auto, using(crate::proofs::Rules::fronts, crate::proofs::Rules::states))]
 
 pub mod little;
 

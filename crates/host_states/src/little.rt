@@ -1,5 +1,6 @@
 // Little-endian numbers, which the compiler reads and lays at once where the size of the state was tested before.
 // A byte past the end counts as 0, and where there is no room nothing is laid.
+#![tactic(auto, using(crate::proofs::Rules::numbers))]
 ghost use Rattle.std.specs.Prelude.{◌≡◌, ◌+◌, ◌*◌, ◌%◌, ◌≤◌, length};
 ghost use Rattle.wire.specs.Output.{put};
 ghost use Rattle.host_states.specs.Little.{little, little_bytes, LittleReadsBack};

@@ -1,5 +1,5 @@
 // The progress of a transmitter, as a host keeps it.
-#![tactic(auto)]
+#![tactic(auto, using(crate::proofs::Rules::progresses))]
 
 ghost use Rattle.std.specs.Prelude.{◌≡◌, ◌≤◌, length, ltb};
 ghost use Rattle.transmitter.specs.Turns.{progress};

@@ -1,4 +1,5 @@
 // Account records, and what one says of an entry, which is a username and a password like it.
+#![tactic(auto, using(crate::proofs::Rules::accounts))]
 ghost use Rattle.std.specs.Prelude.{◌≡◌, true, false, [], ◌∷◌};
 ghost use Rattle.login.specs.Account.{same_text, sound_account, is_of, has_password, is_known, blank_account};
 

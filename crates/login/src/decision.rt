@@ -1,5 +1,6 @@
 // The decision on a login, from its entry and the record that was found for it, the session and number that it asks
 // for, and the server's session and last number.
+#![tactic(auto, using(crate::proofs::Rules::decisions))]
 ghost use Rattle.std.specs.Prelude.{◌≡◌};
 ghost use Rattle.login.specs.Account.{verdict_on};
 ghost use Rattle.login.specs.Decision.{session_holds, number_holds, granted, decision_words, decision_of};

@@ -1,4 +1,5 @@
 // The lookup in a table that is lent as bytes, 16 to a record: username, then password. Bytes left over are no record.
+#![tactic(auto, using(crate::proofs::Rules::tables))]
 ghost use Rattle.std.specs.Prelude.{◌≡◌, ◌≤◌, length, ltb};
 ghost use Rattle.login.specs.Account.{is_of, most_accounts, found_in};
 ghost use Rattle.login.specs.Table.{account_size, account_of, accounts_of};
@@ -25,8 +26,8 @@ fn first(table: &[u8]) -> Account
     ensures { result ≡ account_of table.now }
 {
     Account {
-        username: parts::six(table),
-        password: parts::ten(&table[USERNAME_SIZE..]),
+        username: parts::first(table),
+        password: parts::first(&table[USERNAME_SIZE..]),
     }
 }
 

@@ -10,7 +10,7 @@ use mir.Val.{Fits}
 use mir.Syntax.{w64}
 use borrow.Author.Tests.{eq-eqb, ne_eqb}
 use Rattle.wire.specs.Output.{Writes}
-use Rattle.wire.specs.declared.output.Written.{Written}
+use Rattle.wire.specs.Output.{Written}
 use Rattle.wire.proofs.Numbers.{part_to_end}
 use Rattle.wire.proofs.Cases.{zero_or_not}
 use Rattle.wire.proofs.Outputs.{length-put}

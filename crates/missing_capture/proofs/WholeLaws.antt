@@ -10,8 +10,8 @@ use Rattle.wire.specs.Bytes.{joined}
 use Rattle.wire.specs.Words.{says}
 use Rattle.wire.specs.Output.{put, wrote, written_words, write_answer, Writes}
 use Rattle.wire.specs.declared.refusal.Refusal.{Refusal}
-use Rattle.wire.specs.declared.output.Written.{Written}
-use Rattle.wire.specs.declared.output.Written.TheVariants.{Wrote}
+use Rattle.wire.specs.Output.{Written}
+use Rattle.std.specs.Prelude.{Ok}
 use Rattle.wire.specs.declared.output.Written.TheVariants as written
 use Rattle.wire.proofs.Words.{which-of}
 use Rattle.wire.proofs.Outputs.{length-put, wrote_so, wrote-front, writes-done}
@@ -231,7 +231,7 @@ missing-capture-promises =
 -- ---- as the code of `printed` has it
 
 module _ (s : Reading) (es l m : List ℕ) (w : Written) (h : Writes w l m (room_ground l) 0 (text_of (lent_reading s es))) where
-  pub printed-so : (k : ℕ) → w ≡ Wrote k → PrintsIn k l m (text_of (lent_reading s es))
+  pub printed-so : (k : ℕ) → w ≡ Ok k → PrintsIn k l m (text_of (lent_reading s es))
   unfolding written_words
   printed-so k e =
       let t = text_of (lent_reading s es) in

@@ -1,5 +1,6 @@
 // A capture that comes in pieces. What is there is fed; the bytes that were not used are kept, and fed again in front
 // of the next piece. The words of the edges are lent to every call, as the one before left them.
+#![tactic(auto, using(crate::proofs::Rules::feeding, crate::proofs::Rules::noting, crate::proofs::Rules::printing, crate::proofs::Rules::writing))]
 ghost use Rattle.std.specs.Prelude.{◌≡◌, drop};
 ghost use Rattle.wire.specs.Bounds.{length_size};
 ghost use Rattle.wire.specs.Output.{Writes};
@@ -19,7 +20,7 @@ use missing_records::Notes;
 use missing_text::missing_text as text;
 use missing_text::missing_text::ROOM;
 use wire::kinds::{LENGTH_SIZE, SequenceNumber};
-use wire::output::Written;
+use wire::refusal::Refusal;
 use wire::{kinds, refusal};
 
 // How far a capture was read, and what is noted of its session.
@@ -148,12 +149,12 @@ impl Reading {
 
     // Writes what a reading prints, into an output with room for any text: the missing ranges, or that they are too
     // many; or that the settings are refused, as they also are while none were read.
-    pub fn write(self, edges: &[u64], out: &mut [u8]) -> Written
+    pub fn write(self, edges: &[u64], out: &mut [u8]) -> Result<usize, Refusal>
         ensures { Writes result out.old out.new (room_ground out.old) 0
             (text_of (lent_reading self edges.now)) }
     {
         if out.len() < ROOM {
-            return Written::Refused(refusal::OUTPUT_SHORT);
+            return Err(refusal::OUTPUT_SHORT);
         }
         let place = self.place;
         let notes = self.notes;
@@ -174,8 +175,8 @@ impl Reading {
             (text_of (lent_reading self edges.now)) }
     {
         match self.write(edges, out) {
-            Written::Wrote { size } => size,
-            Written::Refused(_) => 0,
+            Ok(size) => size,
+            Err(_) => 0,
         }
     }
 }

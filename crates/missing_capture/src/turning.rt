@@ -1,6 +1,7 @@
 // A program that reads a capture over one lent buffer: each turn takes what came behind the bytes that were kept, and
 // keeps what it did not use. The words of the edges are lent beside it. The program only reads, turns, and stops where
 // a turn says so.
+#![tactic(auto, using(crate::proofs::Rules::turning))]
 ghost use Rattle.std.specs.Prelude.{◌≡◌, ◌≤◌};
 ghost use Rattle.capture_events.specs.Events.{is_over_at};
 ghost use Rattle.capture_events.specs.Next.{at_of};

@@ -1,4 +1,5 @@
 // The missing ranges, from one datagram's numbers to the next.
+#![tactic(auto, using(crate::proofs::Rules::counts, crate::proofs::Rules::cuts, crate::proofs::Rules::lists, crate::proofs::Rules::notes, crate::proofs::Rules::plans, crate::proofs::Rules::smalls, crate::proofs::Rules::starts, crate::proofs::Rules::usables))]
 ghost use Rattle.std.specs.Prelude.{true, ◌≡◌, ◌+◌, ◌-◌, ◌%◌, ◌≤◌, length};
 ghost use Rattle.missing_ranges.specs.Notes.{missing, lent, is_usable, later, room, start_in, note_of};
 ghost use Rattle.missing_ranges.specs.Notes.{too_many, last_after, Ready, Plans};

@@ -1,5 +1,5 @@
 // The missing ranges of a session, from datagram to datagram. The edges of the ranges stand in lent words.
-#![tactic(auto)]
+#![tactic(auto, using(crate::proofs::Rules::taking))]
 
 ghost use Rattle.std.specs.Prelude.{◌≡◌, take};
 ghost use Rattle.wire.specs.Bounds.{session_size};

@@ -6,7 +6,7 @@ use native.Mathlib.Omega.{arith}
 use lib.ListN.{length, get_or, take, drop, length-append}
 use borrow.Author.Tests.{lt-ltb, le-ltb}
 use Rattle.wire.specs.Output.{put, Writes}
-use Rattle.wire.specs.declared.output.Written.{Written}
+use Rattle.wire.specs.Output.{Written}
 use Rattle.wire.proofs.Numbers.{part_to_end}
 use Rattle.wire.proofs.Cases.{below_or_not}
 use Rattle.wire.proofs.Outputs.{put-put, put-empty}

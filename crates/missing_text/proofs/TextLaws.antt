@@ -10,8 +10,8 @@ use mir.Val.{Fits}
 use mir.Syntax.{w64}
 use borrow.Author.Tests.{lt-ltb, le-ltb}
 use Rattle.wire.specs.Output.{Writes}
-use Rattle.wire.specs.declared.output.Written.{Written}
-use Rattle.wire.specs.declared.output.Written.TheVariants.{Wrote, Refused}
+use Rattle.wire.specs.Output.{Written}
+use Rattle.std.specs.Prelude.{Ok, Err}
 use Rattle.wire.proofs.Outputs.{writes-done, writes-ground}
 use Rattle.capture_lines.specs.Lines.{number_line, session_line, refused_line, behind_of, LaysLine}
 use Rattle.capture_lines.proofs.LineLaws.{number-length, session-length, wrote-laid, then-laid, then-wrote, laid-long, laid-within}
@@ -67,14 +67,14 @@ module _ (name : List ℕ) (l m : List ℕ) (w : Written) (a : ℕ) (n : length 
 pub list_written : (name : List ℕ) (s : Missing) (es l m o : List ℕ) (w : Written) (a b t : ℕ) → is_usable (lent s es) ≡ true
     → LaysLine a l m 0 (session_line name ++ edges_text s.highest.0 (take (s.closed + s.closed + 1) es)) (19 + 50 * (most_ranges + 1)) → t ≡ total_in (lent s es)
     → Writes w m o 0 a (number_line missing_key t) → b ≡ behind_of a w → room ≤ length l → length l * 1 < 2 ^ 63
-    → Writes (Wrote b) l o 0 0 (list_text name (ranges_in (lent s es)))
+    → Writes (Ok b) l o 0 0 (list_text name (ranges_in (lent s es)))
 unfolding list_text
 list_written name s es l m o w a b t u x e y g h f =
     let z = then-wrote w 29 x y g (number-length missing_key t) (omega arith) f in
     let r = usable-ranges s es u in
     let T = session_line name ++ edges_text s.highest.0 (take (s.closed + s.closed + 1) es) ++ number_line missing_key t in
     let n : b ≡ length T = omega (arith, z.place) in
-    let d : Writes (Wrote b) l o 0 0 T = rw n (writes-done l 0 T o (omega (arith, z.within)) z.bytes) in
+    let d : Writes (Ok b) l o 0 0 T = rw n (writes-done l 0 T o (omega (arith, z.within)) z.bytes) in
     rw r (rw (e ∙ ap (total_from 0) r) at d)
 
 -- ---- as the code of `write` has it
@@ -92,7 +92,7 @@ no_ground l h = rw (le-ltb _ _ h)
 pub with_room : (r : Written) (l m bs : List ℕ) → room ≤ length l → Writes r l m (room_ground l) 0 bs → Writes r l m 0 0 bs
 with_room r l m bs h w = rw (no_ground l h) at w
 
-pub write-short : (l bs : List ℕ) → length l < room → Writes (Refused (record { number = 41 })) l l (room_ground l) 0 bs
+pub write-short : (l bs : List ℕ) → length l < room → Writes (Err (record { number = 41 })) l l (room_ground l) 0 bs
 write-short l bs h = rw (short-ground l h) (writes-ground l 0 bs 41 (λ e. absurd (omega arith)))
 
 module _ (name : List ℕ) (x : Lent) (r : Written) (l m : List ℕ) (b : Bool) (e : b ≡ is_usable x) (h : room ≤ length l) where

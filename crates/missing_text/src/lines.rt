@@ -1,4 +1,5 @@
 // The lines of missing ranges, laid one after the other into an output that has room for them.
+#![tactic(auto, using(crate::proofs::Rules::ranges, crate::proofs::Rules::texts))]
 ghost use Rattle.std.specs.Prelude.{◌+◌, ◌*◌, ◌-◌, ◌≤◌, ◌≡◌, true, ◌++◌, length};
 ghost use Rattle.wire.specs.Output.{Writes};
 ghost use Rattle.capture_lines.specs.Lines.{LaysLine, session_line};
@@ -8,7 +9,7 @@ ghost use Rattle.missing_text.specs.Text.{range_text, ranges_text, list_text, ro
 
 use missing_ranges::ranges::Missing;
 use wire::kinds::{ByteOffset, SESSION_SIZE};
-use wire::output::Written;
+use wire::refusal::Refusal;
 
 // The number before another; 0 before 0.
 fn before(n: u64) -> u64
@@ -72,7 +73,7 @@ pub(crate) fn put_list(
     name: [u8; SESSION_SIZE],
     edges: &[u64],
     missing: Missing,
-) -> Written
+) -> Result<usize, Refusal>
     requires { (room ≤ length out.old) × (is_usable (lent missing edges.now) ≡ true) }
     ensures { Writes result out.old out.new 0 0
         (list_text name (ranges_in (lent missing edges.now))) }
@@ -84,5 +85,5 @@ pub(crate) fn put_list(
         a,
         capture_lines::put_number_line(out, a, b"missing=", total),
     );
-    Written::Wrote { size: end.0 }
+    Ok(end.0)
 }

@@ -1,4 +1,5 @@
 // Downstream packets, read: what a datagram says, or why it is refused.
+#![tactic(auto, using(crate::proofs::Rules::downstreams))]
 ghost use Rattle.std.specs.Prelude.{◌≡◌, ◌≤◌, length};
 ghost use Rattle.wire.specs.Words.{Injective};
 ghost use Rattle.wire.specs.Bytes.{same_bytes};
@@ -34,7 +35,7 @@ pub enum Downstream {
 fn block_count(count: MessageCount) -> MessageCount
     ensures { result.0 ≡ block_count_of (kind_of_count count.0) count.0 }
 {
-    if count.equals(header::END_OF_SESSION) {
+    if count == header::END_OF_SESSION {
         return MessageCount(0);
     }
     count
@@ -77,7 +78,7 @@ pub fn read(datagram: &[u8]) -> Downstream
     if count.is_zero() {
         return Downstream::Heartbeat { next: first };
     }
-    if count.equals(header::END_OF_SESSION) {
+    if count == header::END_OF_SESSION {
         return Downstream::EndOfSession { next: first };
     }
     Downstream::Data { first, count }

@@ -1,4 +1,5 @@
 // Request packets, read.
+#![tactic(auto, using(crate::proofs::Rules::requests))]
 ghost use Rattle.std.specs.Prelude.{◌≡◌};
 ghost use Rattle.wire.specs.Words.{Injective};
 ghost use Rattle.moldudp64.specs.Header.{number_of, count_of};
@@ -30,7 +31,7 @@ pub fn ground(first: SequenceNumber, count: MessageCount) -> Refusal
     if count.is_zero() {
         return refusal::REQUEST_COUNT;
     }
-    if count.equals(header::END_OF_SESSION) {
+    if count == header::END_OF_SESSION {
         return refusal::REQUEST_COUNT;
     }
     refusal::NONE

@@ -10,7 +10,7 @@ use borrow.Author.Tests.{lt-ltb, le-ltb, ltb-false, eq-eqb, ne_eqb, eqb-true, eq
 use mir.Val.{Fits}
 use mir.Syntax.{w16, w64}
 use Rattle.wire.specs.declared.refusal.Refusal.{Refusal}
-use Rattle.wire.specs.declared.output.Written.TheVariants.{Wrote, Refused}
+use Rattle.std.specs.Prelude.{Ok, Err}
 use Rattle.wire.specs.Output.{put, Writes}
 use Rattle.wire.proofs.Outputs.{writes-ground, writes_short, writes-done, put-put, length-put}
 use Rattle.moldudp64.specs.Header.{header}
@@ -23,15 +23,15 @@ use Rattle.moldudp64.proofs.DownstreamLaws.{past-ground}
 
 -- ---- every packet writer, as code that has r as what its grounds gave and k as its size
 
-pub write-ground : (l bs : List ℕ) (g : ℕ) (r : Refusal) → r.number ≡ g → (r.number ≡ 0 → ⊥) → Writes (Refused r) l l g 0 bs
+pub write-ground : (l bs : List ℕ) (g : ℕ) (r : Refusal) → r.number ≡ g → (r.number ≡ 0 → ⊥) → Writes (Err r) l l g 0 bs
 write-ground l bs g r e z = rw (← e) (writes-ground l 0 bs r.number z)
 
-pub write-short : (l bs : List ℕ) (g r k : ℕ) → r ≡ g → r ≡ 0 → length l < k → k ≡ length bs → Writes (Refused (record { number = 41 })) l l g 0 bs
+pub write-short : (l bs : List ℕ) (g r k : ℕ) → r ≡ g → r ≡ 0 → length l < k → k ≡ length bs → Writes (Err (record { number = 41 })) l l g 0 bs
 write-short l bs g r k e z h f =
     let q : g ≡ 0 = sym e ∙ z in
     rw q (writes_short l 0 bs (omega arith))
 
-pub write_done : (l m bs : List ℕ) (g r k : ℕ) → r ≡ g → r ≡ 0 → k ≤ length l → k ≡ length bs → m ≡ put l 0 bs → Writes (Wrote k) l m g 0 bs
+pub write_done : (l m bs : List ℕ) (g r k : ℕ) → r ≡ g → r ≡ 0 → k ≤ length l → k ≡ length bs → m ≡ put l 0 bs → Writes (Ok k) l m g 0 bs
 write_done l m bs g r k e z h f p =
     let q : g ≡ 0 = sym e ∙ z in
     rw (q, f) (writes-done l 0 bs m (omega arith) p)
@@ -49,15 +49,15 @@ pub end-good : (n : ℕ) → (n ≡ 0 → ⊥) → 0 ≡ end_ground n
 unfolding end_ground
 end-good n z = simp (ne_eqb _ _ z)
 
-pub end_refused : (l bs : List ℕ) (n : ℕ) → n ≡ 0 → Writes (Refused (record { number = 13 })) l l (end_ground n) 0 bs
+pub end_refused : (l bs : List ℕ) (n : ℕ) → n ≡ 0 → Writes (Err (record { number = 13 })) l l (end_ground n) 0 bs
 end_refused l bs n z = write-ground l bs (end_ground n) (record { number = 13 }) (end-13 n z) (omega arith)
 
-pub end_short : (l s : List ℕ) (n : ℕ) → (n ≡ 0 → ⊥) → length s ≡ 10 → length l < 20 → Writes (Refused (record { number = 41 })) l l (end_ground n) 0 (encoded_end s n)
+pub end_short : (l s : List ℕ) (n : ℕ) → (n ≡ 0 → ⊥) → length s ≡ 10 → length l < 20 → Writes (Err (record { number = 41 })) l l (end_ground n) 0 (encoded_end s n)
 unfolding encoded_end
 end_short l s n z ten h = write-short l (header s n 65535) (end_ground n) 0 20 (end-good n z) refl h (header-size s n 65535 ten)
 
 pub end-done : (l m s : List ℕ) (n : ℕ) → (n ≡ 0 → ⊥) → length s ≡ 10 → 20 ≤ length l → m ≡ put l 0 (header s n 65535)
-    → Writes (Wrote 20) l m (end_ground n) 0 (encoded_end s n)
+    → Writes (Ok 20) l m (end_ground n) 0 (encoded_end s n)
 unfolding encoded_end
 end-done l m s n z ten h p = write_done l m (header s n 65535) (end_ground n) 0 20 (end-good n z) refl h (header-size s n 65535 ten) p
 
@@ -143,7 +143,7 @@ module _ (n : ℕ) (ks d : List ℕ) (r : ℕ) where
       omega (arith, length-append (header s n (length (cut ks d))) (blocks_of (cut ks d)))
 
   pub packet-short : (l s : List ℕ) → r ≡ packet_ground n ks d → r ≡ 0 → length s ≡ 10 → length l < 20 + 2 * length ks + length d
-      → Writes (Refused (record { number = 41 })) l l (packet_ground n ks d) 0 (encoded_cut s n ks d)
+      → Writes (Err (record { number = 41 })) l l (packet_ground n ks d) 0 (encoded_cut s n ks d)
   packet-short l s e z ten h = write-short l (encoded_cut s n ks d) (packet_ground n ks d) r _ e z h (packet-size s ten e z)
 
   pub packet-room : (l₁ l : List ℕ) (bs : List ℕ) → r ≡ packet_ground n ks d → r ≡ 0 → 20 + 2 * length ks + length d ≤ length l → l₁ ≡ put l 0 bs
@@ -154,7 +154,7 @@ module _ (n : ℕ) (ks d : List ℕ) (r : ℕ) where
 
   pub packet-done : (l l₁ l₂ s : List ℕ) → r ≡ packet_ground n ks d → r ≡ 0 → length s ≡ 10 → 20 + 2 * length ks + length d ≤ length l
       → l₁ ≡ put l 0 (header s n (length ks)) → l₂ ≡ put l₁ 20 (blocks_of (cut ks d))
-      → Writes (Wrote (20 + 2 * length ks + length d)) l l₂ (packet_ground n ks d) 0 (encoded_cut s n ks d)
+      → Writes (Ok (20 + 2 * length ks + length d)) l l₂ (packet_ground n ks d) 0 (encoded_cut s n ks d)
   unfolding encoded
   packet-done l l₁ l₂ s e z ten h p q =
       let c = cut-size ks d (packet-whole e z) in

@@ -1,5 +1,6 @@
 // Downstream packets, written into a lent output. A success reports its size and changes those bytes alone; a refusal
 // changes none.
+#![tactic(auto, using(crate::proofs::Rules::ends, crate::proofs::Rules::grounds, crate::proofs::Rules::packets))]
 ghost use Rattle.std.specs.Prelude.{◌≡◌, ◌+◌, ◌≤◌, length};
 ghost use Rattle.wire.specs.Output.{put, Writes};
 ghost use Rattle.moldudp64.specs.Header.{header_size};
@@ -12,7 +13,6 @@ use crate::header;
 use crate::lengths::add_up;
 use moldudp64::header::{END_OF_SESSION, LARGEST_DATAGRAM, SIZE};
 use wire::kinds::{ByteOffset, LENGTH_SIZE, MessageCount, SESSION_SIZE, SequenceNumber};
-use wire::output::Written;
 use wire::refusal::Refusal;
 use wire::{output, refusal};
 
@@ -75,7 +75,7 @@ pub fn write_messages(
     first: SequenceNumber,
     lengths: &[u16],
     joined: &[u8],
-) -> Written
+) -> Result<usize, Refusal>
     ensures writes { Writes result out.old out.new
         (packet_ground first.0 lengths.now joined.now) 0
         (encoded_cut session first.0 lengths.now joined.now) }
@@ -83,16 +83,16 @@ pub fn write_messages(
 {
     let refused = ground(first, lengths, joined);
     if refused.number != 0 {
-        return Written::Refused(refused);
+        return Err(refused);
     }
     let count = lengths.len();
     let size = SIZE + LENGTH_SIZE * count + joined.len();
     if out.len() < size {
-        return Written::Refused(refusal::OUTPUT_SHORT);
+        return Err(refusal::OUTPUT_SHORT);
     }
     header::put_header(out, session, first, MessageCount(count as u16));
     put_blocks(out, lengths, joined);
-    Written::Wrote { size }
+    Ok(size)
 }
 
 // Writes an end of session.
@@ -100,17 +100,17 @@ pub fn write_end_of_session(
     out: &mut [u8],
     session: [u8; SESSION_SIZE],
     next: SequenceNumber,
-) -> Written
+) -> Result<usize, Refusal>
     ensures writes { Writes result out.old out.new (end_ground next.0) 0
         (encoded_end session next.0) }
     ensures round_trip { EndRoundTrip }
 {
     if next.is_zero() {
-        return Written::Refused(refusal::NUMBER_ZERO);
+        return Err(refusal::NUMBER_ZERO);
     }
     if out.len() < SIZE {
-        return Written::Refused(refusal::OUTPUT_SHORT);
+        return Err(refusal::OUTPUT_SHORT);
     }
     header::put_header(out, session, next, END_OF_SESSION);
-    Written::Wrote { size: SIZE }
+    Ok(SIZE)
 }

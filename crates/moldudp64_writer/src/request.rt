@@ -1,4 +1,5 @@
 // Request packets, written into a lent output.
+#![tactic(auto, using(crate::proofs::Rules::requests))]
 ghost use Rattle.wire.specs.Output.{Writes};
 ghost use Rattle.moldudp64.specs.Header.{header};
 ghost use Rattle.moldudp64.specs.Request.{request_ground};
@@ -8,7 +9,7 @@ use crate::header;
 use moldudp64::header::SIZE;
 use moldudp64::request;
 use wire::kinds::{MessageCount, SESSION_SIZE, SequenceNumber};
-use wire::output::Written;
+use wire::refusal::Refusal;
 use wire::refusal;
 
 // Writes a request.
@@ -17,18 +18,18 @@ pub fn write(
     session: [u8; SESSION_SIZE],
     first: SequenceNumber,
     count: MessageCount,
-) -> Written
+) -> Result<usize, Refusal>
     ensures writes { Writes result out.old out.new (request_ground first.0 count.0) 0
         (header session first.0 count.0) }
     ensures round_trip { RequestRoundTrip }
 {
     let refused = request::ground(first, count);
     if refused.number != 0 {
-        return Written::Refused(refused);
+        return Err(refused);
     }
     if out.len() < SIZE {
-        return Written::Refused(refusal::OUTPUT_SHORT);
+        return Err(refusal::OUTPUT_SHORT);
     }
     header::put_header(out, session, first, count);
-    Written::Wrote { size: SIZE }
+    Ok(SIZE)
 }

@@ -1,4 +1,5 @@
 // The size of a packet, which counts its header.
+#![tactic(auto, using(crate::proofs::Rules::sizes))]
 ghost use Rattle.std.specs.Prelude.{◌≡◌};
 ghost use Rattle.packing.specs.Fit.{size_ground, room_of};
 

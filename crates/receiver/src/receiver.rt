@@ -1,4 +1,5 @@
 // The receiver's start, and its taking of a datagram.
+#![tactic(auto, using(crate::proofs::Rules::found, crate::proofs::Rules::ladder, crate::proofs::Rules::names, crate::proofs::Rules::rows))]
 ghost use Rattle.std.specs.Prelude.{◌≡◌, false};
 ghost use Rattle.wire.specs.Refusals.{bad_setting};
 ghost use Rattle.moldudp64.specs.Header.{end_count};
@@ -102,16 +103,16 @@ impl Receiver {
         ensures not_weak { NotWeak }
         ensures calls { CallsDeliverTrue }
     {
-        if next.is_below(Receiver::LEAST_NUMBER) {
+        if next < Receiver::LEAST_NUMBER {
             return refused_start();
         }
-        if Receiver::LARGEST_NUMBER.is_below(next) {
+        if Receiver::LARGEST_NUMBER < next {
             return refused_start();
         }
-        if limit.is_below(Receiver::LEAST_LIMIT) {
+        if limit < Receiver::LEAST_LIMIT {
             return refused_start();
         }
-        if Receiver::LARGEST_LIMIT.is_below(limit) {
+        if Receiver::LARGEST_LIMIT < limit {
             return refused_start();
         }
         Started {
@@ -174,7 +175,7 @@ impl Receiver {
         ensures { result ≡ below_read self (downstream_words packet) }
     {
         match packet {
-            Downstream::EndOfSession { next } => next.is_below(self.next),
+            Downstream::EndOfSession { next } => next < self.next,
             Downstream::Data { first: _, count: _ } => false,
             Downstream::Heartbeat { next: _ } => false,
             Downstream::Refused(_) => false,
@@ -231,7 +232,7 @@ impl Receiver {
         let next = self.next;
         let limit = self.limit;
         Receiver {
-            session: parts::ten(datagram),
+            session: parts::first(datagram),
             next,
             limit,
             ended: self.ended,
@@ -277,7 +278,7 @@ impl Receiver {
         Taken {
             answer: Answer::Ask {
                 from: next,
-                count: next.gap(above).smaller(limit),
+                count: next.gap(above).min(limit),
             },
             receiver: self,
         }
@@ -289,11 +290,11 @@ impl Receiver {
             (numbered first.0 count.0)) }
     {
         let next = self.next;
-        if next.is_below(first) {
+        if next < first {
             return self.ask(first);
         }
         let end = first.plus(count);
-        if next.is_below(end) {
+        if next < end {
             return Taken {
                 answer: Answer::Deliver {
                     first: next,
@@ -314,10 +315,10 @@ impl Receiver {
         ensures { TakesRow result self (table self.limit.0 self.next.0 heartbeat at.0 0) }
     {
         let next = self.next;
-        if next.is_below(at) {
+        if next < at {
             return self.ask(at);
         }
-        if at.is_below(next) {
+        if at < next {
             return Taken {
                 answer: Answer::Old,
                 receiver: self,
@@ -334,7 +335,7 @@ impl Receiver {
         ensures { TakesRow result self (table self.limit.0 self.next.0 end_of_session at.0 end_count) }
     {
         let next = self.next;
-        if next.is_below(at) {
+        if next < at {
             return self.ask(at);
         }
         Taken {

@@ -1,4 +1,5 @@
 // What a logical packet says.
+#![tactic(auto, using(crate::proofs::Rules::packets))]
 ghost use Rattle.std.specs.Prelude.{◌≡◌};
 ghost use Rattle.soupbintcp.specs.Fields.{good_reason};
 

@@ -1,4 +1,5 @@
 // The session at the client.
+#![tactic(auto, using(crate::proofs::Rules::asked_rows, crate::proofs::Rules::asks, crate::proofs::Rules::client_starts, crate::proofs::Rules::client_states, crate::proofs::Rules::hand_ups, crate::proofs::Rules::in_rows))]
 ghost use Rattle.std.specs.Prelude.{◌≡◌, ◌≤◌};
 ghost use Rattle.wire.specs.Refusals.{bad_setting};
 ghost use Rattle.soupbintcp.specs.Letters.{packet_kind, packet_values, letter_for};
@@ -213,7 +214,7 @@ impl Client {
             answer: Answer::Accepted { number },
             size,
             client: Client {
-                session: parts::ten(given),
+                session: parts::first(given),
                 number,
                 state: ClientState::In,
             },

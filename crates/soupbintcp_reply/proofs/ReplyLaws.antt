@@ -10,8 +10,8 @@ use denote.Enum.Declared.{tag_of}
 use Rattle.wire.specs.Words.{refused, refuses}
 use Rattle.wire.specs.declared.kinds.SequenceNumber.{SequenceNumber}
 use Rattle.wire.specs.declared.refusal.Refusal.{Refusal}
-use Rattle.wire.specs.declared.output.Written.{Written}
-use Rattle.wire.specs.declared.output.Written.TheVariants.{Wrote, Refused}
+use Rattle.wire.specs.Output.{Written}
+use Rattle.std.specs.Prelude.{Ok, Err}
 use Rattle.wire.specs.Output.{written_words, write_refusal, write_answer, write_output, Writes}
 use Rattle.wire.proofs.Cases.{below_or_not, zero_or_not}
 use Rattle.wire.proofs.Words.{which-of, refusal-of}
@@ -59,12 +59,12 @@ output-kept g l bs z =
 -- ---- a reply that was written or refused
 
 module _ (s : Server) (k : Stepped) (w : Written) where
-  pub with-wrote : (size : ℕ) (r : Replied) → w ≡ Wrote size
+  pub with-wrote : (size : ℕ) (r : Replied) → w ≡ Ok size
       → r ≡ record { answer = k.answer; size = k.size; written = size; server = k.server } → r ≡ with_reply s k w
   unfolding with_reply
   with-wrote size r e f = rw e f
 
-  pub with-refused : (x : Refusal) (r : Replied) → w ≡ Refused x
+  pub with-refused : (x : Refusal) (r : Replied) → w ≡ Err x
       → r ≡ record { answer = case.Refused x; size = 0; written = 0; server = s } → r ≡ with_reply s k w
   unfolding with_reply
   with-refused x r e f = rw e f
@@ -78,7 +78,7 @@ module _ (s : Server) (k : Stepped) (o : StepOutcome Server) (h : ServerSteps k 
   written-so : (w : Written) → Writes w l m (reply_ground s.session o.reply) 0 (reply_of s.session o.reply)
       → Replies (with_reply s k w) s o l m
   unfolding with_reply written_words session_answer_words
-  written-so (Wrote size) p =
+  written-so (Ok size) p =
       let so = wrote_so _ l 0 _ size (sym p.answers) in
       let z : reply_refusal s o l ≡ 0 = no-write-refusal _ l 0 _ so.no_ground so.room in
       let same = sym (outcome-written s o l z) in
@@ -89,7 +89,7 @@ module _ (s : Server) (k : Stepped) (o : StepOutcome Server) (h : ServerSteps k 
         written = so.size ∙ sym (size-written s o l z);
         output = p.leaves;
       }
-  written-so (Refused x) p =
+  written-so (Err x) p =
       let z : reply_refusal s o l ≡ 0 → ⊥ = refused-so _ l _ (which-of p.answers) in
       let n : x.number ≡ reply_refusal s o l = refusal-of p.answers ∙ answer-refusal _ l 0 _ in
       let same = sym (outcome-refused s o l z) in

@@ -11,7 +11,7 @@ use Rattle.std.specs.Prelude.{if◌then◌else◌}
 use Rattle.wire.specs.Bounds.{session_size, largest_number}
 use Rattle.wire.specs.Words.{Case, answer, refused, says}
 use Rattle.wire.specs.Refusals.{output_short}
-use Rattle.wire.specs.declared.output.Written.TheVariants.{Wrote}
+use Rattle.std.specs.Prelude.{Ok}
 use Rattle.wire.specs.Output.{wrote, written_words, write_refusal, write_answer, write_output, OnlyWhatItReports}
 use Rattle.wire.proofs.Cases.{below_or_not, zero_or_not}
 use Rattle.wire.proofs.Outputs.{put-empty, no-write-refusal, wrote-front, output-laws}
@@ -102,7 +102,7 @@ module _ (s : Server) (o : StepOutcome Server) (out : List ℕ) (z : reply_refus
       record {
         front = rw k (wrote-front g out bs (length bs) wrote_it);
         behind = rw (k, ← zero-plus)
-            (output-laws.only_what_it_reports (Wrote (length bs)) out (write_output g out 0 bs) g 0 bs (length bs)
+            (output-laws.only_what_it_reports (Ok (length bs)) out (write_output g out 0 bs) g 0 bs (length bs)
             (record { answers = sym wrote_it; leaves = refl }) refl);
       }
 

@@ -3,8 +3,8 @@
 use Rattle.std.specs.Prelude.{ℕ, List, [], ◌∷◌, ◌≡◌, length, get_or, eqb, if◌then◌else◌}
 use Rattle.wire.specs.Words.{Words, Case, answer, refused, refuses}
 use Rattle.wire.specs.Output.{write_refusal, write_output}
-use Rattle.wire.specs.declared.output.Written.{Written}
-use Rattle.wire.specs.declared.output.Written.TheVariants.{Wrote, Refused}
+use Rattle.wire.specs.Output.{Written}
+use Rattle.std.specs.Prelude.{Ok, Err}
 use Rattle.soupbintcp.specs.Letters.{letter_accepted, letter_rejected}
 use Rattle.soupbintcp_writer.specs.Packets.{encoded, accepted_ground, accepted_payload, reason_ground}
 use Rattle.soupbintcp_session.specs.Answer.{SessionAnswerKind, wants_more, accepted, rejected, sequenced, unsequenced}
@@ -79,5 +79,5 @@ pub record Replies (r : Replied) (s : Server) (o : StepOutcome Server) (l m : Li
 
 -- what a step k of s comes to, once its reply was written or refused
 unfoldable pub with_reply : Server → Stepped → Written → Replied
-with_reply s k (Wrote size) = record { answer = k.answer; size = k.size; written = size; server = k.server }
-with_reply s k (Refused x) = record { answer = answers.Refused x; size = 0; written = 0; server = s }
+with_reply s k (Ok size) = record { answer = k.answer; size = k.size; written = size; server = k.server }
+with_reply s k (Err x) = record { answer = answers.Refused x; size = 0; written = 0; server = s }

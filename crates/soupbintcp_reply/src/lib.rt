@@ -1,6 +1,6 @@
 // The session at the server with its reply as bytes: a step that writes A, with the server's session and the granted
 // number, or J with its reason.
-#![tactic(auto)]
+#![tactic(auto, using(crate::proofs::Rules::replies))]
 
 ghost use Rattle.std.specs.Prelude.{◌≡◌};
 ghost use Rattle.login.specs.Table.{accounts_of};
@@ -12,7 +12,6 @@ ghost use Rattle.soupbintcp_reply.specs.Statements.{ReplyPromises};
 use soupbintcp_server::server::{Server, Stepped};
 use soupbintcp_session::answer::Answer;
 use soupbintcp_writer::server;
-use wire::output::Written;
 use wire::refusal::Refusal;
 
 // The answer to the front of a stream, how many bytes it took, how many bytes of the output the reply has, and the
@@ -26,12 +25,12 @@ pub struct Replied {
 }
 
 // A step whose reply was written; or, where that was refused, the server as it was.
-fn with_reply(server: Server, stepped: Stepped, written: Written) -> Replied
+fn with_reply(server: Server, stepped: Stepped, written: Result<usize, Refusal>) -> Replied
     ensures { result ≡ with_reply server stepped written }
 {
     match written {
-        Written::Wrote { size } => stepped_with(stepped, size),
-        Written::Refused(r) => refused(server, r),
+        Ok(size) => stepped_with(stepped, size),
+        Err(r) => refused(server, r),
     }
 }
 

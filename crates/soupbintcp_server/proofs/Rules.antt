@@ -5,19 +5,19 @@ use Rattle.soupbintcp.proofs.InFrontLaws.{in-front}
 use Rattle.soupbintcp_server.proofs.ServerLaws.{server-start-19, server-refused, server-name-bad, last-small, last-large, server-start-0, server-fresh, last-falls, last-passes, last-good, last-19, last-stays, last-moved, entry_read, entry-there, is-login, found-login, found-other, login-accepted, login-rejected, login-refused, waiting-L, waiting-plus, waiting-other, in-U, in-R, server-in-plus, in-O, server-in-other, row-waiting, server-row-in, server-row-closed, table-refused, server-step-more, server-step-refused, server-step-packet, step-too-long, few-enough, step-more, step-refused, step-packet}
 use Rattle.soupbintcp_server.proofs.StatementLaws.{by-a-record, only-by-the-rules}
 
-pub ruleset server-starts = (server-start-19, server-refused, server-name-bad, last-small, last-large, server-start-0, server-fresh, rules)
+pub ruleset server_starts = (server-start-19, server-refused, server-name-bad, last-small, last-large, server-start-0, server-fresh, rules)
 
-pub ruleset last-numbers = (last-falls, last-passes, last-good, last-19, last-stays, last-moved, rules)
+pub ruleset last_numbers = (last-falls, last-passes, last-good, last-19, last-stays, last-moved, rules)
 
 pub ruleset entries = (entry_read, entry-there, is-login, found-login, found-other, rules)
 
 pub ruleset decisions = (login-accepted, login-rejected, login-refused)
 
-pub ruleset waiting-rows = (waiting-L, is-login, waiting-plus, waiting-other, rules)
+pub ruleset waiting_rows = (waiting-L, is-login, waiting-plus, waiting-other, rules)
 
-pub ruleset server-in-rows = (in-U, in-R, server-in-plus, in-O, server-in-other, rules)
+pub ruleset server_in_rows = (in-U, in-R, server-in-plus, in-O, server-in-other, rules)
 
-pub ruleset server-states = (row-waiting, server-row-in, server-row-closed)
+pub ruleset server_states = (row-waiting, server-row-in, server-row-closed)
 
 pub ruleset server-fronts = (table-refused, server-step-more, server-step-refused, server-step-packet, packet-size, in-front)
 

@@ -1,4 +1,5 @@
 // The session at the server.
+#![tactic(auto, using(crate::proofs::Rules::decisions, crate::proofs::Rules::entries, crate::proofs::Rules::last_numbers, crate::proofs::Rules::server_in_rows, crate::proofs::Rules::server_starts, crate::proofs::Rules::server_states, crate::proofs::Rules::waiting_rows))]
 ghost use Rattle.std.specs.Prelude.{◌≡◌, [], ◌∷◌, ◌≤◌, length};
 ghost use Rattle.wire.specs.Refusals.{bad_setting};
 ghost use Rattle.login.specs.Account.{most_accounts, found_in, verdict_on};
@@ -67,8 +68,8 @@ pub fn entry(stream: &[u8]) -> Account
     ensures its_fields { EntryIsItsFields }
 {
     Account {
-        username: parts::six(front::username(stream, Sender::Client)),
-        password: parts::ten(front::password(stream, Sender::Client)),
+        username: parts::first(front::username(stream, Sender::Client)),
+        password: parts::first(front::password(stream, Sender::Client)),
     }
 }
 
@@ -78,8 +79,8 @@ fn login_entry(stream: &[u8]) -> Account
     ensures { result ≡ entry_of stream.now }
 {
     Account {
-        username: parts::six(parts::part(stream, ByteOffset(HEAD_SIZE), USERNAME_SIZE)),
-        password: parts::ten(parts::part(stream, LOGIN_PASSWORD_AT, PASSWORD_SIZE)),
+        username: parts::first(parts::part(stream, ByteOffset(HEAD_SIZE), USERNAME_SIZE)),
+        password: parts::first(parts::part(stream, LOGIN_PASSWORD_AT, PASSWORD_SIZE)),
     }
 }
 

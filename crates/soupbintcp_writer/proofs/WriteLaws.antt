@@ -7,8 +7,8 @@ use native.Mathlib.Omega.{arith}
 use lib.ListN.{length, replicate, length-append, length-replicate}
 use borrow.Author.Tests.{lt-ltb, le-ltb, ne_eqb, not-true, not-false}
 use Rattle.wire.specs.Bytes.{bytes}
-use Rattle.wire.specs.declared.output.Written.{Written}
-use Rattle.wire.specs.declared.output.Written.TheVariants.{Wrote, Refused}
+use Rattle.wire.specs.Output.{Written}
+use Rattle.std.specs.Prelude.{Ok, Err}
 use Rattle.wire.specs.Output.{put, Writes}
 use Rattle.wire.proofs.Numbers.{length-bytes}
 use Rattle.wire.proofs.Outputs.{writes-ground, writes_short, writes-done, put-put}
@@ -25,13 +25,13 @@ use Rattle.soupbintcp_writer.specs.Packets.{head_bytes, encoded, payload_ground,
 -- ---- every writer: g is its ground, bs its bytes
 
 module _ (l bs : List ℕ) (g : ℕ) where
-  not_written : (n : ℕ) → g ≡ n → (n ≡ 0 → ⊥) → Writes (Refused (record { number = n })) l l g 0 bs
+  not_written : (n : ℕ) → g ≡ n → (n ≡ 0 → ⊥) → Writes (Err (record { number = n })) l l g 0 bs
   not_written n e z = rw e (writes-ground l 0 bs n z)
 
-  no_room : (k : ℕ) → g ≡ 0 → length bs ≡ k → length l < k → Writes (Refused (record { number = 41 })) l l g 0 bs
+  no_room : (k : ℕ) → g ≡ 0 → length bs ≡ k → length l < k → Writes (Err (record { number = 41 })) l l g 0 bs
   no_room k e f h = rw e (writes_short l 0 bs (omega arith))
 
-  written : (k : ℕ) (m : List ℕ) → g ≡ 0 → length bs ≡ k → k ≤ length l → m ≡ put l 0 bs → Writes (Wrote k) l m g 0 bs
+  written : (k : ℕ) (m : List ℕ) → g ≡ 0 → length bs ≡ k → k ≤ length l → m ≡ put l 0 bs → Writes (Ok k) l m g 0 bs
   written k m e f h p = rw (e, ← f) (writes-done l 0 bs m (omega arith) p)
 
 -- two parts laid one after the other from the front on
@@ -69,28 +69,28 @@ payload-good : (p : List ℕ) → length p ≤ most_payload → payload_ground p
 unfolding payload_ground
 payload-good p h = simp (le-ltb _ _ h)
 
-pub payload-refused : (l bs p : List ℕ) → most_payload < length p → Writes (Refused (record { number = 22 })) l l (payload_ground p) 0 bs
+pub payload-refused : (l bs p : List ℕ) → most_payload < length p → Writes (Err (record { number = 22 })) l l (payload_ground p) 0 bs
 payload-refused l bs p h = not_written l bs (payload_ground p) 22 (payload-22 p h) (omega arith)
 
 pub payload-short : (l p : List ℕ) (c : ℕ) → length p ≤ most_payload → length l < length p + 3
-    → Writes (Refused (record { number = 41 })) l l (payload_ground p) 0 (encoded c p)
+    → Writes (Err (record { number = 41 })) l l (payload_ground p) 0 (encoded c p)
 payload-short l p c h i = no_room l (encoded c p) (payload_ground p) (length p + 3) (payload-good p h) (length-packet c p) i
 
 pub payload-done : (l l₁ l₂ p : List ℕ) (c : ℕ) → length p ≤ most_payload → length p + 3 ≤ length l → l₁ ≡ put l 0 (head_bytes c (length p)) → l₂ ≡ put l₁ 3 p
-    → Writes (Wrote (length p + 3)) l l₂ (payload_ground p) 0 (encoded c p)
+    → Writes (Ok (length p + 3)) l l₂ (payload_ground p) 0 (encoded c p)
 payload-done l l₁ l₂ p c h i e f =
     written l (encoded c p) (payload_ground p) (length p + 3) l₂ (payload-good p h) (length-packet c p) i (packet-put l l₁ l₂ c p i e f)
 
 -- ---- a letter alone
 
-pub letter-short : (l : List ℕ) (c : ℕ) → length l < 3 → Writes (Refused (record { number = 41 })) l l 0 0 (encoded c [])
+pub letter-short : (l : List ℕ) (c : ℕ) → length l < 3 → Writes (Err (record { number = 41 })) l l 0 0 (encoded c [])
 letter-short l c h = no_room l (encoded c []) 0 3 refl (length-packet c []) h
 
 letter-put : (l m : List ℕ) (c : ℕ) → m ≡ put l 0 (head_bytes c 0) → m ≡ put l 0 (encoded c [])
 unfolding encoded
 letter-put l m c e = rw (append-nil (head_bytes c 0)) e
 
-pub letter-done : (l m : List ℕ) (c : ℕ) → 3 ≤ length l → m ≡ put l 0 (head_bytes c 0) → Writes (Wrote 3) l m 0 0 (encoded c [])
+pub letter-done : (l m : List ℕ) (c : ℕ) → 3 ≤ length l → m ≡ put l 0 (head_bytes c 0) → Writes (Ok 3) l m 0 0 (encoded c [])
 letter-done l m c h e = written l (encoded c []) 0 3 m refl (length-packet c []) h (letter-put l m c e)
 
 -- ---- a number field
@@ -117,11 +117,11 @@ module _ (s : List ℕ) (n : ℕ) (b : Bool) (e : b ≡ good_session false s) wh
   accepted-good f z = rw (← e, not-false b f, ne_eqb _ _ z)
 
 pub accepted-no-session : (l bs s : List ℕ) (n : ℕ) (b : Bool) → b ≡ good_session false s → not b ≡ true
-    → Writes (Refused (record { number = 46 })) l l (accepted_ground s n) 0 bs
+    → Writes (Err (record { number = 46 })) l l (accepted_ground s n) 0 bs
 accepted-no-session l bs s n b e f = not_written l bs (accepted_ground s n) 46 (accepted_session s n b e f) (omega arith)
 
 pub accepted-no-number : (l bs s : List ℕ) (n : ℕ) (b : Bool) → b ≡ good_session false s → not b ≡ false → n ≡ 0
-    → Writes (Refused (record { number = 46 })) l l (accepted_ground s n) 0 bs
+    → Writes (Err (record { number = 46 })) l l (accepted_ground s n) 0 bs
 accepted-no-number l bs s n b e f z = not_written l bs (accepted_ground s n) 46 (accepted-zero s n b e f z) (omega arith)
 
 pub length-accepted : (s : List ℕ) (n : ℕ) → length s ≡ 10 → length (accepted_payload s n) ≡ 30
@@ -132,7 +132,7 @@ length-A : (s : List ℕ) (n : ℕ) → length s ≡ 10 → length (encoded 65 (
 length-A s n ten = omega (arith, length-packet 65 (accepted_payload s n), length-accepted s n ten)
 
 pub accepted-short : (l s : List ℕ) (n : ℕ) (b : Bool) → length s ≡ 10 → b ≡ good_session false s → not b ≡ false → (n ≡ 0 → ⊥) → length l < 33
-    → Writes (Refused (record { number = 41 })) l l (accepted_ground s n) 0 (encoded 65 (accepted_payload s n))
+    → Writes (Err (record { number = 41 })) l l (accepted_ground s n) 0 (encoded 65 (accepted_payload s n))
 accepted-short l s n b ten e f z h =
     no_room l (encoded 65 (accepted_payload s n)) (accepted_ground s n) 33 (accepted-good s n b e f z) (length-A s n ten) h
 
@@ -150,7 +150,7 @@ accepted-put l l₁ l₂ l₃ s n ten h e f g =
 
 pub accepted-done : (l l₁ l₂ l₃ s : List ℕ) (n : ℕ) (b : Bool) → length s ≡ 10 → b ≡ good_session false s → not b ≡ false → (n ≡ 0 → ⊥) → 33 ≤ length l
     → l₁ ≡ put l 0 (head_bytes 65 30) → l₂ ≡ put l₁ 3 s → l₃ ≡ put l₂ 13 (number_field n)
-    → Writes (Wrote 33) l l₃ (accepted_ground s n) 0 (encoded 65 (accepted_payload s n))
+    → Writes (Ok 33) l l₃ (accepted_ground s n) 0 (encoded 65 (accepted_payload s n))
 accepted-done l l₁ l₂ l₃ s n b ten e f z h p q r =
     written l (encoded 65 (accepted_payload s n)) (accepted_ground s n) 33 l₃ (accepted-good s n b e f z) (length-A s n ten) h
     (accepted-put l l₁ l₂ l₃ s n ten h p q r)
@@ -166,7 +166,7 @@ unfolding reason_ground
 reason-good b e = rw e
 
 pub reason-refused : (l bs : List ℕ) (b : ℕ) (t : Bool) → t ≡ good_reason b → not t ≡ true
-    → Writes (Refused (record { number = 46 })) l l (reason_ground b) 0 bs
+    → Writes (Err (record { number = 46 })) l l (reason_ground b) 0 bs
 reason-refused l bs b t e f = not_written l bs (reason_ground b) 46 (reason-bad b (sym e ∙ not-true t f)) (omega arith)
 
 pub reason-done : (r : Written) (l m bs : List ℕ) (b : ℕ) (t : Bool) → t ≡ good_reason b → not t ≡ false
@@ -199,7 +199,7 @@ unfolding login_ground
 login-good u w s b e f = rw (← e, not-false b f)
 
 pub login-refused : (l bs u w s : List ℕ) (b : Bool) → b ≡ good_login u w s → not b ≡ true
-    → Writes (Refused (record { number = 46 })) l l (login_ground u w s) 0 bs
+    → Writes (Err (record { number = 46 })) l l (login_ground u w s) 0 bs
 login-refused l bs u w s b e f = not_written l bs (login_ground u w s) 46 (login-bad u w s b e f) (omega arith)
 
 pub length-login : (u w s : List ℕ) (n : ℕ) → length u ≡ 6 → length w ≡ 10 → length s ≡ 10 → length (login_payload u w s n) ≡ 46
@@ -211,7 +211,7 @@ length-L : (u w s : List ℕ) (n : ℕ) → length u ≡ 6 → length w ≡ 10 �
 length-L u w s n six ten ten' = omega (arith, length-packet 76 (login_payload u w s n), length-login u w s n six ten ten')
 
 pub login-short : (l u w s : List ℕ) (n : ℕ) (b : Bool) → length u ≡ 6 → length w ≡ 10 → length s ≡ 10 → b ≡ good_login u w s → not b ≡ false
-    → length l < 49 → Writes (Refused (record { number = 41 })) l l (login_ground u w s) 0 (encoded 76 (login_payload u w s n))
+    → length l < 49 → Writes (Err (record { number = 41 })) l l (login_ground u w s) 0 (encoded 76 (login_payload u w s n))
 login-short l u w s n b six ten ten' e f h =
     no_room l (encoded 76 (login_payload u w s n)) (login_ground u w s) 49 (login-good u w s b e f) (length-L u w s n six ten ten') h
 
@@ -241,7 +241,7 @@ login-put l l₁ l₂ l₃ u w s n six ten ten' h e f g =
 
 pub login-done : (l l₁ l₂ l₃ u w s : List ℕ) (n : ℕ) (b : Bool) → length u ≡ 6 → length w ≡ 10 → length s ≡ 10 → b ≡ good_login u w s → not b ≡ false
     → 49 ≤ length l → l₁ ≡ put l 0 (head_bytes 76 46) → l₂ ≡ put l₁ 3 (u ++ w ++ s) → l₃ ≡ put l₂ 29 (number_field n)
-    → Writes (Wrote 49) l l₃ (login_ground u w s) 0 (encoded 76 (login_payload u w s n))
+    → Writes (Ok 49) l l₃ (login_ground u w s) 0 (encoded 76 (login_payload u w s n))
 login-done l l₁ l₂ l₃ u w s n b six ten ten' e f h p q r =
     written l (encoded 76 (login_payload u w s n)) (login_ground u w s) 49 l₃ (login-good u w s b e f) (length-L u w s n six ten ten') h
     (login-put l l₁ l₂ l₃ u w s n six ten ten' h p q r)

@@ -1,4 +1,5 @@
 // What a client sends; debug packets are with the server's.
+#![tactic(auto, using(crate::proofs::Rules::letters, crate::proofs::Rules::logins))]
 ghost use Rattle.std.specs.Prelude.{◌≡◌, [], ◌++◌, ◌+◌, ◌≤◌, length};
 ghost use Rattle.wire.specs.Bounds.{session_size};
 ghost use Rattle.wire.specs.Output.{Writes, put};
@@ -13,7 +14,7 @@ use soupbintcp::packet::{HEAD_SIZE, LOGIN_PASSWORD_AT, LOGIN_PAYLOAD, LOGIN_SESS
 use text_fields::sound::{PASSWORD_SIZE, USERNAME_SIZE};
 use text_fields::{number, session, sound};
 use wire::kinds::{ByteOffset, SESSION_SIZE, SequenceNumber};
-use wire::output::Written;
+use wire::refusal::Refusal;
 use wire::{output, refusal};
 
 // Bytes of a login request: the head, the username, the password, the session and the number.
@@ -23,7 +24,7 @@ const LOGIN_SIZE: usize = HEAD_SIZE + LOGIN_PAYLOAD;
 const NUMBER_AT: ByteOffset = ByteOffset(HEAD_SIZE + USERNAME_SIZE + PASSWORD_SIZE + SESSION_SIZE);
 
 // Writes an unsequenced message.
-pub fn write_unsequenced(out: &mut [u8], payload: &[u8]) -> Written
+pub fn write_unsequenced(out: &mut [u8], payload: &[u8]) -> Result<usize, Refusal>
     ensures writes { Writes result out.old out.new (payload_ground payload.now) 0
         (encoded letter_unsequenced payload.now) }
     ensures round_trip { PayloadRoundTrip }
@@ -32,7 +33,7 @@ pub fn write_unsequenced(out: &mut [u8], payload: &[u8]) -> Written
 }
 
 // Writes a client's heartbeat.
-pub fn write_heartbeat(out: &mut [u8]) -> Written
+pub fn write_heartbeat(out: &mut [u8]) -> Result<usize, Refusal>
     ensures writes { Writes result out.old out.new 0 0 (encoded letter_client_heartbeat []) }
     ensures round_trip { LetterRoundTrip }
 {
@@ -40,7 +41,7 @@ pub fn write_heartbeat(out: &mut [u8]) -> Written
 }
 
 // Writes a logout.
-pub fn write_logout(out: &mut [u8]) -> Written
+pub fn write_logout(out: &mut [u8]) -> Result<usize, Refusal>
     ensures writes { Writes result out.old out.new 0 0 (encoded letter_logout []) }
     ensures round_trip { LetterRoundTrip }
 {
@@ -95,24 +96,24 @@ fn write_parts(
     password: [u8; PASSWORD_SIZE],
     session: [u8; SESSION_SIZE],
     number: SequenceNumber,
-) -> Written
+) -> Result<usize, Refusal>
     ensures { Writes result out.old out.new (login_ground username password session) 0
         (encoded letter_login (login_payload username password session number.0)) }
 {
     if !is_good(username, password, session) {
-        return Written::Refused(refusal::FIELD_NOT_WRITTEN);
+        return Err(refusal::FIELD_NOT_WRITTEN);
     }
     if out.len() < LOGIN_SIZE {
-        return Written::Refused(refusal::OUTPUT_SHORT);
+        return Err(refusal::OUTPUT_SHORT);
     }
     packets::put_head(out, b'L', LOGIN_PAYLOAD);
     put_names(out, username, password, session);
     number::put(out, NUMBER_AT, number);
-    Written::Wrote { size: LOGIN_SIZE }
+    Ok(LOGIN_SIZE)
 }
 
 // Writes a login request.
-pub fn write_login(out: &mut [u8], login: Login) -> Written
+pub fn write_login(out: &mut [u8], login: Login) -> Result<usize, Refusal>
     ensures writes { Writes result out.old out.new
         (login_ground login.username login.password login.session) 0
         (encoded letter_login (login_payload login.username login.password login.session

@@ -1,4 +1,5 @@
 // A packet of a letter, laid at the front of an output.
+#![tactic(auto, using(crate::proofs::Rules::packets))]
 ghost use Rattle.std.specs.Prelude.{◌≡◌, ◌+◌, ◌≤◌, [], length};
 ghost use Rattle.wire.specs.Output.{Writes, put};
 ghost use Rattle.soupbintcp.specs.Letters.{most_payload};
@@ -7,7 +8,7 @@ ghost use Rattle.soupbintcp_writer.specs.Packets.{head_bytes, encoded, payload_g
 
 use soupbintcp::packet::{HEAD_SIZE, MOST_PAYLOAD};
 use wire::kinds::{ByteOffset, LENGTH_SIZE};
-use wire::output::Written;
+use wire::refusal::Refusal;
 use wire::{output, refusal};
 
 // Lays the length and the letter before a payload of so many bytes.
@@ -20,31 +21,29 @@ pub(crate) fn put_head(out: &mut [u8], letter: u8, payload: usize)
 }
 
 // Writes a letter and a payload.
-pub(crate) fn write_payload(out: &mut [u8], letter: u8, payload: &[u8]) -> Written
+pub(crate) fn write_payload(out: &mut [u8], letter: u8, payload: &[u8]) -> Result<usize, Refusal>
     ensures { Writes result out.old out.new (payload_ground payload.now) 0
         (encoded letter payload.now) }
 {
     let size = payload.len();
     if MOST_PAYLOAD < size {
-        return Written::Refused(refusal::PAYLOAD_LONG);
+        return Err(refusal::PAYLOAD_LONG);
     }
     if out.len() < size + HEAD_SIZE {
-        return Written::Refused(refusal::OUTPUT_SHORT);
+        return Err(refusal::OUTPUT_SHORT);
     }
     put_head(out, letter, size);
     output::put_bytes(out, ByteOffset(HEAD_SIZE), payload);
-    Written::Wrote {
-        size: size + HEAD_SIZE,
-    }
+    Ok(size + HEAD_SIZE)
 }
 
 // Writes a letter alone.
-pub(crate) fn write_letter(out: &mut [u8], letter: u8) -> Written
+pub(crate) fn write_letter(out: &mut [u8], letter: u8) -> Result<usize, Refusal>
     ensures { Writes result out.old out.new 0 0 (encoded letter []) }
 {
     if out.len() < HEAD_SIZE {
-        return Written::Refused(refusal::OUTPUT_SHORT);
+        return Err(refusal::OUTPUT_SHORT);
     }
     put_head(out, letter, 0);
-    Written::Wrote { size: HEAD_SIZE }
+    Ok(HEAD_SIZE)
 }

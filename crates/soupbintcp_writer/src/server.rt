@@ -1,4 +1,5 @@
 // What a server sends; debug packets are sent by both.
+#![tactic(auto, using(crate::proofs::Rules::accepts, crate::proofs::Rules::letters, crate::proofs::Rules::rejects))]
 ghost use Rattle.std.specs.Prelude.{[], ◌∷◌};
 ghost use Rattle.wire.specs.Output.{Writes};
 ghost use Rattle.soupbintcp.specs.Letters.{letter_accepted, letter_debug, letter_end, letter_rejected, letter_sequenced};
@@ -13,7 +14,7 @@ use soupbintcp::packet;
 use soupbintcp::packet::{ACCEPTED_PAYLOAD, HEAD_SIZE};
 use text_fields::{number, session};
 use wire::kinds::{ByteOffset, SESSION_SIZE, SequenceNumber};
-use wire::output::Written;
+use wire::refusal::Refusal;
 use wire::{output, refusal};
 
 // Bytes of a login accepted: the head, the session and the number.
@@ -23,7 +24,7 @@ const ACCEPTED_SIZE: usize = HEAD_SIZE + ACCEPTED_PAYLOAD;
 const NUMBER_AT: ByteOffset = ByteOffset(HEAD_SIZE + SESSION_SIZE);
 
 // Writes a debug packet, which a client sends too.
-pub fn write_debug(out: &mut [u8], payload: &[u8]) -> Written
+pub fn write_debug(out: &mut [u8], payload: &[u8]) -> Result<usize, Refusal>
     ensures writes { Writes result out.old out.new (payload_ground payload.now) 0
         (encoded letter_debug payload.now) }
     ensures round_trip { PayloadRoundTrip }
@@ -33,7 +34,7 @@ pub fn write_debug(out: &mut [u8], payload: &[u8]) -> Written
 }
 
 // Writes a sequenced message.
-pub fn write_sequenced(out: &mut [u8], payload: &[u8]) -> Written
+pub fn write_sequenced(out: &mut [u8], payload: &[u8]) -> Result<usize, Refusal>
     ensures writes { Writes result out.old out.new (payload_ground payload.now) 0
         (encoded letter_sequenced payload.now) }
     ensures round_trip { PayloadRoundTrip }
@@ -42,7 +43,7 @@ pub fn write_sequenced(out: &mut [u8], payload: &[u8]) -> Written
 }
 
 // Writes a server's heartbeat.
-pub fn write_heartbeat(out: &mut [u8]) -> Written
+pub fn write_heartbeat(out: &mut [u8]) -> Result<usize, Refusal>
     ensures writes { Writes result out.old out.new 0 0 (encoded letter_server_heartbeat []) }
     ensures round_trip { LetterRoundTrip }
 {
@@ -50,7 +51,7 @@ pub fn write_heartbeat(out: &mut [u8]) -> Written
 }
 
 // Writes an end of session.
-pub fn write_end_of_session(out: &mut [u8]) -> Written
+pub fn write_end_of_session(out: &mut [u8]) -> Result<usize, Refusal>
     ensures writes { Writes result out.old out.new 0 0 (encoded letter_end []) }
     ensures round_trip { LetterRoundTrip }
 {
@@ -62,36 +63,34 @@ pub fn write_accepted(
     out: &mut [u8],
     session: [u8; SESSION_SIZE],
     number: SequenceNumber,
-) -> Written
+) -> Result<usize, Refusal>
     ensures writes { Writes result out.old out.new (accepted_ground session number.0) 0
         (encoded letter_accepted (accepted_payload session number.0)) }
     ensures round_trip { AcceptedRoundTrip }
 {
     if !session::is_session(&session, false) {
-        return Written::Refused(refusal::FIELD_NOT_WRITTEN);
+        return Err(refusal::FIELD_NOT_WRITTEN);
     }
     if number.0 == 0 {
-        return Written::Refused(refusal::FIELD_NOT_WRITTEN);
+        return Err(refusal::FIELD_NOT_WRITTEN);
     }
     if out.len() < ACCEPTED_SIZE {
-        return Written::Refused(refusal::OUTPUT_SHORT);
+        return Err(refusal::OUTPUT_SHORT);
     }
     packets::put_head(out, b'A', ACCEPTED_PAYLOAD);
     output::put_bytes(out, ByteOffset(HEAD_SIZE), &session);
     number::put(out, NUMBER_AT, number);
-    Written::Wrote {
-        size: ACCEPTED_SIZE,
-    }
+    Ok(ACCEPTED_SIZE)
 }
 
 // Writes a login rejected.
-pub fn write_rejected(out: &mut [u8], reason: u8) -> Written
+pub fn write_rejected(out: &mut [u8], reason: u8) -> Result<usize, Refusal>
     ensures writes { Writes result out.old out.new (reason_ground reason) 0
         (encoded letter_rejected (reason ∷ [])) }
     ensures round_trip { RejectedRoundTrip }
 {
     if !packet::is_reason(reason) {
-        return Written::Refused(refusal::FIELD_NOT_WRITTEN);
+        return Err(refusal::FIELD_NOT_WRITTEN);
     }
     packets::write_payload(out, b'J', &[reason])
 }

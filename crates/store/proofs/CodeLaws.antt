@@ -6,8 +6,8 @@ use mathlib.Core.Path.{◌≡◌, sym, ◌∙◌}
 use native.Mathlib.Omega.{arith}
 use lib.ListN.{length, take, drop}
 use Rattle.wire.specs.declared.refusal.Refusal.{Refusal}
-use Rattle.wire.specs.declared.output.Written.{Written}
-use Rattle.wire.specs.declared.output.Written.TheVariants.{Refused}
+use Rattle.wire.specs.Output.{Written}
+use Rattle.std.specs.Prelude.{Err}
 use Rattle.wire.specs.Output.{Writes}
 use Rattle.moldudp64_writer.specs.Writer.{encoded_cut, packet_ground}
 use Rattle.moldudp64_writer.proofs.WriterLaws.{write-ground}
@@ -31,23 +31,23 @@ sends-part r l m s n ks d at c from b w =
 -- ---- `answer`
 
 module _ (s : List ℕ) (first : ℕ) (ks d : List ℕ) (size : ℕ) (q l : List ℕ) (g : Refusal) (eg : g.number ≡ setting_ground first (length ks) size) where
-  pub refuse-setting : (g.number ≡ 0 → ⊥) → Writes (Refused g) l l (answer_ground (store s first ks d) size q) 0 (answer_bytes (store s first ks d) size q)
+  pub refuse-setting : (g.number ≡ 0 → ⊥) → Writes (Err g) l l (answer_ground (store s first ks d) size q) 0 (answer_bytes (store s first ks d) size q)
   refuse-setting z = write-ground l _ _ g (answer-setting (store s first ks d) size q g.number eg z) z
 
   module _ (zg : g.number ≡ 0) (a : Asked) (ea : a ≡ ask_of s first (length ks) q) (room : ℕ) (er : room ≡ size - 20) (p : Picked)
       (ep : p ≡ pick_of ks (length d) a.place a.count room) where
     pub refuse-lengths : not p.whole ≡ true
-        → Writes (Refused (record { number = 44 })) l l (answer_ground (store s first ks d) size q) 0 (answer_bytes (store s first ks d) size q)
+        → Writes (Err (record { number = 44 })) l l (answer_ground (store s first ks d) size q) 0 (answer_bytes (store s first ks d) size q)
     refuse-lengths h = write-ground l _ _ (record { number = 44 }) (answer-44 (store s first ks d) size q g.number eg zg a ea room er p ep h) (omega arith)
 
     module _ (hw : not p.whole ≡ false) where
       pub refuse-ask : (a.refusal.number ≡ 0 → ⊥)
-          → Writes (Refused a.refusal) l l (answer_ground (store s first ks d) size q) 0 (answer_bytes (store s first ks d) size q)
+          → Writes (Err a.refusal) l l (answer_ground (store s first ks d) size q) 0 (answer_bytes (store s first ks d) size q)
       refuse-ask z = write-ground l _ _ a.refusal (answer-ask (store s first ks d) size q g.number eg zg a ea room er p ep hw z) z
 
       module _ (za : a.refusal.number ≡ 0) where
         pub refuse-long : p.count ≡ 0
-            → Writes (Refused (record { number = 52 })) l l (answer_ground (store s first ks d) size q) 0 (answer_bytes (store s first ks d) size q)
+            → Writes (Err (record { number = 52 })) l l (answer_ground (store s first ks d) size q) 0 (answer_bytes (store s first ks d) size q)
         refuse-long z = write-ground l _ _ (record { number = 52 }) (answer-52 (store s first ks d) size q g.number eg zg a ea room er p ep hw za z) (omega arith)
 
         pub may-send : (p.count ≡ 0 → ⊥) → Within a p ks d

@@ -1,4 +1,5 @@
 // What a request asks of a store.
+#![tactic(auto, using(crate::proofs::Rules::steps))]
 ghost use Rattle.std.specs.Prelude.{◌≡◌, min};
 ghost use Rattle.store.specs.Steps.{ask_nothing, ask_from, ask_of};
 

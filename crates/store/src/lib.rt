@@ -14,7 +14,7 @@ ghost use Rattle.store.specs.Witness.{NotVacuous};
 
 use packing::size::room;
 use wire::kinds::{SESSION_SIZE, SequenceNumber};
-use wire::output::Written;
+use wire::refusal::Refusal;
 use wire::refusal;
 
 // Answers a request of any bytes with one packet of at most a size: from the wanted number on, the most whole messages
@@ -28,7 +28,7 @@ pub fn answer(
     joined: &[u8],
     size: usize,
     request: &[u8],
-) -> Written
+) -> Result<usize, Refusal>
     ensures writes { Writes result out.old out.new
         (answer_ground (store session first.0 lengths.now joined.now) size
         request.now)
@@ -40,19 +40,19 @@ pub fn answer(
 {
     let bad = setting::ground(first, lengths.len(), size);
     if bad.number != 0 {
-        return Written::Refused(bad);
+        return Err(bad);
     }
     let asked = ask::read(session, first, lengths.len(), request);
     let picked = pick::pick(lengths, joined.len(), asked.place, asked.count, room(size));
     if !picked.whole {
-        return Written::Refused(refusal::LENGTHS_DIFFER);
+        return Err(refusal::LENGTHS_DIFFER);
     }
     let refused = asked.refusal;
     if refused.number != 0 {
-        return Written::Refused(refused);
+        return Err(refused);
     }
     if picked.count == 0 {
-        return Written::Refused(refusal::MESSAGE_LONG);
+        return Err(refusal::MESSAGE_LONG);
     }
     send::send(out, session, lengths, joined, asked, picked)
 }

@@ -1,4 +1,5 @@
 // The messages that an answer takes, found while all lengths are held against the joined data.
+#![tactic(auto, using(crate::proofs::Rules::picks))]
 ghost use Rattle.std.specs.Prelude.{◌≡◌, ◌+◌, ◌≤◌, length, take, drop};
 ghost use Rattle.moldudp64_writer.specs.Writer.{left_after};
 ghost use Rattle.store.specs.Steps.{pick_nothing, TakesMost, pick_of};

@@ -1,4 +1,5 @@
 // The messages that are taken, handed to the writer of packets.
+#![tactic(auto, using(crate::proofs::Rules::sendings))]
 ghost use Rattle.wire.specs.Output.{Writes};
 ghost use Rattle.moldudp64_writer.specs.Writer.{encoded_cut, packet_ground};
 ghost use Rattle.store.specs.Steps.{Within, taken_lengths, taken_data};
@@ -7,7 +8,7 @@ use crate::ask::Asked;
 use crate::pick::Picked;
 use moldudp64_writer::downstream;
 use wire::kinds::SESSION_SIZE;
-use wire::output::Written;
+use wire::refusal::Refusal;
 
 // Writes the packet of the messages taken: 41 is the writer's.
 pub(crate) fn send(
@@ -17,7 +18,7 @@ pub(crate) fn send(
     joined: &[u8],
     asked: Asked,
     picked: Picked,
-) -> Written
+) -> Result<usize, Refusal>
     requires { Within asked picked lengths.now joined.now }
     ensures { Writes result out.old out.new
         (packet_ground asked.number.0 (taken_lengths asked picked lengths.now)

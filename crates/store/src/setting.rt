@@ -1,4 +1,5 @@
 // What a store is lent with.
+#![tactic(auto, using(crate::proofs::Rules::steps))]
 ghost use Rattle.std.specs.Prelude.{◌≡◌};
 ghost use Rattle.store.specs.Steps.{setting_ground};
 

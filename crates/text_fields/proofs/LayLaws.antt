@@ -9,8 +9,8 @@ use borrow.Author.Tests.{le-leb}
 use Rattle.wire.specs.Words.{says, refused_words}
 use Rattle.wire.specs.Output.{wrote, written_words, put, write_refusal, write_answer, Writes}
 use Rattle.wire.specs.declared.refusal.Refusal.{Refusal}
-use Rattle.wire.specs.declared.output.Written.{Written}
-use Rattle.wire.specs.declared.output.Written.TheVariants.{Wrote, Refused}
+use Rattle.wire.specs.Output.{Written}
+use Rattle.std.specs.Prelude.{Ok, Err}
 use Rattle.wire.proofs.Words.{which-of}
 use Rattle.wire.proofs.Outputs.{put-room, length-put, wrote_so, wrote-front}
 use Rattle.decimal.specs.Decimal.{digits}
@@ -38,7 +38,7 @@ abbrev zeros : List ℕ
 zeros = replicate number_field_size 0
 
 -- the digits of every number have room in 20 bytes
-pub never-refused : (r : Written) (m f : List ℕ) (n : ℕ) (x : Refusal) → Writes r zeros m 0 0 (digits n) → r ≡ Refused x → f ≡ number_field n
+pub never-refused : (r : Written) (m f : List ℕ) (n : ℕ) (x : Refusal) → Writes r zeros m 0 0 (digits n) → r ≡ Err x → f ≡ number_field n
 unfolding written_words write_answer write_refusal
 never-refused r m f n x w e =
     let h : 0 + length (digits n) ≤ length zeros = omega (arith, length_digits n) in
@@ -47,7 +47,7 @@ never-refused r m f n x w e =
     let z : ◌≡◌ {A = ℕ} 0 1 = cc in
     absurd (omega arith)
 
-module _ (r : Written) (l m : List ℕ) (n k : ℕ) (w : Writes r l m 0 0 (digits n)) (e : r ≡ Wrote k) where
+module _ (r : Written) (l m : List ℕ) (n k : ℕ) (w : Writes r l m 0 0 (digits n)) (e : r ≡ Ok k) where
   laid : write_answer 0 l 0 (digits n) ≡ says wrote (k ∷ [])
   unfolding written_words
   laid = sym w.answers ∙ ap written_words e

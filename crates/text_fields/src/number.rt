@@ -1,4 +1,5 @@
 // A number field: spaces, then decimal digits. Leading zeros are read, and never written.
+#![tactic(auto, using(crate::proofs::Rules::laying, crate::proofs::Rules::numbers))]
 ghost use Rattle.std.specs.Prelude.{◌≡◌, replicate};
 ghost use Rattle.text_fields.specs.Letters.{space};
 ghost use Rattle.wire.specs.Output.{Writes};
@@ -10,7 +11,7 @@ use decimal::reading::Appended;
 use decimal::{reading, writing};
 use wire::kinds::{ByteOffset, SequenceNumber};
 use wire::output;
-use wire::output::Written;
+use wire::refusal::Refusal;
 
 // Bytes of a number field.
 pub const NUMBER_FIELD_SIZE: usize = 20;
@@ -91,7 +92,7 @@ pub fn read(field: &[u8], least: SequenceNumber) -> Number
 }
 
 // Lays a number field: spaces, then digits without leading zeros.
-pub fn put(out: &mut [u8], at: ByteOffset, number: SequenceNumber) -> Written
+pub fn put(out: &mut [u8], at: ByteOffset, number: SequenceNumber) -> Result<usize, Refusal>
     ensures writes { Writes result out.old out.new 0 at.0 (number_field number.0) }
     ensures laws { NumberLaws }
 {
@@ -107,9 +108,9 @@ fn right_justify(field: &mut [u8], number: SequenceNumber)
 {
     let mut text = [0u8; NUMBER_FIELD_SIZE];
     match writing::put(&mut text, ByteOffset(0), number.0) {
-        Written::Wrote { size } => {
+        Ok(size) => {
             output::put_bytes(field, ByteOffset(NUMBER_FIELD_SIZE - size), &text[..size]);
         }
-        Written::Refused(_) => {}
+        Err(_) => {}
     }
 }

@@ -13,8 +13,8 @@ use Rattle.std.specs.Prelude.{if◌then◌else◌}
 use Rattle.wire.specs.Words.{says, refuses}
 use Rattle.wire.specs.Output.{wrote, written_words, write_refusal, write_answer, Writes}
 use Rattle.wire.specs.declared.refusal.Refusal.{Refusal}
-use Rattle.wire.specs.declared.output.Written.{Written}
-use Rattle.wire.specs.declared.output.Written.TheVariants.{Wrote, Refused}
+use Rattle.wire.specs.Output.{Written}
+use Rattle.std.specs.Prelude.{Ok, Err}
 use Rattle.wire.proofs.Words.{which-of}
 use Rattle.wire.proofs.Outputs.{wrote_so, no-write-refusal}
 use Rattle.moldudp64.specs.Downstream.{run_out}
@@ -95,10 +95,10 @@ no_ground size n ks d p e =
 leads-there : (s : List ℕ) (size n : ℕ) (ks d : List ℕ) (p : Progress) (l : List ℕ) (g : Fit) → g ≡ fitting (size - 20) (drop p.messages ks)
     → (w : Written) → written_words w ≡ write_answer (next_ground size n ks d p) l 0 (next_bytes s size n ks d p) → moved p g w ≡ progress_after s size n ks d p l
 unfolding moved written_words
-leads-there s size n ks d p l g q (Wrote k) a =
+leads-there s size n ks d p l g q (Ok k) a =
     let o = wrote_so _ _ _ _ k (sym a) in
     ap (past p) q ∙ sym (after-written s size n ks d p l (eq-eqb _ _ (no-write-refusal _ _ _ _ o.no_ground o.room)))
-leads-there s size n ks d p l g q (Refused r) a = sym (after-refused s size n ks d p l (not-wrote _ _ _ _ r.number (sym a)))
+leads-there s size n ks d p l g q (Err r) a = sym (after-refused s size n ks d p l (not-wrote _ _ _ _ r.number (sym a)))
 
 module _ (size n : ℕ) (ks d : List ℕ) (p : Progress) (e : next_ground size n ks d p ≡ 0) where
   free : NoGround size n ks d p
@@ -164,11 +164,11 @@ module _ (size n : ℕ) (ks d : List ℕ) (p : Progress) (e : next_ground size n
 
 -- ---- as the code has it
 
-pub moved-wrote : (p q : Progress) (g : Fit) (w : Written) (k : ℕ) → w ≡ Wrote k → q ≡ past p g → q ≡ moved p g w
+pub moved-wrote : (p q : Progress) (g : Fit) (w : Written) (k : ℕ) → w ≡ Ok k → q ≡ past p g → q ≡ moved p g w
 unfolding moved
 moved-wrote p q g w k e f = rw e f
 
-pub moved-refused : (p : Progress) (g : Fit) (w : Written) (r : Refusal) → w ≡ Refused r → p ≡ moved p g w
+pub moved-refused : (p : Progress) (g : Fit) (w : Written) (r : Refusal) → w ≡ Err r → p ≡ moved p g w
 unfolding moved
 moved-refused p g w r e = rw e
 

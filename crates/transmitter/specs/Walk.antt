@@ -2,8 +2,8 @@
 use Rattle.std.specs.Prelude.{ℕ, zero, suc, ◌+◌, List, not, ◌≡◌, drop, leb, eqb, if◌then◌else◌}
 use Rattle.wire.specs.Refusals.{number_zero, numbers_run_out, lengths_differ, message_long, no_such_packet}
 use Rattle.wire.specs.Output.{Writes}
-use Rattle.wire.specs.declared.output.Written.{Written}
-use Rattle.wire.specs.declared.output.Written.TheVariants.{Wrote, Refused}
+use Rattle.wire.specs.Output.{Written}
+use Rattle.std.specs.Prelude.{Ok, Err}
 use Rattle.moldudp64.specs.Downstream.{run_out}
 use Rattle.packing.specs.declared.fit.Fit.{Fit}
 use Rattle.packing.specs.Fit.{fitting}
@@ -17,8 +17,8 @@ past p g = progress (p.messages + g.count) (p.bytes + g.bytes)
 
 -- after a group was written, or refused
 unfoldable pub moved : Progress → Fit → Written → Progress
-moved p g (Wrote size) = past p g
-moved p g (Refused r) = p
+moved p g (Ok size) = past p g
+moved p g (Err r) = p
 
 -- past so many groups
 unfoldable pub past_groups : ℕ → List ℕ → Progress → ℕ → Progress

@@ -1,4 +1,5 @@
 // One packet of a run, asked for by its place from 0. A caller that sends them all takes turns.
+#![tactic(auto, using(crate::proofs::Rules::places))]
 ghost use Rattle.std.specs.Prelude.{◌≡◌, ◌<◌, ◌^◌};
 ghost use Rattle.wire.specs.Output.{Writes};
 ghost use Rattle.moldudp64_writer.specs.Writer.{total};
@@ -11,7 +12,7 @@ use crate::turns::Progress;
 use crate::{run, turns};
 use packing::size;
 use wire::kinds::{SESSION_SIZE, SequenceNumber};
-use wire::output::Written;
+use wire::refusal::Refusal;
 
 // The progress past so many groups: a run that has fewer is passed whole.
 fn reach(lengths: &[u16], room: usize, place: u64) -> Progress
@@ -39,7 +40,7 @@ pub fn write(
     joined: &[u8],
     size: usize,
     place: u64,
-) -> Written
+) -> Result<usize, Refusal>
     ensures writes { Writes result out.old out.new
         (transmit_ground size first.0 lengths.now joined.now place)
         0
@@ -48,7 +49,7 @@ pub fn write(
 {
     let refused = run::ground(first, lengths, joined, size);
     if refused.number != 0 {
-        return Written::Refused(refused);
+        return Err(refused);
     }
     let at = reach(lengths, size::room(size), place);
     at.next(out, session, first, lengths, joined, size).written

@@ -1,4 +1,5 @@
 // What a whole run is refused for.
+#![tactic(auto, using(crate::proofs::Rules::runs))]
 ghost use Rattle.std.specs.Prelude.{◌≡◌};
 ghost use Rattle.packing.specs.Fit.{each_fits};
 ghost use Rattle.transmitter.specs.Transmitter.{run_ground};

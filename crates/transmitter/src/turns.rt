@@ -1,6 +1,7 @@
 // The packets of a run one after another, so that a whole run is sent in one walk. How far earlier packets have come is
 // two numbers, which anyone can make up or use with another run, so a turn takes any: the packet is then well-formed,
 // of that run's bytes from where the numbers say.
+#![tactic(auto, using(crate::proofs::Rules::groups, crate::proofs::Rules::moves, crate::proofs::Rules::runs, crate::proofs::Rules::turns, crate::proofs::Rules::writes))]
 ghost use Rattle.std.specs.Prelude.{◌≡◌, ◌+◌, ◌-◌, ◌≤◌, ◌<◌, ◌^◌, drop};
 ghost use Rattle.wire.specs.Output.{Writes};
 ghost use Rattle.packing.specs.Fit.{size_ground, room_of, fitting};
@@ -14,7 +15,6 @@ use moldudp64_writer::downstream;
 use packing::fit::Fit;
 use packing::{fit, size};
 use wire::kinds::{ByteOffset, LARGEST_NUMBER, SESSION_SIZE, SequenceNumber};
-use wire::output::Written;
 use wire::refusal::Refusal;
 use wire::{parts, refusal};
 
@@ -35,7 +35,7 @@ pub struct Started {
 // What a turn wrote, and the progress then.
 #[derive(Clone, Copy)]
 pub struct Turn {
-    pub written: Written,
+    pub written: Result<usize, Refusal>,
     pub progress: Progress,
 }
 
@@ -92,13 +92,13 @@ impl Progress {
     }
 
     // The progress after a group was written, or refused.
-    fn after(self, group: Fit, written: Written) -> Progress
+    fn after(self, group: Fit, written: Result<usize, Refusal>) -> Progress
         requires { (self.messages + group.count < 2 ^ 64) × (self.bytes + group.bytes < 2 ^ 64) }
         ensures { result ≡ moved self group written }
     {
         match written {
-            Written::Wrote { size } => self.past(group),
-            Written::Refused(short) => self,
+            Ok(size) => self.past(group),
+            Err(short) => self,
         }
     }
 
@@ -189,7 +189,7 @@ impl Progress {
         let bad = size::ground(size);
         if bad.number != 0 {
             return Turn {
-                written: Written::Refused(bad),
+                written: Err(bad),
                 progress: self,
             };
         }
@@ -197,7 +197,7 @@ impl Progress {
         let refused = self.ground(first, lengths, joined, size, group);
         if refused.number != 0 {
             return Turn {
-                written: Written::Refused(refused),
+                written: Err(refused),
                 progress: self,
             };
         }

@@ -16,8 +16,8 @@ pub(crate) const TABLE_SIZE: usize = RECORDS * RECORD_SIZE;
 fn record_at(bytes: &[u8], at: usize) -> Account {
     let record = parts::part(bytes, ByteOffset(at), RECORD_SIZE);
     Account {
-        username: parts::six(record),
-        password: parts::ten(parts::part(record, ByteOffset(USERNAME_SIZE), PASSWORD_SIZE)),
+        username: parts::first(record),
+        password: parts::first(parts::part(record, ByteOffset(USERNAME_SIZE), PASSWORD_SIZE)),
     }
 }
 

@@ -3,9 +3,9 @@ pub mod Words
 pub mod Numbers
 pub mod Outputs
 pub mod Copy
-pub mod Lowering
 pub mod Same
 pub mod PartLaws
 pub mod Rooms
+pub mod Refusing
 pub mod TestLaws
 pub mod Rules

@@ -5,6 +5,8 @@ use Prim.Native.Nat.{ℕ, zero, suc, ◌+◌, ◌*◌, ◌/◌, ◌%◌, ◌-◌
 use native.Mathlib.Omega.{arith}
 use native.Mathlib.Nat.{add-zero, zero-add, pow-suc}
 use native.Mathlib.Numerals.{add-one}
+use mir.Syntax.{w8, w64}
+use mir.Val.{Fits}
 use lib.ListN.{length, get_or, take, drop, length-append, length-drop, get_or-eq_default, get_or-append}
 use lib.Seq.{get_or-take, get_or-drop, take_all, get_or_at, get_or-append-add, take-suc}
 use Rattle.wire.specs.Bytes.{number, bytes, AreBytes}
@@ -106,6 +108,16 @@ read-room n l at v small e h = go n h (small-number n l at small)
     go (suc (suc (suc (suc (suc (suc zero)))))) f b = omega arith
     go (suc (suc (suc (suc (suc (suc (suc zero))))))) f b = omega arith
     go (suc (suc (suc (suc (suc (suc (suc (suc k)))))))) f b = absurd (omega arith)
+
+module _ (n : ℕ) (l : List ℕ) (at v : ℕ) (small : (i : ℕ) → Fits w8 (get_or l i 0)) (e : v ≡ number l at n) (h : n < 8) where
+  are : AreBytes l
+  are i = (small i).fits
+
+  pub times_fits : Fits w64 (v * 256)
+  times_fits = let r = read-room n l at v are e h in record { fits = omega arith }
+
+  pub more_fits : (b : ℕ) → b ≡ get_or l (at + n) 0 → Fits w64 (v * 256 + b)
+  more_fits b f = let r = read-room n l at v are e h in let s = are (at + n) in record { fits = omega arith }
 
 pub read_none : (l : List ℕ) (at : ℕ) → 0 ≡ number l at 0
 unfolding number

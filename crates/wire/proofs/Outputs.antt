@@ -2,20 +2,27 @@
 use mathlib.Core.Path.{◌≡◌, refl, ap, sym, ◌∙◌}
 use mathlib.Core.List.{List, [], ◌∷◌, ◌++◌, append_assoc, append-nil}
 use mathlib.Core.Bool.{Bool, true, false}
-use Prim.Native.Nat.{ℕ, ◌+◌, ◌-◌, ◌≤◌, ◌<◌}
+use Prim.Native.Nat.{ℕ, zero, suc, ◌+◌, ◌/◌, ◌%◌, ◌-◌, ◌≤◌, ◌<◌}
 use native.Mathlib.Omega.{arith}
 use native.Mathlib.Nat.{add-zero}
 use lib.ListN.{length, get_or, take, drop, length-append, length-take, length-drop, take-append-drop}
 use lib.Seq.{take_at, drop_at, take-take, take-append-le, drop-append-add, drop-drop, length-take-le}
 use lib.Dec.{leb, eqb}
 use borrow.Author.Tests.{le-leb, lt-leb, leb-true, leb-false, eq-eqb, ne_eqb, eqb-true}
-use Rattle.std.specs.Prelude.{if◌then◌else◌}
+use Rattle.std.specs.Prelude.{if◌then◌else◌, Result, ⊤}
+use Rattle.std.specs.Int.{to_be_bytes}
+use Rattle.std.proofs.Math.Nat.{div-div-eq-div-mul}
+use borrow.Rule.Slice.PartMut.{put_mid}
+use mir.Syntax.{w16, w64}
 use Rattle.wire.specs.Refusals.{output_short}
 use Rattle.wire.specs.Words.{Case, answer, refused, says, refuses}
 use Rattle.wire.specs.Bytes.{bytes}
-use Rattle.wire.specs.declared.output.Written.{Written}
-use Rattle.wire.specs.declared.output.Written.TheVariants.{Wrote, Refused}
+use Rattle.wire.specs.Output.{Written}
+use Rattle.std.specs.Prelude.{Ok, Err}
 use Rattle.wire.specs.Output.{WrittenKind, wrote, written_words, put, write_refusal, write_answer, write_output, Writes, Outside, ReadsBack, AdjacentAreOne, OnlyWhatItReports, StandsThere, RefusalWritesNothing, TellsApart, OutputLaws}
+use Rattle.wire.specs.declared.refusal.Refusal.{Refusal}
+use Rattle.wire.specs.Words.{refused_by}
+use Rattle.wire.proofs.Refusing.{passes, refuses-by, no-ground, its-ground, a-ground}
 use Rattle.wire.proofs.Words.{which-of, values-of, read_back}
 use Rattle.wire.proofs.Numbers.{length-bytes, number-bytes}
 
@@ -135,17 +142,17 @@ module _ (l : List ℕ) (at : ℕ) (bs : List ℕ) where
   refusal-short h = simp (lt-leb _ _ h)
 
   -- g applies
-  pub writes-ground : (g : ℕ) → (g ≡ 0 → ⊥) → Writes (Refused (record { number = g })) l l g at bs
+  pub writes-ground : (g : ℕ) → (g ≡ 0 → ⊥) → Writes (Err (record { number = g })) l l g at bs
   unfolding written_words write_answer
   writes-ground g z = record { answers = simp (refusal-ground g z, ne_eqb _ _ z); leaves = simp (ne_eqb _ _ z) }
 
   -- none applies, and there is no room
-  pub writes_short : length l < at + length bs → Writes (Refused (record { number = output_short })) l l 0 at bs
+  pub writes_short : length l < at + length bs → Writes (Err (record { number = output_short })) l l 0 at bs
   unfolding written_words write_answer
   writes_short h = record { answers = simp (refusal-short h); leaves = sym (put-none l at bs h) }
 
   -- none applies, and there is room
-  pub writes-done : (m : List ℕ) → at + length bs ≤ length l → m ≡ put l at bs → Writes (Wrote (length bs)) l m 0 at bs
+  pub writes-done : (m : List ℕ) → at + length bs ≤ length l → m ≡ put l at bs → Writes (Ok (length bs)) l m 0 at bs
   unfolding written_words write_answer
   writes-done m h e = record { answers = simp (refusal-room h); leaves = e }
 
@@ -227,34 +234,80 @@ wrote-front g l bs k e =
     let s = wrote_so g l 0 bs k e in
     rw (s.no_ground, s.size, put-room l 0 bs s.room) (take_at bs (drop (0 + length bs) l) (length bs) refl)
 
--- ---- as the code of `put16`, `put64` and `put_bytes` has them: n is the size
+-- ---- a check by the writer's ground that refused
+pub writes-refused : (l : List ℕ) (at : ℕ) (bs : List ℕ) (g : ℕ) (s : Result ⊤ Refusal) (w : Written) (r : Refusal)
+    → s ≡ refused_by g → s ≡ Err r → w ≡ Err r → Writes w l l g at bs
+writes-refused l at bs g s w r e d f =
+    let h = its-ground g r (sym d ∙ e) in
+    let z : g ≡ 0 → ⊥ = a-ground g r (sym d ∙ e) in
+    rw (f, ← h) (writes-ground l at bs r.number (λ y. z (sym h ∙ y)))
+
+-- ---- as the code of `room`, `put16`, `put64` and `put_bytes` has them: n is the size
+
+module _ (m at n : ℕ) where
+  pub room-there : (s : Result ⊤ Refusal) (u : ⊤) → s ≡ refused_by (if leb (at + n) m then 0 else output_short) → s ≡ Ok u → at + n ≤ m
+  room-there s u e d = go (leb (at + n) m) refl (no-ground _ u (sym d ∙ e))
+    where
+      go : (b : Bool) → leb (at + n) m ≡ b → (if b then 0 else output_short) ≡ 0 → at + n ≤ m
+      go true f h = leb-true _ _ f
+      go false f h = absurd (omega arith)
+
+  pub no-room-there : (s : Result ⊤ Refusal) (r : Refusal) → s ≡ refused_by (if leb (at + n) m then 0 else output_short) → s ≡ Err r
+      → (m < at + n) × (r ≡ record { number = output_short })
+  no-room-there s r e d = go (leb (at + n) m) refl (its-ground _ r (sym d ∙ e)) (a-ground _ r (sym d ∙ e))
+    where
+      go : (b : Bool) → leb (at + n) m ≡ b → r.number ≡ (if b then 0 else output_short) → ((if b then 0 else output_short) ≡ 0 → ⊥)
+          → (m < at + n) × (r ≡ record { number = output_short })
+      go true f h z = absurd (z refl)
+      go false f h z = (leb-false _ _ f, ap (λ (k : ℕ). record { number = k }) h)
+
+  pub room-so : (r : Result ⊤ Refusal) → at + n ≤ m → r ≡ Ok tt → r ≡ refused_by (if leb (at + n) m then 0 else output_short)
+  room-so r h e = e ∙ passes _ (rw (le-leb _ _ h) refl)
+
+  pub room-short : m < at + n → Err (record { number = output_short }) ≡ refused_by (if leb (at + n) m then 0 else output_short)
+  room-short h = refuses-by _ _ (rw (lt-leb _ _ h) refl) refl
+
+-- a part that was written over is what is laid
+pub laid-bytes : (l bs x : List ℕ) (at k : ℕ) → x ≡ bs → at + length bs ≤ length l → k ≡ length bs → put_mid at k l x ≡ put l at bs
+laid-bytes l bs x at k d h e =
+    rw (d, e, drop-drop (length bs) at l) (sym (append_assoc (take at l) bs (drop (at + length bs) l))) ∙ sym (put-room l at bs h)
 
 module _ (l : List ℕ) (at : ℕ) (bs : List ℕ) where
-  pub lay-beyond : length l < at → Writes (Refused (record { number = output_short })) l l 0 at bs
-  lay-beyond h = writes_short l at bs (omega arith)
+  pub lay-over : (s : Result ⊤ Refusal) (w : Written) (r : Refusal) → s ≡ refused_by (if leb (at + length bs) (length l) then 0 else output_short)
+      → s ≡ Err r → w ≡ Err r → Writes w l l 0 at bs
+  lay-over s w r e d f = let h = no-room-there (length l) at (length bs) s r e d in rw (f, h.1) (writes_short l at bs h.0)
 
-  pub lay-over : (n : ℕ) → at ≤ length l → length l - at < n → n ≡ length bs → Writes (Refused (record { number = output_short })) l l 0 at bs
-  lay-over n f h e = writes_short l at bs (omega arith)
+  pub lay_done : (n : ℕ) (m : List ℕ) → at + n ≤ length l → n ≡ length bs → m ≡ put l at bs → Writes (Ok n) l m 0 at bs
+  lay_done n m h e d = rw e (writes-done l at bs m (omega arith) d)
 
-  pub lay_done : (n : ℕ) (m : List ℕ) → at ≤ length l → n ≤ length l - at → n ≡ length bs → m ≡ put l at bs → Writes (Wrote n) l m 0 at bs
-  lay_done n m f h e d = rw e (writes-done l at bs m (omega arith) d)
+-- the library's bytes of a number, the most significant first
+bytes-2 : (v : ℕ) → bytes 2 v ≡ v / 256 % 256 ∷ v % 256 ∷ []
+unfolding bytes
+bytes-2 v = refl
 
-pub size-bytes : (n v : ℕ) → n ≡ length (bytes n v)
-size-bytes n v = sym (length-bytes n v)
+pub laid-16 : (r : Written) (l m bs : List ℕ) (g at v : ℕ) → Writes r l m g at bs → bs ≡ to_be_bytes w16 v → Writes r l m g at (bytes 2 v)
+laid-16 r l m bs g at v w e = rw (bytes-2 v) (rw e at w)
+
+bytes-8 : (v : ℕ) → bytes 8 v ≡ to_be_bytes w64 v
+unfolding bytes
+bytes-8 v = simp div-div-eq-div-mul
+
+pub laid-64 : (r : Written) (l m bs : List ℕ) (g at v : ℕ) → Writes r l m g at bs → bs ≡ to_be_bytes w64 v → Writes r l m g at (bytes 8 v)
+laid-64 r l m bs g at v w e = rw (bytes-8 v) (rw e at w)
 
 -- ---- the words tell all answers apart
 
 answered : Case WrittenKind → ℕ → List ℕ → Written
-answered (answer wrote) r vs = Wrote (get_or vs 0 0)
-answered refused r vs = Refused (record { number = r })
+answered (answer wrote) r vs = Ok (get_or vs 0 0)
+answered refused r vs = Err (record { number = r })
 
 tells_apart : TellsApart
 unfolding TellsApart written_words answered
 tells_apart = read_back written_words (λ w. answered w.which w.refusal w.values) back
   where
     back : (a : Written) → answered (written_words a).which (written_words a).refusal (written_words a).values ≡ a
-    back (Wrote n) = refl
-    back (Refused r) = refl
+    back (Ok n) = refl
+    back (Err r) = refl
 
 pub output-laws : OutputLaws
 output-laws =

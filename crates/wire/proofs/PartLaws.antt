@@ -63,11 +63,6 @@ unfolding bytes_from
 one_by_one zero i l h = refl
 one_by_one (suc k) i l h = rw (drop-cons l i 0 (omega arith)) (ap (λ (m : List ℕ). get_or l i 0 ∷ m) (one_by_one k (suc i) l (omega arith)))
 
-pub first-six : (l : List ℕ) → 6 ≤ length l
-    → get_or l 0 0 ∷ get_or l 1 0 ∷ get_or l 2 0 ∷ get_or l 3 0 ∷ get_or l 4 0 ∷ get_or l 5 0 ∷ [] ≡ first_bytes 6 l
-unfolding bytes_from
-first-six l h = one_by_one 6 0 l h ∙ sym (first-there 6 l h)
-
 pub first-eight : (l : List ℕ) → 8 ≤ length l
     → get_or l 0 0 ∷ get_or l 1 0 ∷ get_or l 2 0 ∷ get_or l 3 0 ∷ get_or l 4 0 ∷ get_or l 5 0 ∷ get_or l 6 0 ∷ get_or l 7 0 ∷ [] ≡ take 8 l
 unfolding bytes_from
@@ -77,9 +72,6 @@ pub two-behind : (l : List ℕ) → 10 ≤ length l → get_or l 8 0 ∷ get_or 
 unfolding bytes_from
 two-behind l h = one_by_one 2 8 l h
 
--- ten, laid over ten others
-pub first-ten : (l z q m : List ℕ) → 10 ≤ length l → q ≡ take 10 (drop 0 l) → m ≡ write_output 0 z 0 q → length z ≡ 10 → m ≡ first_bytes 10 l
-first-ten l z q m h f e g =
-    let n : length (take 10 l) ≡ 10 = length-take-le 10 l h in
-    let d : drop 10 z ≡ [] = drop_of_length-le z {i = 10} (omega arith) in
-    e ∙ rw f (put-room z 0 (take 10 l) (omega arith) ∙ rw (n, d) (append-nil (take 10 l))) ∙ sym (first-there 10 l h)
+-- the first ones as a chunk
+pub first-chunk : (k : ℕ) (l m : List ℕ) → k ≤ length l → m ≡ take k l → m ≡ first_bytes k l
+first-chunk k l m h e = e ∙ sym (first-there k l h)

@@ -1,12 +1,13 @@
 -- A sum is at most the largest of its kind exactly where what is added isn't above the room that is left.
-use Prim.Native.Nat.{ℕ, ◌+◌, ◌-◌, ◌≤◌, ◌<◌}
+use Prim.Native.Nat.{ℕ, ◌+◌, ◌-◌, ◌≤◌, ◌<◌, min}
+use Rattle.std.specs.Prelude.{if◌then◌else◌}
 use native.Mathlib.Omega.{arith}
-use mathlib.Core.Path.{◌≡◌, sym}
-use mathlib.Core.Bool.{true, false}
-use lib.Dec.{leb}
+use mathlib.Core.Path.{◌≡◌, refl, sym}
+use mathlib.Core.Bool.{Bool, true, false}
+use lib.Dec.{leb, ltb}
 use mir.Syntax.{w16, w64}
 use mir.Val.{Fits}
-use borrow.Author.Tests.{le-leb, lt-leb, lt-ltb, le-ltb}
+use borrow.Author.Tests.{le-leb, lt-leb, ltb-true, ltb-false}
 use Rattle.wire.specs.Bounds.{largest_number, largest_count, up_to}
 
 pub no_room : (m a b : ℕ) → m - a < b → false ≡ leb (a + b) m
@@ -20,10 +21,10 @@ count_room a b h f = sym (le-leb (a + b) largest_count (omega arith))
 
 -- ---- a capped sum
 
-pub sum-most : (a b : ℕ) → largest_number - a < b → largest_number ≡ up_to a b
+pub capped-sum : (a b r : ℕ) → r ≡ min (a + b) largest_number → r ≡ up_to a b
 unfolding up_to
-sum-most a b h = let g : largest_number < a + b = omega arith in simp (lt-ltb _ _ g)
-
-pub sum_fits : (a b : ℕ) → Fits w64 a → b ≤ largest_number - a → a + b ≡ up_to a b
-unfolding up_to
-sum_fits a b f h = let g : a + b ≤ largest_number = omega arith in simp (le-ltb _ _ g)
+capped-sum a b r e = go (ltb largest_number (a + b)) refl
+  where
+    go : (t : Bool) → ltb largest_number (a + b) ≡ t → r ≡ (if t then largest_number else a + b)
+    go true h = let f = ltb-true _ _ h in omega arith
+    go false h = let f = ltb-false _ _ h in omega arith

@@ -1,19 +1,22 @@
 -- A lent output, and what a writer answers and leaves in it.
-use Rattle.std.specs.Prelude.{ℕ, ◌+◌, ◌^◌, ◌<◌, ◌≤◌, List, [], ◌∷◌, ◌++◌, ◌≡◌, length, take, drop, leb, eqb, if◌then◌else◌}
+use Rattle.std.specs.Prelude.{ℕ, ◌+◌, ◌^◌, ◌<◌, ◌≤◌, List, [], ◌∷◌, ◌++◌, ◌≡◌, length, take, drop, leb, eqb, if◌then◌else◌, Result, Ok, Err}
 use Rattle.wire.specs.Refusals.{output_short}
 use Rattle.wire.specs.Words.{Words, refused, says, refuses, refused_words, Injective}
 use Rattle.wire.specs.Bytes.{number, bytes}
-use Rattle.wire.specs.declared.output.Written.{Written}
-use Rattle.wire.specs.declared.output.Written.TheVariants.{Wrote, Refused}
+use Rattle.wire.specs.declared.refusal.Refusal.{Refusal}
 
--- what a writer can answer, but for a refusal
+-- what a writer answers: how many bytes it wrote, or why it wrote none
+abbrev pub Written : Type 0
+Written = Result ℕ Refusal
+
+-- its one kind, but for a refusal
 pub data WrittenKind : Type 0 where
   wrote : WrittenKind
 
 -- a writer's answer: how many bytes it wrote, or its refusal
 unfoldable pub written_words : Written → Words WrittenKind
-written_words (Wrote size) = says wrote (size ∷ [])
-written_words (Refused r) = refused_words r
+written_words (Ok size) = says wrote (size ∷ [])
+written_words (Err r) = refused_words r
 
 -- the output with bs laid over it at a place, or as it was where bs does not fit
 unfoldable pub put : List ℕ → ℕ → List ℕ → List ℕ

@@ -1,5 +1,5 @@
 -- What an answer says in document 01's words.
-use Rattle.std.specs.Prelude.{ℕ, List, [], ◌≡◌}
+use Rattle.std.specs.Prelude.{ℕ, List, [], ◌≡◌, eqb, if◌then◌else◌, ⊤, Result, Ok, Err}
 use Rattle.wire.specs.declared.refusal.Refusal.{Refusal}
 
 -- an answer is one of its kinds K, or a refusal
@@ -28,3 +28,7 @@ refused_words r = refuses r.number
 -- the words tell all answers apart
 abbrev pub Injective : {A B : Type 0} → (A → B) → Type 0
 Injective {A} f = (a b : A) → f a ≡ f b → a ≡ b
+
+-- what a check answers: nothing where its ground is 0, else the refusal of that number
+unfoldable pub refused_by : ℕ → Result ⊤ Refusal
+refused_by g = if eqb g 0 then Ok tt else Err (record { number = g })

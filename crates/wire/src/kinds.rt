@@ -1,22 +1,25 @@
-// Kinds of number that must never be mixed: each is a type of its own. Numbers, counts and places of messages do their
-// own arithmetic. Every operation is total; where a result would pass its kind's largest, it is the largest.
-ghost use Rattle.std.specs.Prelude.{◌≡◌, ◌+◌, ◌-◌, min, ltb, leb, eqb};
+// Kinds of number that must never be mixed: each is a type of its own, with an order of its own. Numbers, counts and
+// places of messages do their own arithmetic. Every operation is total; where a result would pass its kind's largest, it
+// is the largest.
+#![tactic(auto, using(crate::proofs::Rules::rooms))]
+
+ghost use Rattle.std.specs.Prelude.{◌≡◌, ◌+◌, ◌-◌, min, leb, eqb};
 ghost use Rattle.wire.specs.Bounds.{largest_number, largest_count};
 
 // The number of a message in its session, from 1.
-#[derive(Clone, Copy)]
+#[derive(Clone, Copy, Debug, PartialEq, Eq, PartialOrd, Ord)]
 pub struct SequenceNumber(pub u64);
 
 // How many messages.
-#[derive(Clone, Copy)]
+#[derive(Clone, Copy, Debug, PartialEq, Eq, PartialOrd, Ord)]
 pub struct MessageCount(pub u16);
 
 // A message's place in its datagram, from 0: how many stand before it.
-#[derive(Clone, Copy)]
+#[derive(Clone, Copy, Debug, PartialEq, Eq, PartialOrd, Ord)]
 pub struct MessagePlace(pub u16);
 
 // A place in a slice of bytes, from 0.
-#[derive(Clone, Copy)]
+#[derive(Clone, Copy, Debug, PartialEq, Eq, PartialOrd, Ord)]
 pub struct ByteOffset(pub usize);
 
 // The smallest number that a message has, and that a receiver starts at.
@@ -55,30 +58,18 @@ impl SequenceNumber {
         self.0 == 0
     }
 
-    pub fn is_below(self, other: SequenceNumber) -> bool
-        ensures { result ≡ ltb self.0 other.0 }
-    {
-        self.0 < other.0
-    }
-
     // Whether so many messages can be numbered from this one on: the number behind them is one still.
     pub fn has_room(self, count: MessageCount) -> bool
         ensures { result ≡ leb (self.0 + count.0) largest_number }
     {
-        if LARGEST_NUMBER.0 - self.0 < count.0 as u64 {
-            return false;
-        }
-        true
+        u64::from(count.0) <= LARGEST_NUMBER.0 - self.0
     }
 
     // The number so many messages further on.
     pub fn plus(self, count: MessageCount) -> SequenceNumber
         ensures { result.0 ≡ min largest_number (self.0 + count.0) }
     {
-        if LARGEST_NUMBER.0 - self.0 < count.0 as u64 {
-            return LARGEST_NUMBER;
-        }
-        SequenceNumber(self.0 + count.0 as u64)
+        SequenceNumber(self.0.saturating_add(u64::from(count.0)))
     }
 
     // How many messages lie from this number up to just below another; none where that isn't above.
@@ -100,13 +91,7 @@ impl SequenceNumber {
 fn distance(from: u64, to: u64) -> u16
     ensures { result ≡ min largest_count (to - from) }
 {
-    if to < from {
-        return 0;
-    }
-    if (LARGEST_COUNT.0 as u64) < to - from {
-        return LARGEST_COUNT.0;
-    }
-    (to - from) as u16
+    u16::try_from(to.saturating_sub(from)).unwrap_or(u16::MAX)
 }
 
 impl MessageCount {
@@ -116,52 +101,25 @@ impl MessageCount {
         self.0 == 0
     }
 
-    pub fn equals(self, other: MessageCount) -> bool
-        ensures { result ≡ eqb self.0 other.0 }
-    {
-        self.0 == other.0
-    }
-
-    pub fn is_below(self, other: MessageCount) -> bool
-        ensures { result ≡ ltb self.0 other.0 }
-    {
-        self.0 < other.0
-    }
-
-    pub fn smaller(self, other: MessageCount) -> MessageCount
-        ensures { result.0 ≡ min self.0 other.0 }
-    {
-        if self.0 < other.0 { self } else { other }
-    }
-
     // One message fewer, and none where there is none.
     pub fn less_one(self) -> MessageCount
         ensures { result.0 ≡ self.0 - 1 }
     {
-        if self.0 == 0 {
-            return self;
-        }
-        MessageCount(self.0 - 1)
+        MessageCount(self.0.saturating_sub(1))
     }
 
     // Whether a datagram can have so many messages from a place on.
     pub fn fits_behind(self, place: MessagePlace) -> bool
         ensures { result ≡ leb (place.0 + self.0) largest_count }
     {
-        if LARGEST_COUNT.0 - place.0 < self.0 {
-            return false;
-        }
-        true
+        self.0 <= LARGEST_COUNT.0 - place.0
     }
 
     // How many messages a datagram has that has so many from a place on.
     pub fn behind(self, place: MessagePlace) -> MessageCount
         ensures { result.0 ≡ min largest_count (place.0 + self.0) }
     {
-        if LARGEST_COUNT.0 - place.0 < self.0 {
-            return LARGEST_COUNT;
-        }
-        MessageCount(place.0 + self.0)
+        MessageCount(place.0.saturating_add(self.0))
     }
 }
 

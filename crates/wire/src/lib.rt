@@ -3,7 +3,6 @@
 #![tactic(auto)]
 
 pub mod compare;
-pub mod counts;
 pub mod kinds;
 pub mod number;
 pub mod output;

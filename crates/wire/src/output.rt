@@ -1,72 +1,50 @@
 // Numbers and bytes laid into a lent output at a place. Where there is no room the answer is 41 and nothing is laid.
+#![tactic(auto, using(crate::proofs::Rules::outputs))]
+
+ghost use Rattle.std.specs.Prelude.{◌≡◌, ◌+◌, leb, if◌then◌else◌};
 ghost use Rattle.wire.specs.Bytes.{bytes};
 ghost use Rattle.wire.specs.Output.{Writes, OutputLaws};
+ghost use Rattle.wire.specs.Refusals.{output_short};
+ghost use Rattle.wire.specs.Words.{refused_by};
 
 use crate::kinds::ByteOffset;
 use crate::refusal;
 use crate::refusal::Refusal;
 
-// What a writer answers: how many bytes it wrote, or why it wrote none.
-#[derive(Clone, Copy)]
-pub enum Written {
-    Wrote { size: usize },
-    Refused(Refusal),
-}
-
-// Lays so many low bytes of a number, from the last to the first.
-fn put_number(out: &mut [u8], at: ByteOffset, number: u64, size: usize) -> Written
-    ensures { Writes result out.old out.new 0 at.0 (bytes size number) }
+// Whether so many bytes have room at a place: 41 where they don't.
+pub fn room(lent: usize, at: ByteOffset, size: usize) -> Result<(), Refusal>
+    ensures { result ≡ refused_by (if leb (at.0 + size) lent then 0 else output_short) }
 {
-    let from = at.0;
-    if out.len() < from {
-        return Written::Refused(refusal::OUTPUT_SHORT);
+    if lent < at.0 || lent - at.0 < size {
+        return Err(refusal::OUTPUT_SHORT);
     }
-    if out.len() - from < size {
-        return Written::Refused(refusal::OUTPUT_SHORT);
-    }
-    let mut rest = number;
-    let mut left = size;
-    while 0 < left {
-        left -= 1;
-        out[from + left] = (rest % 256) as u8;
-        rest = rest / 256;
-    }
-    Written::Wrote { size }
+    Ok(())
 }
 
 // Lays a 16-bit number.
-pub fn put16(out: &mut [u8], at: ByteOffset, number: u16) -> Written
+pub fn put16(out: &mut [u8], at: ByteOffset, number: u16) -> Result<usize, Refusal>
     ensures writes { Writes result out.old out.new 0 at.0 (bytes 2 number) }
     ensures laws { OutputLaws }
 {
-    put_number(out, at, number as u64, 2)
+    put_bytes(out, at, &number.to_be_bytes())
 }
 
 // Lays a 64-bit number.
-pub fn put64(out: &mut [u8], at: ByteOffset, number: u64) -> Written
+pub fn put64(out: &mut [u8], at: ByteOffset, number: u64) -> Result<usize, Refusal>
     ensures writes { Writes result out.old out.new 0 at.0 (bytes 8 number) }
     ensures laws { OutputLaws }
 {
-    put_number(out, at, number, 8)
+    put_bytes(out, at, &number.to_be_bytes())
 }
 
-// Lays bytes.
-pub fn put_bytes(out: &mut [u8], at: ByteOffset, src: &[u8]) -> Written
+// Lays bytes, and answers how many.
+pub fn put_bytes(out: &mut [u8], at: ByteOffset, src: &[u8]) -> Result<usize, Refusal>
     ensures writes { Writes result out.old out.new 0 at.0 src.now }
     ensures laws { OutputLaws }
 {
     let from = at.0;
     let size = src.len();
-    if out.len() < from {
-        return Written::Refused(refusal::OUTPUT_SHORT);
-    }
-    if out.len() - from < size {
-        return Written::Refused(refusal::OUTPUT_SHORT);
-    }
-    let mut i: usize = 0;
-    while i < size {
-        out[from + i] = src[i];
-        i += 1;
-    }
-    Written::Wrote { size }
+    room(out.len(), at, size)?;
+    out[from..from + size].copy_from_slice(src);
+    Ok(size)
 }

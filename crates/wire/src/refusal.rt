@@ -1,7 +1,8 @@
 // Every refusal of documents 01 and 02, by name, with its ground.
 
-// A refusal is handed up untouched by every caller. It holds its number.
-#[derive(Clone, Copy)]
+// A refusal is handed up untouched by every caller. It holds its number, and is no enum of the names below: who takes a
+// refusal, as `Receiver::take_read` does in what was read, takes one of any number.
+#[derive(Clone, Copy, Debug, PartialEq, Eq)]
 pub struct Refusal {
     pub number: u8,
 }

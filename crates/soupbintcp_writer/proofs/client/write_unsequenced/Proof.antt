@@ -1,9 +1,0 @@
--- A letter and a payload.
-use Rattle.soupbintcp_writer.proofs.Rules.{letters}
-use borrow.Author.Rules.{rules}
-use Rattle.soupbintcp_writer.proofs.client.write_unsequenced.Statement.{statement}
-use Rattle.soupbintcp_writer.proofs.client.write_unsequenced.Tie as tie
-
-pub write_unsequenced_spec : {M : Type 1} → statement M
-write_unsequenced_spec =
-    tie.close (tie.spec (λ c κs. search rules) (λ c. search rules) (λ c. search letters))
