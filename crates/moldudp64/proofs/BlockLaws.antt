@@ -1,5 +1,5 @@
 -- Laws of the blocks: the walk, where each block is, and that it fits.
-use mathlib.Core.Path.{◌≡◌, refl, ap}
+use mathlib.Core.Path.{◌≡◌, refl, ap, sym}
 use mathlib.Core.List.{List}
 use mathlib.Core.Bool.{Bool, true, false}
 use Prim.Native.Nat.{ℕ, zero, suc, ◌+◌, ◌-◌, ◌≤◌, ◌<◌}
@@ -29,35 +29,35 @@ pub so-fits : (l : List ℕ) → fits l ≡ true → block_size l ≤ length l
 unfolding fits
 so-fits l e = leb-true _ _ e
 
--- ---- the walk, as code that has k as the size of the block in front; w is what the walk answers from the start
+-- ---- the walk, as code that has passed i of n blocks and has l left, k being the size of the block in front; w is what the walk
+-- answers from the start
 
-pub walk_step : (n m k w : ℕ) (l : List ℕ) → blocks_refusal n l ≡ w → 0 < n → m ≡ n - 1 → k ≡ block_size l → k ≤ length l
-    → blocks_refusal m (take (length l - k) (drop k l)) ≡ w
+one-walked : (n k w : ℕ) (l : List ℕ) → blocks_refusal (suc n) l ≡ w → k ≡ block_size l → k ≤ length l
+    → blocks_refusal n (take (length l - k) (drop k l)) ≡ w
 unfolding blocks_refusal all_fit after_blocks fits
-walk_step zero m k w l v h d e f = absurd (omega arith)
-walk_step (suc n) m k w l v h d e f =
-    let g : block_size l ≤ length l = omega arith in
-    rw (part_to_end k l, d, sub-one, e) (simp (le-leb _ _ g) at v)
+one-walked n k w l v e f = let g : block_size l ≤ length l = omega arith in rw (part_to_end k l, e) (simp (le-leb _ _ g) at v)
 
-pub walk-short : (n k w : ℕ) (l : List ℕ) → blocks_refusal n l ≡ w → 0 < n → k ≡ block_size l → length l < k → 15 ≡ w
+one-short : (n k w : ℕ) (l : List ℕ) → blocks_refusal (suc n) l ≡ w → k ≡ block_size l → length l < k → 15 ≡ w
 unfolding blocks_refusal all_fit fits
-walk-short zero k w l v h e f = absurd (omega arith)
-walk-short (suc n) k w l v h e f =
-    let g : length l < block_size l = omega arith in
-    simp (lt-leb _ _ g) at v
+one-short n k w l v e f = let g : length l < block_size l = omega arith in simp (lt-leb _ _ g) at v
 
-pub walk-stub : (n w : ℕ) (l : List ℕ) → blocks_refusal n l ≡ w → 0 < n → length l < 2 → 15 ≡ w
-walk-stub n w l v h f = walk-short n (block_size l) w l v h refl (omega arith)
+pub walk_step : (n i k w : ℕ) (l : List ℕ) → blocks_refusal (n - i) l ≡ w → i < n → k ≡ block_size l → k ≤ length l
+    → blocks_refusal (n - (i + 1)) (take (length l - k) (drop k l)) ≡ w
+walk_step n i k w l v h e f = let m : n - i ≡ suc (n - (i + 1)) = omega arith in one-walked (n - (i + 1)) k w l (rw m at v) e f
 
-pub walk-all : (n w : ℕ) (l : List ℕ) → blocks_refusal n l ≡ w → n ≤ 0 → length l ≡ 0 → 0 ≡ w
+pub walk-short : (n i k w : ℕ) (l : List ℕ) → blocks_refusal (n - i) l ≡ w → i < n → k ≡ block_size l → length l < k → 15 ≡ w
+walk-short n i k w l v h e f = let m : n - i ≡ suc (n - (i + 1)) = omega arith in one-short (n - (i + 1)) k w l (rw m at v) e f
+
+pub walk-stub : (n i w : ℕ) (l : List ℕ) → blocks_refusal (n - i) l ≡ w → i < n → length l < 2 → 15 ≡ w
+walk-stub n i w l v h f = walk-short n i (block_size l) w l v h refl (omega arith)
+
+pub walk-all : (n i w : ℕ) (l : List ℕ) → blocks_refusal (n - i) l ≡ w → n ≤ i → length l ≡ 0 → w ≡ 0
 unfolding blocks_refusal all_fit after_blocks
-walk-all zero w l v h f = simp (eq-eqb _ _ f) at v
-walk-all (suc n) w l v h f = absurd (omega arith)
+walk-all n i w l v h f = let m : n - i ≡ 0 = omega arith in sym (simp (m, eq-eqb _ _ f) at v)
 
-pub walk_more : (n w : ℕ) (l : List ℕ) → blocks_refusal n l ≡ w → n ≤ 0 → (length l ≡ 0 → ⊥) → 16 ≡ w
+pub walk_more : (n i w : ℕ) (l : List ℕ) → blocks_refusal (n - i) l ≡ w → n ≤ i → (length l ≡ 0 → ⊥) → 16 ≡ w
 unfolding blocks_refusal all_fit after_blocks
-walk_more zero w l v h f = simp (ne_eqb _ _ f) at v
-walk_more (suc n) w l v h f = absurd (omega arith)
+walk_more n i w l v h f = let m : n - i ≡ 0 = omega arith in simp (m, ne_eqb _ _ f) at v
 
 -- ---- blocks that a walk found sound
 

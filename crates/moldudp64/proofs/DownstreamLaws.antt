@@ -8,8 +8,9 @@ use lib.ListN.{length, get_or, take, drop, length-take}
 use lib.Seq.{take_all}
 use lib.Dec.{ltb, eqb}
 use borrow.Author.Tests.{lt-ltb, le-ltb, ne_eqb, ltb-false, eqb-true, eqb-false}
-use Rattle.std.specs.Prelude.{if◌then◌else◌}
-use Rattle.wire.specs.Words.{Case, answer, refused, says, refuses, Injective}
+use Rattle.std.specs.Prelude.{if◌then◌else◌, Result, Ok, Err, ⊤}
+use Rattle.wire.specs.Words.{Case, answer, refused, says, refuses, Injective, refused_by}
+use Rattle.wire.proofs.Refusing.{ground-of, has-ground}
 use Rattle.wire.specs.Bytes.{same_bytes}
 use Rattle.wire.specs.declared.refusal.Refusal.{Refusal}
 use Rattle.wire.specs.declared.kinds.SequenceNumber.{SequenceNumber}
@@ -19,7 +20,7 @@ use Rattle.wire.proofs.Words.{which-of, refusal-of, values-of, read_back}
 use Rattle.moldudp64.specs.Header.{number_of, count_of}
 use Rattle.moldudp64.specs.Blocks.{blocks_refusal, messages}
 use Rattle.moldudp64.specs.declared.downstream.Downstream.{Downstream}
-use Rattle.moldudp64.specs.declared.downstream.Downstream.TheVariants.{Data, Heartbeat, EndOfSession, Refused}
+use Rattle.moldudp64.specs.declared.downstream.Downstream.TheVariants.{Data, Heartbeat, EndOfSession}
 use Rattle.moldudp64.specs.Downstream.{DownstreamKind, data_packet, heartbeat, end_of_session, kind_of_count, kind_of, block_count_of, block_count, values_of, refusal_of, downstream_of, downstream_words, downstream_session, messages_of}
 use Rattle.moldudp64.proofs.BlockLaws.{length-messages}
 
@@ -119,66 +120,60 @@ accepted l s =
 
 -- ---- what the reader answers
 
-pub read-refused : (l : List ℕ) (r : Refusal) → r.number ≡ refusal_of l → (r.number ≡ 0 → ⊥) → downstream_words (Refused r) ≡ downstream_of l
+pub read-refused : (l : List ℕ) (r : Refusal) → r.number ≡ refusal_of l → (r.number ≡ 0 → ⊥) → downstream_words (Err r) ≡ downstream_of l
 unfolding downstream_of downstream_words
 read-refused l r e z = simp (← e, ne_eqb _ _ z)
 
-pub read-11 : (l : List ℕ) → length l < 20 → downstream_words (Refused (record { number = 11 })) ≡ downstream_of l
+pub read-11 : (l : List ℕ) → length l < 20 → downstream_words (Err (record { number = 11 })) ≡ downstream_of l
 read-11 l h = read-refused l (record { number = 11 }) (refusal-11 l h) (omega arith)
 
-pub read-12 : (l : List ℕ) → 20 ≤ length l → 65507 < length l → downstream_words (Refused (record { number = 12 })) ≡ downstream_of l
+pub read-12 : (l : List ℕ) → 20 ≤ length l → 65507 < length l → downstream_words (Err (record { number = 12 })) ≡ downstream_of l
 read-12 l h i = read-refused l (record { number = 12 }) (refusal-12 l h i) (omega arith)
 
-module _ (l : List ℕ) (r : Refusal) (n : SequenceNumber) (c : MessageCount) where
-  pub read-heartbeat : r.number ≡ refusal_of l → r.number ≡ 0 → n.0 ≡ number_of l → c.0 ≡ count_of l → c.0 ≡ 0
-      → downstream_words (Heartbeat n) ≡ downstream_of l
-  unfolding downstream_of downstream_words
-  read-heartbeat e z f g h = rw (← e, z, ← g, kind-heartbeat c.0 h, f)
+pub read-by : (l : List ℕ) (s : Result ⊤ Refusal) (p : Result Downstream Refusal) (r : Refusal) → s ≡ refused_by (refusal_of l) → s ≡ Err r → p ≡ Err r
+    → downstream_words p ≡ downstream_of l
+read-by l s p r e d f =
+    let g = ground-of s r _ e d in
+    let z = has-ground s r _ e d in
+    rw f (read-refused l r g (λ k. z (sym g ∙ k)))
 
-  pub read-end : r.number ≡ refusal_of l → r.number ≡ 0 → n.0 ≡ number_of l → c.0 ≡ count_of l → c.0 ≡ 65535
-      → downstream_words (EndOfSession n) ≡ downstream_of l
+module _ (l : List ℕ) (n : SequenceNumber) (c : MessageCount) (z : refusal_of l ≡ 0) (f : n.0 ≡ number_of l) (g : c.0 ≡ count_of l) where
+  pub read-heartbeat : c.0 ≡ 0 → downstream_words (Ok (Heartbeat n)) ≡ downstream_of l
   unfolding downstream_of downstream_words
-  read-end e z f g h = rw (← e, z, ← g, kind-end c.0 h, f)
+  read-heartbeat h = rw (z, ← g, kind-heartbeat c.0 h, f)
 
-  pub read-data : r.number ≡ refusal_of l → r.number ≡ 0 → n.0 ≡ number_of l → c.0 ≡ count_of l → (c.0 ≡ 0 → ⊥) → (c.0 ≡ 65535 → ⊥)
-      → downstream_words (Data n c) ≡ downstream_of l
+  pub read-end : c.0 ≡ 65535 → downstream_words (Ok (EndOfSession n)) ≡ downstream_of l
   unfolding downstream_of downstream_words
-  read-data e z f g h i = rw (← e, z, ← g, kind-data c.0 h i, f, g)
+  read-end h = rw (z, ← g, kind-end c.0 h, f)
+
+  pub read-data : (c.0 ≡ 0 → ⊥) → (c.0 ≡ 65535 → ⊥) → downstream_words (Ok (Data n c)) ≡ downstream_of l
+  unfolding downstream_of downstream_words
+  read-data h i = rw (z, ← g, kind-data c.0 h i, f, g)
 
 -- the words read back
-answered : Case DownstreamKind → ℕ → List ℕ → Downstream
-answered (answer data_packet) r vs = Data (record { 0 = get_or vs 0 0 }) (record { 0 = get_or vs 1 0 })
-answered (answer heartbeat) r vs = Heartbeat (record { 0 = get_or vs 0 0 })
-answered (answer end_of_session) r vs = EndOfSession (record { 0 = get_or vs 0 0 })
-answered refused r vs = Refused (record { number = r })
+answered : Case DownstreamKind → ℕ → List ℕ → Result Downstream Refusal
+answered (answer data_packet) r vs = Ok (Data (record { 0 = get_or vs 0 0 }) (record { 0 = get_or vs 1 0 }))
+answered (answer heartbeat) r vs = Ok (Heartbeat (record { 0 = get_or vs 0 0 }))
+answered (answer end_of_session) r vs = Ok (EndOfSession (record { 0 = get_or vs 0 0 }))
+answered refused r vs = Err (record { number = r })
 
 pub tells_apart : Injective downstream_words
 unfolding downstream_words answered
 tells_apart = read_back downstream_words (λ w. answered w.which w.refusal w.values) back
   where
-    back : (a : Downstream) → answered (downstream_words a).which (downstream_words a).refusal (downstream_words a).values ≡ a
-    back (Data n c) = refl
-    back (Heartbeat n) = refl
-    back (EndOfSession n) = refl
-    back (Refused r) = refl
+    back : (a : Result Downstream Refusal) → answered (downstream_words a).which (downstream_words a).refusal (downstream_words a).values ≡ a
+    back (Ok (Data n c)) = refl
+    back (Ok (Heartbeat n)) = refl
+    back (Ok (EndOfSession n)) = refl
+    back (Err r) = refl
 
 -- ---- the refusal in what was read
 
-pub in-data : (p : Downstream) (n : SequenceNumber) (c : MessageCount) → p ≡ Data n c → 0 ≡ (downstream_words p).refusal
+no_refusal : (d : Downstream) → (downstream_words (Ok d)).refusal ≡ 0
 unfolding downstream_words
-in-data p n c e = rw e
-
-pub in-heartbeat : (p : Downstream) (n : SequenceNumber) → p ≡ Heartbeat n → 0 ≡ (downstream_words p).refusal
-unfolding downstream_words
-in-heartbeat p n e = rw e
-
-pub in_end : (p : Downstream) (n : SequenceNumber) → p ≡ EndOfSession n → 0 ≡ (downstream_words p).refusal
-unfolding downstream_words
-in_end p n e = rw e
-
-pub in-refused : (p : Downstream) (r : Refusal) → p ≡ Refused r → r.number ≡ (downstream_words p).refusal
-unfolding downstream_words
-in-refused p r e = rw e
+no_refusal (Data n c) = refl
+no_refusal (Heartbeat n) = refl
+no_refusal (EndOfSession n) = refl
 
 said-refusal : (l : List ℕ) → (downstream_of l).refusal ≡ refusal_of l
 unfolding downstream_of
@@ -188,21 +183,34 @@ said-refusal l = go (eqb (refusal_of l) 0) refl
     go true e = rw e (sym (eqb-true _ _ e))
     go false e = rw e
 
-pub refusal-found : (l : List ℕ) (p : Downstream) (r : ℕ) → r ≡ (downstream_words p).refusal → downstream_words p ≡ downstream_of l → r ≡ refusal_of l
+pub refusal-found : (l : List ℕ) (p : Result Downstream Refusal) (r : ℕ) → r ≡ (downstream_words p).refusal → downstream_words p ≡ downstream_of l → r ≡ refusal_of l
 refusal-found l p r e f = e ∙ refusal-of f ∙ said-refusal l
 
 -- ---- the session and the messages
 
-pub sound-length : (l : List ℕ) (r : ℕ) → r ≡ refusal_of l → r ≡ 0 → 20 ≤ length l
-sound-length l r e z = (sound l (sym e ∙ z)).long
+refused-not : (l : List ℕ) (r : ℕ) → downstream_of l ≡ refuses r → refusal_of l ≡ 0 → ⊥
+unfolding downstream_of
+refused-not l r e z = let w = which-of (rw z at e) in let k : ◌≡◌ {A = ℕ} 0 1 = cc in omega arith
 
-pub session-refused : (l : List ℕ) (r : ℕ) → r ≡ refusal_of l → (r ≡ 0 → ⊥) → [] ≡ downstream_session l
-unfolding downstream_session
-session-refused l r e z = simp (← e, ne_eqb _ _ z)
+-- what was read tells of the datagram: p is what it was read as
+module _ (l : List ℕ) (p : Result Downstream Refusal) (e : downstream_words p ≡ downstream_of l) where
+  pub read_well : (d : Downstream) → p ≡ Ok d → refusal_of l ≡ 0
+  read_well d f = sym (refusal-found l p _ refl e) ∙ ap (λ (q : Result Downstream Refusal). (downstream_words q).refusal) f ∙ no_refusal d
 
-pub session-read : (l : List ℕ) (r : ℕ) → r ≡ refusal_of l → r ≡ 0 → take 10 l ≡ downstream_session l
-unfolding downstream_session
-session-read l r e z = simp (← e, z)
+  pub read-badly : (r : Refusal) → p ≡ Err r → refusal_of l ≡ 0 → ⊥
+  unfolding downstream_words
+  read-badly r f z = refused-not l r.number (sym e ∙ rw f refl) z
+
+  pub read_long : (d : Downstream) → p ≡ Ok d → 20 ≤ length l
+  read_long d f = (sound l (read_well d f)).long
+
+  pub session-refused : (r : Refusal) → p ≡ Err r → [] ≡ downstream_session l
+  unfolding downstream_session
+  session-refused r f = simp (ne_eqb _ _ (read-badly r f))
+
+  pub session-read : (d : Downstream) → p ≡ Ok d → take 10 l ≡ downstream_session l
+  unfolding downstream_session
+  session-read d f = simp (read_well d f)
 
 -- a session is at most ten bytes, so its first ten are all of it
 short-session : (l : List ℕ) → length (downstream_session l) ≤ 10
@@ -294,4 +302,4 @@ pub no_blocks : (l : List ℕ) (k : DownstreamKind) → kind_of l ≡ k → bloc
 no_blocks l k e f = kind-blocks l k e ∙ f
 
 pub sound-ten : (l : List ℕ) (r : ℕ) → r ≡ refusal_of l → r ≡ 0 → length (take 10 l) ≡ 10
-sound-ten l r e z = let h = sound-length l r e z in omega (arith, length-take 10 l)
+sound-ten l r e z = let h = (sound l (sym e ∙ z)).long in omega (arith, length-take 10 l)

@@ -2,15 +2,16 @@
 use borrow.Author.Rules.{rules}
 use mathlib.Core.Path.{refl}
 use Rattle.wire.proofs.TestLaws.{tests}
+use Rattle.wire.proofs.Refusing.{refusals}
 use Rattle.moldudp64.proofs.HeaderLaws.{sequence-read, count-read}
 use Rattle.moldudp64.proofs.BlockLaws.{block_size-fits, walk_step, walk-short, walk-stub, walk-all, walk_more}
-use Rattle.moldudp64.proofs.DownstreamLaws.{none-follow, all-follow, refusal-13, refusal-14, refusal-walk, read-refused, read-11, read-12, read-heartbeat, read-end, read-data, tells_apart, in-data, in-heartbeat, in_end, in-refused, refusal-found, sound-length, sound-ten, session-refused, session-read, session-ten}
-use Rattle.moldudp64.proofs.RequestLaws.{ground-13, ground-none, ground-end, ground-good, refusal-47, refusal-ground, request-ten, request-refused, request-wanted, request-tells-apart, request-no-session, session_of_request}
+use Rattle.moldudp64.proofs.DownstreamLaws.{none-follow, all-follow, refusal-13, refusal-14, refusal-walk, read-11, read-12, read-by, read-heartbeat, read-end, read-data, tells_apart, read_well, read_long, session-refused, session-read, session-ten}
+use Rattle.moldudp64.proofs.RequestLaws.{ground-13, ground-none, ground-end, ground-good, request-sized, request-by, request-wanted, request-tells-apart, request_long, request-no-session, session_of_request}
 
 pub ruleset headers = (sequence-read, count-read, rules)
 
-pub ruleset blocks = (block_size-fits, walk_step, walk-short, walk-stub, walk-all, walk_more, refl, tests, rules)
+pub ruleset blocks = (block_size-fits, walk_step, walk-short, walk-stub, walk-all, walk_more, refl, tests, refusals, rules)
 
-pub ruleset downstreams = (none-follow, all-follow, refusal-13, refusal-14, refusal-walk, read-refused, read-11, read-12, read-heartbeat, read-end, read-data, tells_apart, in-data, in-heartbeat, in_end, in-refused, refusal-found, sound-length, sound-ten, session-refused, session-read, session-ten, tests, rules)
+pub ruleset downstreams = (none-follow, all-follow, refusal-13, refusal-14, refusal-walk, read-11, read-12, read-by, read-heartbeat, read-end, read-data, tells_apart, read_well, read_long, session-refused, session-read, session-ten, tests, refusals, rules)
 
-pub ruleset requests = (ground-13, ground-none, ground-end, ground-good, refusal-47, refusal-ground, request-ten, request-refused, request-wanted, request-tells-apart, request-no-session, session_of_request, tests, rules)
+pub ruleset requests = (ground-13, ground-none, ground-end, ground-good, request-sized, request-by, request-wanted, request-tells-apart, request_long, request-no-session, session_of_request, tests, refusals, rules)

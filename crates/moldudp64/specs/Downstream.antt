@@ -1,12 +1,13 @@
 -- Downstream packets: what a datagram says, or the number of its refusal.
-use Rattle.std.specs.Prelude.{ℕ, ◌+◌, List, [], ◌∷◌, Bool, length, get_or, take, drop, ltb, eqb, if◌then◌else◌}
+use Rattle.std.specs.Prelude.{ℕ, ◌+◌, List, [], ◌∷◌, Bool, length, get_or, take, drop, ltb, eqb, if◌then◌else◌, Result, Ok, Err}
 use Rattle.wire.specs.Refusals.{datagram_short, datagram_long, number_zero, numbers_run_out}
 use Rattle.wire.specs.Bounds.{largest_number, session_size}
 use Rattle.wire.specs.Words.{Words, says, refuses, refused_words}
 use Rattle.moldudp64.specs.Header.{header_size, largest_datagram, end_count, number_of, count_of}
 use Rattle.moldudp64.specs.Blocks.{messages, blocks_refusal}
 use Rattle.moldudp64.specs.declared.downstream.Downstream.{Downstream}
-use Rattle.moldudp64.specs.declared.downstream.Downstream.TheVariants.{Data, Heartbeat, EndOfSession, Refused}
+use Rattle.moldudp64.specs.declared.downstream.Downstream.TheVariants.{Data, Heartbeat, EndOfSession}
+use Rattle.wire.specs.declared.refusal.Refusal.{Refusal}
 
 -- the kinds of downstream packet
 pub data DownstreamKind : Type 0 where
@@ -59,11 +60,11 @@ unfoldable pub downstream_of : List ℕ → Words DownstreamKind
 downstream_of l = if well_formed l then says (kind_of l) (values_of (kind_of l) l) else refuses (refusal_of l)
 
 -- the reader's answer in these words
-unfoldable pub downstream_words : Downstream → Words DownstreamKind
-downstream_words (Data first count) = says data_packet (first.0 ∷ count.0 ∷ [])
-downstream_words (Heartbeat next) = says heartbeat (next.0 ∷ [])
-downstream_words (EndOfSession next) = says end_of_session (next.0 ∷ [])
-downstream_words (Refused r) = refused_words r
+unfoldable pub downstream_words : Result Downstream Refusal → Words DownstreamKind
+downstream_words (Ok (Data first count)) = says data_packet (first.0 ∷ count.0 ∷ [])
+downstream_words (Ok (Heartbeat next)) = says heartbeat (next.0 ∷ [])
+downstream_words (Ok (EndOfSession next)) = says end_of_session (next.0 ∷ [])
+downstream_words (Err r) = refused_words r
 
 -- the session: no bytes where the datagram is refused
 unfoldable pub downstream_session : List ℕ → List ℕ

@@ -1,11 +1,11 @@
 -- Request packets: session, first number wanted, how many.
-use Rattle.std.specs.Prelude.{ℕ, List, [], ◌∷◌, not, length, take, eqb, if◌then◌else◌}
+use Rattle.std.specs.Prelude.{ℕ, List, [], ◌∷◌, not, length, take, eqb, if◌then◌else◌, Result, Ok, Err}
 use Rattle.wire.specs.Refusals.{number_zero, request_size, request_count}
 use Rattle.wire.specs.Bounds.{session_size}
 use Rattle.wire.specs.Words.{Words, says, refuses, refused_words}
 use Rattle.moldudp64.specs.Header.{header_size, end_count, number_of, count_of}
-use Rattle.moldudp64.specs.declared.request.Request.{Request}
-use Rattle.moldudp64.specs.declared.request.Request.TheVariants.{Wanted, Refused}
+use Rattle.wire.specs.declared.refusal.Refusal.{Refusal}
+use Rattle.moldudp64.specs.declared.request.Wanted.{Wanted}
 
 -- a number of at least 1, and a count of 1 to 65,534: the first of 13 and 48 that applies, or 0
 unfoldable pub request_ground : ℕ → ℕ → ℕ
@@ -32,9 +32,9 @@ request_of l =
     else refuses (request_refusal l)
 
 -- the reader's answer in these words
-unfoldable pub request_words : Request → Words RequestKind
-request_words (Wanted first count) = says wanted (first.0 ∷ count.0 ∷ [])
-request_words (Refused r) = refused_words r
+unfoldable pub request_words : Result Wanted Refusal → Words RequestKind
+request_words (Ok w) = says wanted (w.first.0 ∷ w.count.0 ∷ [])
+request_words (Err r) = refused_words r
 
 -- the session: no bytes where the request is refused
 unfoldable pub request_session : List ℕ → List ℕ

@@ -3,6 +3,7 @@
 ghost use Rattle.std.specs.Prelude.{◌≡◌, ◌≤◌, length};
 ghost use Rattle.wire.specs.Words.{Injective};
 ghost use Rattle.wire.specs.Bytes.{same_bytes};
+ghost use Rattle.wire.specs.Words.{refused_by};
 ghost use Rattle.moldudp64.specs.Header.{header_size, largest_datagram, number_of, count_of};
 ghost use Rattle.moldudp64.specs.Downstream.{kind_of_count, block_count_of, refusal_of, downstream_words, downstream_of};
 ghost use Rattle.moldudp64.specs.Downstream.{downstream_session};
@@ -13,7 +14,7 @@ use wire::refusal::Refusal;
 use wire::{compare, refusal};
 
 // What a datagram says.
-#[derive(Clone, Copy)]
+#[derive(Clone, Copy, Debug, PartialEq, Eq)]
 pub enum Downstream {
     // Messages, the first with this number, and how many.
     Data {
@@ -28,7 +29,6 @@ pub enum Downstream {
     EndOfSession {
         next: SequenceNumber,
     },
-    Refused(Refusal),
 }
 
 // How many blocks follow a header with this count: none where it marks the end of the session.
@@ -41,77 +41,54 @@ fn block_count(count: MessageCount) -> MessageCount
     count
 }
 
-// The lowest of 13 to 16 that applies to a datagram of good size with this number and this count, or 0.
-fn header_refusal(datagram: &[u8], first: SequenceNumber, count: MessageCount) -> Refusal
+// 13 to 16, the lowest that applies to a datagram of good size with this number and this count.
+fn check(datagram: &[u8], first: SequenceNumber, count: MessageCount) -> Result<(), Refusal>
     requires { (header_size ≤ length datagram.now) × (length datagram.now ≤ largest_datagram)
         × (first.0 ≡ number_of datagram.now) × (count.0 ≡ count_of datagram.now) }
-    ensures { result.number ≡ refusal_of datagram.now }
+    ensures { result ≡ refused_by (refusal_of datagram.now) }
 {
     if first.is_zero() {
-        return refusal::NUMBER_ZERO;
+        return Err(refusal::NUMBER_ZERO);
     }
     let following = block_count(count);
     if !first.has_room(following) {
-        return refusal::NUMBERS_RUN_OUT;
+        return Err(refusal::NUMBERS_RUN_OUT);
     }
     blocks::walk(&datagram[header::SIZE..], following)
 }
 
 // Reads a datagram, with one look at its header and one walk over its blocks. The size is tested here and first, so
 // that the header is read with no further test.
-pub fn read(datagram: &[u8]) -> Downstream
+pub fn read(datagram: &[u8]) -> Result<Downstream, Refusal>
     ensures result_value { downstream_words result ≡ downstream_of datagram.now }
     ensures tells_apart { Injective downstream_words }
 {
     if datagram.len() < header::SIZE {
-        return Downstream::Refused(refusal::DATAGRAM_SHORT);
+        return Err(refusal::DATAGRAM_SHORT);
     }
     if header::LARGEST_DATAGRAM < datagram.len() {
-        return Downstream::Refused(refusal::DATAGRAM_LONG);
+        return Err(refusal::DATAGRAM_LONG);
     }
     let first = header::sequence_number(datagram);
     let count = header::message_count(datagram);
-    let refused = header_refusal(datagram, first, count);
-    if refused.number != 0 {
-        return Downstream::Refused(refused);
-    }
+    check(datagram, first, count)?;
     if count.is_zero() {
-        return Downstream::Heartbeat { next: first };
+        return Ok(Downstream::Heartbeat { next: first });
     }
     if count == header::END_OF_SESSION {
-        return Downstream::EndOfSession { next: first };
+        return Ok(Downstream::EndOfSession { next: first });
     }
-    Downstream::Data { first, count }
-}
-
-// The refusal in what a datagram says, its number 0 where there is none.
-pub fn refusal_in(packet: Downstream) -> Refusal
-    ensures { result.number ≡ (downstream_words packet).refusal }
-{
-    match packet {
-        Downstream::Data { first: _, count: _ } => refusal::NONE,
-        Downstream::Heartbeat { next: _ } => refusal::NONE,
-        Downstream::EndOfSession { next: _ } => refusal::NONE,
-        Downstream::Refused(r) => r,
-    }
-}
-
-// The lowest of 11 to 16 that applies, or 0 where the datagram is well-formed.
-fn refusal_of(datagram: &[u8]) -> Refusal
-    ensures { result.number ≡ refusal_of datagram.now }
-{
-    refusal_in(read(datagram))
+    Ok(Downstream::Data { first, count })
 }
 
 // The session of a datagram, as a part of it; empty where the datagram is refused.
 pub fn session(datagram: &[u8]) -> &[u8]
     ensures { result.now ≡ downstream_session datagram.now }
 {
-    let refused = refusal_of(datagram);
-    if refused.number != 0 {
-        return &datagram[..0];
+    match read(datagram) {
+        Ok(_) => &datagram[..SESSION_SIZE],
+        Err(_) => &datagram[..0],
     }
-    &datagram[..SESSION_SIZE]
 }
 
 // Whether the session of a datagram is the name; never where the datagram is refused.

@@ -1,4 +1,4 @@
--- What a check answers by its ground, as the code has it; and what an answer tells of the ground.
+-- What a check answers by its ground, as the code has it; and what its answer tells of the ground.
 use mathlib.Core.Path.{◌≡◌, refl, ap, sym, ◌∙◌}
 use mathlib.Core.Bool.{Bool, true, false}
 use Prim.Native.Nat.{ℕ, ◌+◌, ◌-◌, ◌≤◌, ◌<◌}
@@ -52,6 +52,16 @@ pub a-ground : (g : ℕ) (r : Refusal) → Err r ≡ refused_by g → g ≡ 0 �
 unfolding refused_by is-pass
 a-ground g r e z = let k = ap is-pass (e ∙ sym (passes g z)) in absurd (omega arith)
 
+-- the same of a check's answer s
+pub checked : (s : Result ⊤ Refusal) (u : ⊤) (g : ℕ) → s ≡ refused_by g → s ≡ Ok u → g ≡ 0
+checked s u g e d = no-ground g u (sym d ∙ e)
+
+pub ground-of : (s : Result ⊤ Refusal) (r : Refusal) (g : ℕ) → s ≡ refused_by g → s ≡ Err r → r.number ≡ g
+ground-of s r g e d = its-ground g r (sym d ∙ e)
+
+pub has-ground : (s : Result ⊤ Refusal) (r : Refusal) (g : ℕ) → s ≡ refused_by g → s ≡ Err r → g ≡ 0 → ⊥
+has-ground s r g e d = a-ground g r (sym d ∙ e)
+
 -- a refusal that is handed up by `?` is what the function answers
 pub handed_up : {T : Type 0} (w : Result T Refusal) (r : Refusal) → IsErrAnd w (λ x. x ≡ r) → w ≡ Err r
 handed_up w r e = let p = err_from_is_err_and w e in p.1 ∙ ap Err p.2
@@ -60,4 +70,4 @@ handed_up w r e = let p = err_from_is_err_and w e in p.1 ∙ ap Err p.2
 pub handed-by : (s w : Result ⊤ Refusal) (r : Refusal) (g : ℕ) → s ≡ refused_by g → s ≡ Err r → w ≡ Err r → w ≡ refused_by g
 handed-by s w r g e d f = f ∙ sym d ∙ e
 
-pub ruleset refusals = (handed_up, handed-by, passes, passes-so, refuses-by, no-ground, its-ground, a-ground)
+pub ruleset refusals = (handed_up, handed-by, passes, passes-so, refuses-by, checked, ground-of, has-ground)
