@@ -12,7 +12,7 @@ use lib.Dec.{ltb, eqb}
 use mir.Val.{Fits}
 use mir.Syntax.{w64}
 use borrow.Author.Tests.{lt-ltb, le-ltb, ltb-true, ltb-false, ne_eqb, eqb-false}
-use Rattle.std.specs.Prelude.{if◌then◌else◌}
+use Rattle.std.specs.Prelude.{if◌then◌else◌, Result, Ok, Err}
 use Rattle.wire.specs.Bytes.{bytes}
 use Rattle.wire.proofs.Cases.{zero_or_not}
 use Rattle.wire.proofs.Numbers.{part_to_end, length-bytes}
@@ -23,7 +23,7 @@ use Rattle.wire.specs.declared.kinds.SequenceNumber.{SequenceNumber}
 use Rattle.wire.specs.declared.kinds.MessageCount.{MessageCount}
 use Rattle.moldudp64.specs.Header.{count_of}
 use Rattle.moldudp64.specs.declared.downstream.Downstream.{Downstream}
-use Rattle.moldudp64.specs.declared.downstream.Downstream.TheVariants.{Data, Heartbeat, EndOfSession, Refused}
+use Rattle.moldudp64.specs.declared.downstream.Downstream.TheVariants.{Data, Heartbeat, EndOfSession}
 use Rattle.moldudp64.specs.Downstream.{DownstreamKind, heartbeat, end_of_session, block_count_of, downstream_of, downstream_words, block_count, refusal_of, messages_of, message_of}
 use Rattle.moldudp64_messages.specs.declared.cursor.Located.{Located}
 use Rattle.moldudp64_messages.specs.declared.cursor.Cursor.{Cursor}
@@ -233,7 +233,7 @@ skip-beyond l c n h =
 start_none : (l : List ℕ) (c : Cursor) → length (messages_of l) ≡ 0 → c ≡ first_of 0 → c ≡ start_of l
 start_none l c e f = f ∙ ap first_of (sym e)
 
-pub start-refused : (l : List ℕ) (a : Downstream) (r : Refusal) (c : Cursor) → downstream_words a ≡ downstream_of l → a ≡ Refused r → c ≡ first_of 0 → c ≡ start_of l
+pub start-refused : (l : List ℕ) (a : Result Downstream Refusal) (r : Refusal) (c : Cursor) → downstream_words a ≡ downstream_of l → a ≡ Err r → c ≡ first_of 0 → c ≡ start_of l
 unfolding downstream_words
 start-refused l a r c e f g =
     start_none l c (ap length (messages-refused l (refusal_of l) refl (refusal-read l r.number (sym (rw f at e))))) g
@@ -243,20 +243,20 @@ start-empty l k vs c e f g =
     let s = kind-read l k vs e in
     start_none l c (count-sound l s.0 ∙ no_blocks l k s.1 f) g
 
-pub start-heartbeat : (l : List ℕ) (a : Downstream) (n : SequenceNumber) (c : Cursor) → downstream_words a ≡ downstream_of l → a ≡ Heartbeat n → c ≡ first_of 0 → c ≡ start_of l
+pub start-heartbeat : (l : List ℕ) (a : Result Downstream Refusal) (d : Downstream) (n : SequenceNumber) (c : Cursor) → downstream_words a ≡ downstream_of l → a ≡ Ok d → d ≡ Heartbeat n → c ≡ first_of 0 → c ≡ start_of l
 unfolding downstream_words
-start-heartbeat l a n c e f g = start-empty l heartbeat (n.0 ∷ []) c (sym (rw f at e)) refl g
+start-heartbeat l a d n c e f h g = start-empty l heartbeat (n.0 ∷ []) c (sym (rw (f, h) at e)) refl g
 
-pub start-end : (l : List ℕ) (a : Downstream) (n : SequenceNumber) (c : Cursor) → downstream_words a ≡ downstream_of l → a ≡ EndOfSession n → c ≡ first_of 0 → c ≡ start_of l
+pub start-end : (l : List ℕ) (a : Result Downstream Refusal) (d : Downstream) (n : SequenceNumber) (c : Cursor) → downstream_words a ≡ downstream_of l → a ≡ Ok d → d ≡ EndOfSession n → c ≡ first_of 0 → c ≡ start_of l
 unfolding downstream_words
-start-end l a n c e f g = start-empty l end_of_session (n.0 ∷ []) c (sym (rw f at e)) refl g
+start-end l a d n c e f h g = start-empty l end_of_session (n.0 ∷ []) c (sym (rw (f, h) at e)) refl g
 
-pub start-data : (l : List ℕ) (a : Downstream) (n : SequenceNumber) (k : MessageCount) (c : Cursor) → downstream_words a ≡ downstream_of l → a ≡ Data n k
+pub start-data : (l : List ℕ) (a : Result Downstream Refusal) (d : Downstream) (n : SequenceNumber) (k : MessageCount) (c : Cursor) → downstream_words a ≡ downstream_of l → a ≡ Ok d → d ≡ Data n k
     → c ≡ first_of k.0 → c ≡ start_of l
 unfolding downstream_words
-start-data l a n k c e f g =
-    let d = data_read l n.0 k.0 (sym (rw f at e)) in
-    g ∙ ap first_of (sym (count-sound l d.well ∙ d.blocks))
+start-data l a d n k c e f h g =
+    let s = data_read l n.0 k.0 (sym (rw (f, h) at e)) in
+    g ∙ ap first_of (sym (count-sound l s.well ∙ s.blocks))
 
 -- the count of data is the count of its messages
 pub count-is-messages : CountIsMessages

@@ -12,7 +12,7 @@ use wire::kinds::{ByteOffset, LENGTH_SIZE, MessageCount, MessagePlace};
 
 // Whether a message is there, with the offset of its first data byte in the datagram and its length. Where none is,
 // both numbers are 0.
-#[derive(Clone, Copy)]
+#[derive(Clone, Copy, Debug, PartialEq, Eq)]
 pub struct Located {
     pub exists: bool,
     pub offset: ByteOffset,
@@ -20,7 +20,7 @@ pub struct Located {
 }
 
 // The place of a block's length field, and how many blocks are left from there on.
-#[derive(Clone, Copy)]
+#[derive(Clone, Copy, Debug, PartialEq, Eq)]
 pub struct Cursor {
     pub at: ByteOffset,
     pub left: MessageCount,
@@ -83,10 +83,10 @@ impl Cursor {
         ensures parts { PartIsMessage }
     {
         match downstream::read(datagram) {
-            Downstream::Data { first: _, count } => Cursor::first(count),
-            Downstream::Heartbeat { next: _ } => Cursor::first(MessageCount(0)),
-            Downstream::EndOfSession { next: _ } => Cursor::first(MessageCount(0)),
-            Downstream::Refused(_) => Cursor::first(MessageCount(0)),
+            Ok(Downstream::Data { count, .. }) => Cursor::first(count),
+            Ok(Downstream::Heartbeat { .. }) => Cursor::first(MessageCount(0)),
+            Ok(Downstream::EndOfSession { .. }) => Cursor::first(MessageCount(0)),
+            Err(_) => Cursor::first(MessageCount(0)),
         }
     }
 
@@ -145,15 +145,13 @@ impl Cursor {
         }
         let mut rest = &datagram[at..];
         let mut left = self.left;
-        let mut moves = places.before();
-        while !moves.is_zero() {
+        for _ in 0..places.0 {
             let size = whole_block(rest, left);
             if size == 0 {
                 return at_rest(datagram, rest, left);
             }
             rest = &rest[size..];
             left = left.less_one();
-            moves = moves.less_one();
         }
         at_rest(datagram, rest, left)
     }
