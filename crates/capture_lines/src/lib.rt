@@ -24,9 +24,9 @@ pub fn put_line(out: &mut [u8], at: ByteOffset, key: &[u8], value: &[u8]) -> Res
         return Err(refusal::OUTPUT_SHORT);
     }
     let value_at = from + key.len();
-    output::put_bytes(out, at, key);
-    output::put_bytes(out, ByteOffset(value_at), value);
-    output::put_bytes(out, ByteOffset(value_at + value.len()), b"\n");
+    output::lay(out, at, key);
+    output::lay(out, ByteOffset(value_at), value);
+    output::lay(out, ByteOffset(value_at + value.len()), b"\n");
     Ok(size)
 }
 

@@ -118,7 +118,7 @@ fn copy(out: &mut [u8], at: usize, src: &[u8])
         return;
     }
     let laid = copy_by_eight(out, at, src);
-    output::put_bytes(out, ByteOffset(at + laid), &src[laid..]);
+    output::lay(out, ByteOffset(at + laid), &src[laid..]);
 }
 
 impl EarlyReceiver {
@@ -180,7 +180,7 @@ impl EarlyReceiver {
     {
         let slot = slot_of(number);
         copy(slots, slot * SLOT_SIZE, message);
-        output::put16(lengths, ByteOffset(slot * COUNT_SIZE), message.len() as u16);
+        output::lay16(lengths, ByteOffset(slot * COUNT_SIZE), message.len() as u16);
         let held = self.held;
         held.marked(self.place_of(number))
     }

@@ -196,7 +196,7 @@ fn put_head(state: &mut [u8], first: u8, stage: u8)
     requires { reading_size ≤ length state.old }
     ensures { state.new ≡ put state.old 0 (first ∷ stage ∷ []) }
 {
-    output::put_bytes(state, CODE_AT, &[first, stage]);
+    output::lay(state, CODE_AT, &[first, stage]);
 }
 
 // Lays the receiver but for its lengths, where there is room for a reading.
@@ -270,7 +270,7 @@ fn clear_lengths(state: &mut [u8])
     ensures { state.new ≡ put state.old reading_lengths_at no_lengths }
 {
     let none = [0u8; LENGTH_BYTES];
-    output::put_bytes(state, LENGTHS_AT, &none);
+    output::lay(state, LENGTHS_AT, &none);
 }
 
 // Lays a reading with no lengths, where the code is 0 and there is room: else the code, or 41.

@@ -50,7 +50,7 @@ fn put_fields(state: &mut [u8], at: usize, left: u16)
     ensures { Lays state.old state.new cursor_in (cursor_bytes (cursor at left))
         (cursor at left) }
 {
-    output::put_bytes(state, CODE_AT, &[CURSOR]);
+    output::lay(state, CODE_AT, &[CURSOR]);
     little::put64(state, PLACE_AT, at as u64);
     little::put16(state, LEFT_AT, left);
 }

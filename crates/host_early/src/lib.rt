@@ -108,7 +108,7 @@ fn clear_lengths(state: &mut [u8])
     ensures { state.new ≡ put state.old lengths_at no_lengths }
 {
     let none = [0u8; LENGTH_BYTES];
-    output::put_bytes(state, LENGTHS_AT, &none);
+    output::lay(state, LENGTHS_AT, &none);
 }
 
 // Lays a fresh receiver, with no lengths, where the code is 0 and there is room: else the code, or 41.

@@ -64,7 +64,7 @@ fn put_coming(state: &mut [u8], number: u64, left: u16)
     requires { walk_size ≤ length state.old }
     ensures { state.new ≡ put state.old 0 (coming_bytes number left) }
 {
-    output::put_bytes(state, CODE_AT, &[WALK]);
+    output::lay(state, CODE_AT, &[WALK]);
     little::put64(state, NUMBER_AT, number);
     little::put16(state, LEFT_AT, left);
 }

@@ -144,8 +144,8 @@ fn put_head(state: &mut [u8], first: u8, stage: u8, session: [u8; SESSION_SIZE])
     requires { missing_size ≤ length state.old }
     ensures { state.new ≡ put state.old 0 (first ∷ stage ∷ session) }
 {
-    output::put_bytes(state, CODE_AT, &[first, stage]);
-    output::put_bytes(state, SESSION_AT, &session);
+    output::lay(state, CODE_AT, &[first, stage]);
+    output::lay(state, SESSION_AT, &session);
 }
 
 // Whether ranges are refused, as a byte.
@@ -164,7 +164,7 @@ fn put_ranges(state: &mut [u8], left: u32, refused: bool, closed: usize, highest
     little::put64(state, HIGHEST_AT, highest);
     little::put64(state, LEFT_AT, left as u64);
     little::put64(state, CLOSED_AT, closed as u64);
-    output::put_bytes(state, REFUSED_AT, &[refused_byte(refused)]);
+    output::lay(state, REFUSED_AT, &[refused_byte(refused)]);
 }
 
 // Lays all fields of a reading where there is room for them.

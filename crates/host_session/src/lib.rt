@@ -25,7 +25,7 @@ fn put_fields(state: &mut [u8], first: u8, name: [u8; SESSION_SIZE], number: u64
         (session_state_bytes (session_fields first name number phase)) (session_fields first name number phase) }
 {
     host_states::put_front(state, first, name, number);
-    output::put_bytes(state, PHASE_AT, &[phase]);
+    output::lay(state, PHASE_AT, &[phase]);
 }
 
 // The same but for the name, which stays as it stands there.
@@ -36,7 +36,7 @@ fn keep_fields(state: &mut [u8], first: u8, number: u64, phase: u8)
         (session_fields first (name_in state.old) number phase) }
 {
     host_states::keep_front(state, first, number);
-    output::put_bytes(state, PHASE_AT, &[phase]);
+    output::lay(state, PHASE_AT, &[phase]);
 }
 
 // Lays the four fields, where the code is 0 and there is room: else the code, or 41.

@@ -70,8 +70,8 @@ pub fn put_front(state: &mut [u8], first: u8, name: [u8; SESSION_SIZE], number: 
     if state.len() < FRONT_SIZE {
         return;
     }
-    output::put_bytes(state, CODE_AT, &[first]);
-    output::put_bytes(state, NAME_AT, &name);
+    output::lay(state, CODE_AT, &[first]);
+    output::lay(state, NAME_AT, &name);
     little::put64(state, NUMBER_AT, number);
 }
 
@@ -83,7 +83,7 @@ pub fn keep_front(state: &mut [u8], first: u8, number: u64)
     if state.len() < FRONT_SIZE {
         return;
     }
-    output::put_bytes(state, CODE_AT, &[first]);
+    output::lay(state, CODE_AT, &[first]);
     little::put64(state, NUMBER_AT, number);
 }
 

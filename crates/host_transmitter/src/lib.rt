@@ -50,7 +50,7 @@ fn put_fields(state: &mut [u8], messages: usize, bytes: usize)
     ensures { Lays state.old state.new progress_in (progress_bytes (progress messages bytes))
         (progress messages bytes) }
 {
-    output::put_bytes(state, CODE_AT, &[TRANSMITTER]);
+    output::lay(state, CODE_AT, &[TRANSMITTER]);
     little::put64(state, MESSAGES_AT, messages as u64);
     little::put64(state, BYTES_AT, bytes as u64);
 }

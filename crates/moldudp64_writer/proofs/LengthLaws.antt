@@ -12,7 +12,7 @@ use borrow.Author.Tests.{le-leb, lt-leb, leb-true, leb-false, eq-eqb, ne_eqb, eq
 use mir.Val.{Fits}
 use mir.Syntax.{w32}
 use Rattle.wire.proofs.Numbers.{part_to_end}
-use Rattle.moldudp64_writer.specs.declared.lengths.Left.{Left}
+use Rattle.std.specs.Prelude.{Option, Some, None}
 use Rattle.moldudp64_writer.specs.Writer.{total, add_up, left_after}
 
 -- the first n and the others make all
@@ -55,31 +55,21 @@ module _ (ks : List ℕ) (s i : ℕ) (c : Summing ks s i) where
 -- ---- `left_after`: of b bytes so many are left for the lengths that are left, and t are those of the next n
 
 module _ (ks rest : List ℕ) (b left : ℕ) (e : b + total rest ≡ left + total ks) where
-  pub left-short : (n t : ℕ) → t ≡ total (take n rest) → left < t → record { enough = false; bytes = 0 } ≡ left_after ks b
+  pub left-short : (n t : ℕ) → t ≡ total (take n rest) → left < t → None ≡ left_after ks b
   left-short n t f h =
       let p = total-parts n rest in
-      let z : b - total ks ≡ 0 = omega arith in
       let y : b < total ks = omega arith in
-      rw (lt-leb _ _ y, z)
+      rw (lt-leb _ _ y) refl
 
-  pub left-next : (n t : ℕ) → t ≡ total (take n rest) → t ≤ left → b + total (take (length rest - n) (drop n rest)) ≡ left - t + total ks
-  left-next n t f h = let p = total-parts n rest in rw (part_to_end n rest) (omega arith)
+  pub left-next : (n t : ℕ) (tail : List ℕ) → t ≡ total (take n rest) → t ≤ left → tail ≡ drop n rest → b + total tail ≡ left - t + total ks
+  left-next n t tail f h g = let p = total-parts n rest in rw g (omega arith)
 
-  pub left_end : length rest ≤ 0 → record { enough = true; bytes = left } ≡ left_after ks b
+  pub left_end : length rest ≡ 0 → Some left ≡ left_after ks b
   left_end h =
-      let p = total-none rest 0 h in
+      let p = total-none rest 0 (omega arith) in
       let z : b - total ks ≡ left = omega arith in
       let y : total ks ≤ b = omega arith in
-      rw (le-leb _ _ y, z)
-
-pub part_count : (rest : List ℕ) (n : ℕ) → n ≡ min (length rest) 65536 → length (take n rest) ≡ n
-part_count rest n e = omega (arith, length-take n rest)
-
-pub part-few : (rest : List ℕ) (n : ℕ) → n ≡ min (length rest) 65536 → length (take n rest) ≤ 65536
-part-few rest n e = omega (arith, length-take n rest)
-
-pub left-fewer : (rest : List ℕ) (n : ℕ) → 0 < length rest → n ≡ min (length rest) 65536 → length (take (length rest - n) (drop n rest)) < length rest
-left-fewer rest n h e = rw (part_to_end n rest) (omega (arith, length-drop n rest))
+      rw (le-leb _ _ y, z) refl
 
 -- ---- `add_up`
 
@@ -89,17 +79,3 @@ left-none a b h = go (eqb a b) refl
     go : (t : Bool) → eqb a b ≡ t → eqb (b - a) 0 ≡ t
     go true e = let f = eqb-true a b e in eq-eqb (b - a) 0 (omega arith)
     go false e = let f = eqb-false a b e in ne_eqb (b - a) 0 (λ (z : b - a ≡ 0). f (omega arith))
-
-module _ (ks d : List ℕ) (x : Left) (e : x ≡ left_after ks (length d)) where
-  enough-is : x.enough ≡ leb (total ks) (length d)
-  enough-is = ap (λ (y : Left). y.enough) e
-
-  pub adds-not : not x.enough ≡ true → false ≡ add_up ks d
-  adds-not h =
-      let l : length d < total ks = leb-false _ _ (sym enough-is ∙ not-true _ h) in
-      sym (ne_eqb (total ks) (length d) (λ (z : total ks ≡ length d). omega arith))
-
-  pub adds-so : not x.enough ≡ false → eqb x.bytes 0 ≡ add_up ks d
-  adds-so h =
-      let l : total ks ≤ length d = leb-true _ _ (sym enough-is ∙ not-false _ h) in
-      ap (λ (y : Left). eqb y.bytes 0) e ∙ left-none _ _ l

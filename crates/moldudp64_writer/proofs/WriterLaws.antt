@@ -23,43 +23,36 @@ use Rattle.moldudp64.proofs.DownstreamLaws.{past-ground}
 
 -- ---- every packet writer, as code that has r as what its grounds gave and k as its size
 
-pub write-ground : (l bs : List ℕ) (g : ℕ) (r : Refusal) → r.number ≡ g → (r.number ≡ 0 → ⊥) → Writes (Err r) l l g 0 bs
-write-ground l bs g r e z = rw (← e) (writes-ground l 0 bs r.number z)
+pub write-short : (l bs : List ℕ) (g k : ℕ) → g ≡ 0 → length l < k → k ≡ length bs → Writes (Err (record { number = 41 })) l l g 0 bs
+write-short l bs g k z h f = rw z (writes_short l 0 bs (omega arith))
 
-pub write-short : (l bs : List ℕ) (g r k : ℕ) → r ≡ g → r ≡ 0 → length l < k → k ≡ length bs → Writes (Err (record { number = 41 })) l l g 0 bs
-write-short l bs g r k e z h f =
-    let q : g ≡ 0 = sym e ∙ z in
-    rw q (writes_short l 0 bs (omega arith))
-
-pub write_done : (l m bs : List ℕ) (g r k : ℕ) → r ≡ g → r ≡ 0 → k ≤ length l → k ≡ length bs → m ≡ put l 0 bs → Writes (Ok k) l m g 0 bs
-write_done l m bs g r k e z h f p =
-    let q : g ≡ 0 = sym e ∙ z in
-    rw (q, f) (writes-done l 0 bs m (omega arith) p)
+pub write_done : (l m bs : List ℕ) (g k : ℕ) → g ≡ 0 → k ≤ length l → k ≡ length bs → m ≡ put l 0 bs → Writes (Ok k) l m g 0 bs
+write_done l m bs g k z h f p = rw (z, f) (writes-done l 0 bs m (omega arith) p)
 
 pub header-size : (s : List ℕ) (n c : ℕ) → length s ≡ 10 → 20 ≡ length (header s n c)
 header-size s n c ten = sym (length-header s n c ten)
 
 -- ---- end of session
 
-pub end-13 : (n : ℕ) → n ≡ 0 → 13 ≡ end_ground n
+pub end-13 : (n : ℕ) → n ≡ 0 → end_ground n ≡ 13
 unfolding end_ground
 end-13 n z = simp z
 
-pub end-good : (n : ℕ) → (n ≡ 0 → ⊥) → 0 ≡ end_ground n
+pub end-good : (n : ℕ) → (n ≡ 0 → ⊥) → end_ground n ≡ 0
 unfolding end_ground
 end-good n z = simp (ne_eqb _ _ z)
 
 pub end_refused : (l bs : List ℕ) (n : ℕ) → n ≡ 0 → Writes (Err (record { number = 13 })) l l (end_ground n) 0 bs
-end_refused l bs n z = write-ground l bs (end_ground n) (record { number = 13 }) (end-13 n z) (omega arith)
+end_refused l bs n z = rw (end-13 n z) (writes-ground l 0 bs 13 (omega arith))
 
 pub end_short : (l s : List ℕ) (n : ℕ) → (n ≡ 0 → ⊥) → length s ≡ 10 → length l < 20 → Writes (Err (record { number = 41 })) l l (end_ground n) 0 (encoded_end s n)
 unfolding encoded_end
-end_short l s n z ten h = write-short l (header s n 65535) (end_ground n) 0 20 (end-good n z) refl h (header-size s n 65535 ten)
+end_short l s n z ten h = write-short l (header s n 65535) (end_ground n) 20 (end-good n z) h (header-size s n 65535 ten)
 
 pub end-done : (l m s : List ℕ) (n : ℕ) → (n ≡ 0 → ⊥) → length s ≡ 10 → 20 ≤ length l → m ≡ put l 0 (header s n 65535)
     → Writes (Ok 20) l m (end_ground n) 0 (encoded_end s n)
 unfolding encoded_end
-end-done l m s n z ten h p = write_done l m (header s n 65535) (end_ground n) 0 20 (end-good n z) refl h (header-size s n 65535 ten) p
+end-done l m s n z ten h p = write_done l m (header s n 65535) (end_ground n) 20 (end-good n z) h (header-size s n 65535 ten) p
 
 -- ---- the grounds of a packet
 
@@ -123,43 +116,43 @@ unfolding packet_ground
 not-writable n ks d w =
     simp (le-ltb _ _ w.few, eq-eqb _ _ w.whole, ne_eqb _ _ w.number-good, le-ltb _ _ w.numbers_fit, le-ltb _ _ w.small)
 
--- ---- the packet, as code that has r as what its grounds gave
+-- ---- the packet, where no ground applies
 
-module _ (n : ℕ) (ks d : List ℕ) (r : ℕ) where
-  pub size_fits : r ≡ packet_ground n ks d → r ≡ 0 → Fits w64 (20 + 2 * length ks + length d)
-  size_fits e z = record { fits = let w = (writable n ks d (sym e ∙ z)).small in omega arith }
+module _ (n : ℕ) (ks d : List ℕ) (z : packet_ground n ks d ≡ 0) where
+  pub size_fits : Fits w64 (20 + 2 * length ks + length d)
+  size_fits = record { fits = let w = (writable n ks d z).small in omega arith }
 
-  pub count_fits : r ≡ packet_ground n ks d → r ≡ 0 → Fits w16 (length ks)
-  count_fits e z = record { fits = let w = (writable n ks d (sym e ∙ z)).few in omega arith }
+  pub count_fits : Fits w16 (length ks)
+  count_fits = record { fits = let w = (writable n ks d z).few in omega arith }
 
-  pub packet-whole : r ≡ packet_ground n ks d → r ≡ 0 → total ks ≡ length d
-  packet-whole e z = (writable n ks d (sym e ∙ z)).whole
+  pub packet-whole : total ks ≡ length d
+  packet-whole = (writable n ks d z).whole
 
-  packet-size : (s : List ℕ) → length s ≡ 10 → r ≡ packet_ground n ks d → r ≡ 0 → 20 + 2 * length ks + length d ≡ length (encoded_cut s n ks d)
+  packet-size : (s : List ℕ) → length s ≡ 10 → 20 + 2 * length ks + length d ≡ length (encoded_cut s n ks d)
   unfolding encoded
-  packet-size s ten e z =
-      let c = cut-size ks d (packet-whole e z) in
+  packet-size s ten =
+      let c = cut-size ks d packet-whole in
       let h = length-header s n (length (cut ks d)) ten in
       omega (arith, length-append (header s n (length (cut ks d))) (blocks_of (cut ks d)))
 
-  pub packet-short : (l s : List ℕ) → r ≡ packet_ground n ks d → r ≡ 0 → length s ≡ 10 → length l < 20 + 2 * length ks + length d
+  pub packet-short : (l s : List ℕ) → length s ≡ 10 → length l < 20 + 2 * length ks + length d
       → Writes (Err (record { number = 41 })) l l (packet_ground n ks d) 0 (encoded_cut s n ks d)
-  packet-short l s e z ten h = write-short l (encoded_cut s n ks d) (packet_ground n ks d) r _ e z h (packet-size s ten e z)
+  packet-short l s ten h = write-short l (encoded_cut s n ks d) (packet_ground n ks d) _ z h (packet-size s ten)
 
-  pub packet-room : (l₁ l : List ℕ) (bs : List ℕ) → r ≡ packet_ground n ks d → r ≡ 0 → 20 + 2 * length ks + length d ≤ length l → l₁ ≡ put l 0 bs
+  pub packet-room : (l₁ l : List ℕ) (bs : List ℕ) → 20 + 2 * length ks + length d ≤ length l → l₁ ≡ put l 0 bs
       → 20 + length (blocks_of (cut ks d)) ≤ length l₁
-  packet-room l₁ l bs e z h p =
-      let c = cut-size ks d (packet-whole e z) in
+  packet-room l₁ l bs h p =
+      let c = cut-size ks d packet-whole in
       omega (arith, ap length p, length-put l 0 bs)
 
-  pub packet-done : (l l₁ l₂ s : List ℕ) → r ≡ packet_ground n ks d → r ≡ 0 → length s ≡ 10 → 20 + 2 * length ks + length d ≤ length l
+  pub packet-done : (l l₁ l₂ s : List ℕ) → length s ≡ 10 → 20 + 2 * length ks + length d ≤ length l
       → l₁ ≡ put l 0 (header s n (length ks)) → l₂ ≡ put l₁ 20 (blocks_of (cut ks d))
       → Writes (Ok (20 + 2 * length ks + length d)) l l₂ (packet_ground n ks d) 0 (encoded_cut s n ks d)
   unfolding encoded
-  packet-done l l₁ l₂ s e z ten h p q =
-      let c = cut-size ks d (packet-whole e z) in
+  packet-done l l₁ l₂ s ten h p q =
+      let c = cut-size ks d packet-whole in
       let k = cut-count ks d in
       let t = length-header s n (length ks) ten in
       let a : 0 + length (header s n (length ks)) ≡ 20 = omega arith in
       let both : l₂ ≡ put l 0 (encoded_cut s n ks d) = rw (q, p, k) (rw a at (put-put l 0 (header s n (length ks)) (blocks_of (cut ks d)) (omega arith))) in
-      write_done l l₂ (encoded_cut s n ks d) (packet_ground n ks d) r _ e z h (packet-size s ten e z) both
+      write_done l l₂ (encoded_cut s n ks d) (packet_ground n ks d) _ z h (packet-size s ten) both

@@ -1,11 +1,10 @@
 -- What the writers of downstream packets are given, and what they refuse.
-use Rattle.std.specs.Prelude.{ℕ, ◌+◌, ◌*◌, ◌-◌, List, [], ◌∷◌, Bool, not, length, take, drop, ltb, leb, eqb, if◌then◌else◌}
+use Rattle.std.specs.Prelude.{ℕ, ◌+◌, ◌*◌, ◌-◌, List, [], ◌∷◌, Bool, not, length, take, drop, ltb, leb, eqb, if◌then◌else◌, Option, Some, None}
 use Rattle.wire.specs.Bounds.{length_size}
 use Rattle.wire.specs.Refusals.{datagram_long, number_zero, numbers_run_out, too_many_messages, lengths_differ}
 use Rattle.moldudp64.specs.Header.{header_size, largest_datagram, end_count}
 use Rattle.moldudp64.specs.Downstream.{run_out}
 use Rattle.moldudp64.specs.Written.{encoded}
-use Rattle.moldudp64_writer.specs.declared.lengths.Left.{Left}
 
 -- ---- data and heartbeat: the writer is given lengths and joined data
 
@@ -23,9 +22,9 @@ unfoldable pub total : List ℕ → ℕ
 total [] = 0
 total (k ∷ ks) = k + total ks
 
--- what is left of so many bytes after messages of these lengths, and whether they were enough
-abbrev pub left_after : List ℕ → ℕ → Left
-left_after ks b = record { enough = leb (total ks) b; bytes = b - total ks }
+-- what is left of so many bytes after messages of these lengths, where they were enough
+abbrev pub left_after : List ℕ → ℕ → Option ℕ
+left_after ks b = if leb (total ks) b then Some (b - total ks) else None
 
 -- the lengths of messages
 unfoldable pub lengths_of : List (List ℕ) → List ℕ

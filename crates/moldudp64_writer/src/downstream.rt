@@ -3,6 +3,7 @@
 #![tactic(auto, using(crate::proofs::Rules::ends, crate::proofs::Rules::grounds, crate::proofs::Rules::packets))]
 ghost use Rattle.std.specs.Prelude.{◌≡◌, ◌+◌, ◌≤◌, length};
 ghost use Rattle.wire.specs.Output.{put, Writes};
+ghost use Rattle.wire.specs.Words.{refused_by};
 ghost use Rattle.moldudp64.specs.Header.{header_size};
 ghost use Rattle.moldudp64.specs.Blocks.{blocks_of};
 ghost use Rattle.moldudp64.specs.Written.{encoded_end};
@@ -19,31 +20,31 @@ use wire::{output, refusal};
 // The most messages of one datagram.
 pub const MOST_MESSAGES: MessageCount = MessageCount(u16::MAX - 1);
 
-// The first of 42, 44, 13, 14, 12 that applies, or 0.
-fn ground(first: SequenceNumber, lengths: &[u16], joined: &[u8]) -> Refusal
-    ensures { result.number ≡ packet_ground first.0 lengths.now joined.now }
+// 42, 44, 13, 14 or 12, the first that applies.
+fn check(first: SequenceNumber, lengths: &[u16], joined: &[u8]) -> Result<(), Refusal>
+    ensures { result ≡ refused_by (packet_ground first.0 lengths.now joined.now) }
 {
     let count = lengths.len();
     if (MOST_MESSAGES.0 as usize) < count {
-        return refusal::TOO_MANY_MESSAGES;
+        return Err(refusal::TOO_MANY_MESSAGES);
     }
     if !add_up(lengths, joined) {
-        return refusal::LENGTHS_DIFFER;
+        return Err(refusal::LENGTHS_DIFFER);
     }
     if first.is_zero() {
-        return refusal::NUMBER_ZERO;
+        return Err(refusal::NUMBER_ZERO);
     }
     if !first.has_room(MessageCount(count as u16)) {
-        return refusal::NUMBERS_RUN_OUT;
+        return Err(refusal::NUMBERS_RUN_OUT);
     }
     // tested first so that the sum below can't wrap
     if LARGEST_DATAGRAM < joined.len() {
-        return refusal::DATAGRAM_LONG;
+        return Err(refusal::DATAGRAM_LONG);
     }
     if LARGEST_DATAGRAM < SIZE + LENGTH_SIZE * count + joined.len() {
-        return refusal::DATAGRAM_LONG;
+        return Err(refusal::DATAGRAM_LONG);
     }
-    refusal::NONE
+    Ok(())
 }
 
 // Writes the blocks after the header: each turn takes what is left of the data after a message.
@@ -55,16 +56,13 @@ fn put_blocks(out: &mut [u8], lengths: &[u16], joined: &[u8])
 {
     let mut rest = joined;
     let mut at = SIZE;
-    let mut i: usize = 0;
-    while i < lengths.len() {
-        let length = lengths[i];
-        let size = length as usize;
-        output::put16(out, ByteOffset(at), length);
+    for length in lengths {
+        let size = usize::from(*length);
+        output::lay16(out, ByteOffset(at), *length);
         at += LENGTH_SIZE;
-        output::put_bytes(out, ByteOffset(at), &rest[..size]);
+        output::lay(out, ByteOffset(at), &rest[..size]);
         at += size;
         rest = &rest[size..];
-        i += 1;
     }
 }
 
@@ -81,10 +79,7 @@ pub fn write_messages(
         (encoded_cut session first.0 lengths.now joined.now) }
     ensures round_trip { PacketRoundTrip }
 {
-    let refused = ground(first, lengths, joined);
-    if refused.number != 0 {
-        return Err(refused);
-    }
+    check(first, lengths, joined)?;
     let count = lengths.len();
     let size = SIZE + LENGTH_SIZE * count + joined.len();
     if out.len() < size {

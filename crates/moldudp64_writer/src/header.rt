@@ -18,7 +18,7 @@ pub(crate) fn put_header(
     requires { header_size ≤ length out.old }
     ensures { out.new ≡ put out.old 0 (header session first.0 count.0) }
 {
-    output::put_bytes(out, read::SESSION_AT, &session);
-    output::put64(out, read::NUMBER_AT, first.0);
-    output::put16(out, read::COUNT_AT, count.0);
+    output::lay(out, read::SESSION_AT, &session);
+    output::lay64(out, read::NUMBER_AT, first.0);
+    output::lay16(out, read::COUNT_AT, count.0);
 }

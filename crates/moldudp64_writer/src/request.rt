@@ -23,10 +23,7 @@ pub fn write(
         (header session first.0 count.0) }
     ensures round_trip { RequestRoundTrip }
 {
-    let refused = request::ground(first, count);
-    if refused.number != 0 {
-        return Err(refused);
-    }
+    request::check(first, count)?;
     if out.len() < SIZE {
         return Err(refusal::OUTPUT_SHORT);
     }

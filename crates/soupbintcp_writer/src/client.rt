@@ -84,9 +84,9 @@ fn put_names(
     requires { head_size + username_size + password_size + session_size ≤ length out.old }
     ensures { out.new ≡ put out.old head_size (username ++ password ++ session) }
 {
-    output::put_bytes(out, ByteOffset(HEAD_SIZE), &username);
-    output::put_bytes(out, LOGIN_PASSWORD_AT, &password);
-    output::put_bytes(out, LOGIN_SESSION_AT, &session);
+    output::lay(out, ByteOffset(HEAD_SIZE), &username);
+    output::lay(out, LOGIN_PASSWORD_AT, &password);
+    output::lay(out, LOGIN_SESSION_AT, &session);
 }
 
 // Writes a login request from its parts.

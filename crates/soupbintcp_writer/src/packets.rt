@@ -16,8 +16,8 @@ pub(crate) fn put_head(out: &mut [u8], letter: u8, payload: usize)
     requires { (head_size ≤ length out.old) × (payload ≤ most_payload) }
     ensures { out.new ≡ put out.old 0 (head_bytes letter payload) }
 {
-    output::put16(out, ByteOffset(0), (payload + 1) as u16);
-    output::put_bytes(out, ByteOffset(LENGTH_SIZE), &[letter]);
+    output::lay16(out, ByteOffset(0), (payload + 1) as u16);
+    output::lay(out, ByteOffset(LENGTH_SIZE), &[letter]);
 }
 
 // Writes a letter and a payload.
@@ -33,7 +33,7 @@ pub(crate) fn write_payload(out: &mut [u8], letter: u8, payload: &[u8]) -> Resul
         return Err(refusal::OUTPUT_SHORT);
     }
     put_head(out, letter, size);
-    output::put_bytes(out, ByteOffset(HEAD_SIZE), payload);
+    output::lay(out, ByteOffset(HEAD_SIZE), payload);
     Ok(size + HEAD_SIZE)
 }
 

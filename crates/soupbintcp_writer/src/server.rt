@@ -78,7 +78,7 @@ pub fn write_accepted(
         return Err(refusal::OUTPUT_SHORT);
     }
     packets::put_head(out, b'A', ACCEPTED_PAYLOAD);
-    output::put_bytes(out, ByteOffset(HEAD_SIZE), &session);
+    output::lay(out, ByteOffset(HEAD_SIZE), &session);
     number::put(out, NUMBER_AT, number);
     Ok(ACCEPTED_SIZE)
 }

@@ -109,7 +109,7 @@ fn right_justify(field: &mut [u8], number: SequenceNumber)
     let mut text = [0u8; NUMBER_FIELD_SIZE];
     match writing::put(&mut text, ByteOffset(0), number.0) {
         Ok(size) => {
-            output::put_bytes(field, ByteOffset(NUMBER_FIELD_SIZE - size), &text[..size]);
+            output::lay(field, ByteOffset(NUMBER_FIELD_SIZE - size), &text[..size]);
         }
         Err(_) => {}
     }

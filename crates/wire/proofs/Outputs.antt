@@ -9,7 +9,7 @@ use lib.ListN.{length, get_or, take, drop, length-append, length-take, length-dr
 use lib.Seq.{take_at, drop_at, take-take, take-append-le, drop-append-add, drop-drop, length-take-le}
 use lib.Dec.{leb, eqb}
 use borrow.Author.Tests.{le-leb, lt-leb, leb-true, leb-false, eq-eqb, ne_eqb, eqb-true}
-use Rattle.std.specs.Prelude.{if◌then◌else◌, Result, ⊤}
+use Rattle.std.specs.Prelude.{if◌then◌else◌, Result, ⊤, is_ok}
 use Rattle.std.specs.Int.{to_be_bytes}
 use Rattle.std.proofs.Math.Nat.{div-div-eq-div-mul}
 use borrow.Rule.Slice.PartMut.{put_mid}
@@ -267,6 +267,21 @@ module _ (m at n : ℕ) where
   pub room-short : m < at + n → Err (record { number = output_short }) ≡ refused_by (if leb (at + n) m then 0 else output_short)
   room-short h = refuses-by _ _ (rw (lt-leb _ _ h) refl) refl
 
+  pub room-short-so : (s : Result ⊤ Refusal) → s ≡ refused_by (if leb (at + n) m then 0 else output_short) → is_ok s ≡ false → m < at + n
+  room-short-so s e f = go (leb (at + n) m) refl e
+    where
+      go : (b : Bool) → leb (at + n) m ≡ b → s ≡ refused_by (if b then 0 else output_short) → m < at + n
+      go true g h = let k : is_ok s ≡ true = rw (h ∙ sym (passes 0 refl)) refl in let z : ◌≡◌ {A = ℕ} 0 1 = cc in absurd (omega arith)
+      go false g h = leb-false _ _ g
+
+  pub room-ok : (s : Result ⊤ Refusal) → s ≡ refused_by (if leb (at + n) m then 0 else output_short) → is_ok s ≡ true → at + n ≤ m
+  unfolding refused_by
+  room-ok s e f = go (leb (at + n) m) refl e
+    where
+      go : (b : Bool) → leb (at + n) m ≡ b → s ≡ refused_by (if b then 0 else output_short) → at + n ≤ m
+      go true g h = leb-true _ _ g
+      go false g h = let k : is_ok s ≡ false = rw h refl in let z : ◌≡◌ {A = ℕ} 0 1 = cc in absurd (omega arith)
+
 -- a part that was written over is what is laid
 pub laid-bytes : (l bs x : List ℕ) (at k : ℕ) → x ≡ bs → at + length bs ≤ length l → k ≡ length bs → put_mid at k l x ≡ put l at bs
 laid-bytes l bs x at k d h e =
@@ -285,15 +300,15 @@ bytes-2 : (v : ℕ) → bytes 2 v ≡ v / 256 % 256 ∷ v % 256 ∷ []
 unfolding bytes
 bytes-2 v = refl
 
-pub laid-16 : (r : Written) (l m bs : List ℕ) (g at v : ℕ) → Writes r l m g at bs → bs ≡ to_be_bytes w16 v → Writes r l m g at (bytes 2 v)
-laid-16 r l m bs g at v w e = rw (bytes-2 v) (rw e at w)
+pub laid-16 : (l m bs : List ℕ) (at v : ℕ) → m ≡ put l at bs → bs ≡ to_be_bytes w16 v → m ≡ put l at (bytes 2 v)
+laid-16 l m bs at v w e = rw (bytes-2 v) (rw e at w)
 
 bytes-8 : (v : ℕ) → bytes 8 v ≡ to_be_bytes w64 v
 unfolding bytes
 bytes-8 v = simp div-div-eq-div-mul
 
-pub laid-64 : (r : Written) (l m bs : List ℕ) (g at v : ℕ) → Writes r l m g at bs → bs ≡ to_be_bytes w64 v → Writes r l m g at (bytes 8 v)
-laid-64 r l m bs g at v w e = rw (bytes-8 v) (rw e at w)
+pub laid-64 : (l m bs : List ℕ) (at v : ℕ) → m ≡ put l at bs → bs ≡ to_be_bytes w64 v → m ≡ put l at (bytes 8 v)
+laid-64 l m bs at v w e = rw (bytes-8 v) (rw e at w)
 
 -- ---- the words tell all answers apart
 

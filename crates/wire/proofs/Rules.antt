@@ -3,7 +3,7 @@ use borrow.Author.Rules.{rules}
 use Rattle.wire.proofs.Numbers.{byte_past, read_past, read-2, read-8, read-front, read-rest, read_none, read_more, read_all, times_fits, more_fits}
 use Rattle.wire.proofs.PartLaws.{part_none, part-rest, part-all, too_few, first-chunk}
 use Rattle.wire.proofs.Rooms.{no_room, number-room, count_room}
-use Rattle.wire.proofs.Outputs.{output-laws, no-room-there, room-there, room-so, room-short, writes-refused, lay-over, lay_done, laid-bytes, laid-16, laid-64}
+use Rattle.wire.proofs.Outputs.{output-laws, no-room-there, room-there, room-so, room-short, room-ok, room-short-so, put-none, writes-refused, lay-over, lay_done, laid-bytes, laid-16, laid-64}
 use Rattle.wire.proofs.Refusing.{refusals}
 use Rattle.wire.proofs.Same.{same-beyond, same-cut, same-there, rest-room, eight-so, two-so, begins-unlike, begins-like, name-unlike, name-whole}
 
@@ -13,6 +13,6 @@ pub ruleset numbers = (byte_past, read_past, read-2, read-8, read-front, read-re
 
 pub ruleset parts = (part_none, part-rest, part-all, too_few, first-chunk, rules)
 
-pub ruleset outputs = (no-room-there, room-there, room-so, room-short, writes-refused, lay-over, lay_done, laid-bytes, laid-16, laid-64, output-laws, refusals, rules)
+pub ruleset outputs = (no-room-there, room-there, room-so, room-short, room-ok, room-short-so, put-none, writes-refused, lay-over, lay_done, laid-bytes, laid-16, laid-64, output-laws, refusals, rules)
 
 pub ruleset names = (same-beyond, same-cut, same-there, rest-room, eight-so, two-so, begins-unlike, begins-like, name-unlike, name-whole, rules)

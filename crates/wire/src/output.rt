@@ -3,7 +3,7 @@
 
 ghost use Rattle.std.specs.Prelude.{◌≡◌, ◌+◌, leb, if◌then◌else◌};
 ghost use Rattle.wire.specs.Bytes.{bytes};
-ghost use Rattle.wire.specs.Output.{Writes, OutputLaws};
+ghost use Rattle.wire.specs.Output.{put, Writes, OutputLaws};
 ghost use Rattle.wire.specs.Refusals.{output_short};
 ghost use Rattle.wire.specs.Words.{refused_by};
 
@@ -21,30 +21,40 @@ pub fn room(lent: usize, at: ByteOffset, size: usize) -> Result<(), Refusal>
     Ok(())
 }
 
-// Lays a 16-bit number.
-pub fn put16(out: &mut [u8], at: ByteOffset, number: u16) -> Result<usize, Refusal>
-    ensures writes { Writes result out.old out.new 0 at.0 (bytes 2 number) }
-    ensures laws { OutputLaws }
-{
-    put_bytes(out, at, &number.to_be_bytes())
-}
-
-// Lays a 64-bit number.
-pub fn put64(out: &mut [u8], at: ByteOffset, number: u64) -> Result<usize, Refusal>
-    ensures writes { Writes result out.old out.new 0 at.0 (bytes 8 number) }
-    ensures laws { OutputLaws }
-{
-    put_bytes(out, at, &number.to_be_bytes())
-}
-
-// Lays bytes, and answers how many.
-pub fn put_bytes(out: &mut [u8], at: ByteOffset, src: &[u8]) -> Result<usize, Refusal>
-    ensures writes { Writes result out.old out.new 0 at.0 src.now }
+// Lays bytes where they have room, and nothing where they haven't.
+pub fn lay(out: &mut [u8], at: ByteOffset, src: &[u8])
+    ensures after { out.new ≡ put out.old at.0 src.now }
     ensures laws { OutputLaws }
 {
     let from = at.0;
     let size = src.len();
-    room(out.len(), at, size)?;
-    out[from..from + size].copy_from_slice(src);
-    Ok(size)
+    if room(out.len(), at, size).is_ok() {
+        out[from..from + size].copy_from_slice(src);
+    }
+}
+
+// Lays a 16-bit number where it has room.
+pub fn lay16(out: &mut [u8], at: ByteOffset, number: u16)
+    ensures after { out.new ≡ put out.old at.0 (bytes 2 number) }
+    ensures laws { OutputLaws }
+{
+    lay(out, at, &number.to_be_bytes());
+}
+
+// Lays a 64-bit number where it has room.
+pub fn lay64(out: &mut [u8], at: ByteOffset, number: u64)
+    ensures after { out.new ≡ put out.old at.0 (bytes 8 number) }
+    ensures laws { OutputLaws }
+{
+    lay(out, at, &number.to_be_bytes());
+}
+
+// Lays bytes and answers how many, or 41 where they have no room.
+pub fn put_bytes(out: &mut [u8], at: ByteOffset, src: &[u8]) -> Result<usize, Refusal>
+    ensures writes { Writes result out.old out.new 0 at.0 src.now }
+    ensures laws { OutputLaws }
+{
+    room(out.len(), at, src.len())?;
+    lay(out, at, src);
+    Ok(src.len())
 }

@@ -1,0 +1,6 @@
+-- The library's bytes of a number are its bytes.
+use Rattle.wire.proofs.Rules.{outputs}
+use Rattle.wire.proofs.output.lay16.Goals as goal
+
+pub returns-clause-after : goal.returns-clause-after
+returns-clause-after c = search outputs
