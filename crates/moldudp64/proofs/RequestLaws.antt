@@ -52,6 +52,9 @@ request-sound l e =
     let a = past-ground (not (eqb (length l) 20)) _ _ e (omega arith) in
     (eqb-true _ _ (not-false _ a.0), a.1)
 
+pub request-ten : (l : List ℕ) (r : ℕ) → r ≡ request_refusal l → r ≡ 0 → length (take 10 l) ≡ 10
+request-ten l r e z = let s = request-sound l (sym e ∙ z) in omega (arith, s.0, length-take 10 l)
+
 -- ---- what the reader answers
 
 request-refused : (l : List ℕ) (r : Refusal) → r.number ≡ request_refusal l → (r.number ≡ 0 → ⊥) → request_words (Err r) ≡ request_of l

@@ -73,7 +73,7 @@ module _ (ks rest : List ℕ) (b left : ℕ) (e : b + total rest ≡ left + tota
 
 -- ---- `add_up`
 
-left-none : (a b : ℕ) → a ≤ b → eqb (b - a) 0 ≡ eqb a b
+pub left-none : (a b : ℕ) → a ≤ b → eqb (b - a) 0 ≡ eqb a b
 left-none a b h = go (eqb a b) refl
   where
     go : (t : Bool) → eqb a b ≡ t → eqb (b - a) 0 ≡ t

@@ -351,7 +351,7 @@ end-writes-back l small e k =
     let c = end-count (count_of l) k in
     let b : block_count l ≡ 0 = sym (count-end (count_of l) l refl c) in
     let n = end_short l (rw b at s.blocks-good) in
-    writes-to l _ _ (sym (end-good (number_of l) s.number-good))
+    writes-to l _ _ (end-good (number_of l) s.number-good)
     (rw (e, ← c, header-again l small s.long) (take_all 20 l n))
 
 -- ---- requests

@@ -1,6 +1,7 @@
 // Downstream packets, written into a lent output. A success reports its size and changes those bytes alone; a refusal
 // changes none.
 #![tactic(auto, using(crate::proofs::Rules::ends, crate::proofs::Rules::grounds, crate::proofs::Rules::packets))]
+
 ghost use Rattle.std.specs.Prelude.{◌≡◌, ◌+◌, ◌≤◌, length};
 ghost use Rattle.wire.specs.Output.{put, Writes};
 ghost use Rattle.wire.specs.Words.{refused_by};
@@ -57,7 +58,7 @@ fn put_blocks(out: &mut [u8], lengths: &[u16], joined: &[u8])
     let mut rest = joined;
     let mut at = SIZE;
     for length in lengths {
-        let size = usize::from(*length);
+        let size = *length as usize;
         output::lay16(out, ByteOffset(at), *length);
         at += LENGTH_SIZE;
         output::lay(out, ByteOffset(at), &rest[..size]);

@@ -1,5 +1,6 @@
 // The header that every packet starts with, written in its three parts.
 #![tactic(auto, using(crate::proofs::Rules::headers))]
+
 ghost use Rattle.std.specs.Prelude.{◌≡◌, ◌≤◌, length};
 ghost use Rattle.wire.specs.Output.{put};
 ghost use Rattle.moldudp64.specs.Header.{header_size, header};

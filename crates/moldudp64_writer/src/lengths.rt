@@ -1,5 +1,6 @@
 // The lengths of messages against the bytes that they are to have.
 #![tactic(auto, using(crate::proofs::Rules::lengths))]
+
 ghost use Rattle.std.specs.Prelude.{◌≡◌, ◌≤◌, min, length};
 ghost use Rattle.moldudp64_writer.specs.Writer.{total, add_up, left_after};
 

@@ -1,5 +1,6 @@
 // Request packets, written into a lent output.
 #![tactic(auto, using(crate::proofs::Rules::requests))]
+
 ghost use Rattle.wire.specs.Output.{Writes};
 ghost use Rattle.moldudp64.specs.Header.{header};
 ghost use Rattle.moldudp64.specs.Request.{request_ground};
@@ -9,8 +10,8 @@ use crate::header;
 use moldudp64::header::SIZE;
 use moldudp64::request;
 use wire::kinds::{MessageCount, SESSION_SIZE, SequenceNumber};
-use wire::refusal::Refusal;
 use wire::refusal;
+use wire::refusal::Refusal;
 
 // Writes a request.
 pub fn write(
