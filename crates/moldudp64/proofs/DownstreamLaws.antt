@@ -169,7 +169,7 @@ tells_apart = read_back downstream_words (λ w. answered w.which w.refusal w.val
 
 -- ---- the refusal in what was read
 
-no_refusal : (d : Downstream) → (downstream_words (Ok d)).refusal ≡ 0
+pub no_refusal : (d : Downstream) → (downstream_words (Ok d)).refusal ≡ 0
 unfolding downstream_words
 no_refusal (Data n c) = refl
 no_refusal (Heartbeat n) = refl

@@ -5,7 +5,7 @@ ghost use Rattle.packing.specs.Fit.{fitting, PackingPromises};
 use wire::kinds::LENGTH_SIZE;
 
 // How many messages, and the bytes of their data.
-#[derive(Clone, Copy)]
+#[derive(Clone, Copy, Debug, PartialEq, Eq)]
 pub struct Fit {
     pub count: usize,
     pub bytes: usize,
@@ -17,16 +17,17 @@ pub fn most_that_fit(lengths: &[u16], room: usize) -> Fit
     ensures promises { PackingPromises }
 {
     let mut left = room;
-    let mut count: usize = 0;
     let mut bytes: usize = 0;
-    while count < lengths.len() {
-        let length = lengths[count] as usize;
+    for (count, length) in lengths.iter().enumerate() {
+        let length = *length as usize;
         if left < length + LENGTH_SIZE {
             return Fit { count, bytes };
         }
         left -= length + LENGTH_SIZE;
         bytes += length;
-        count += 1;
     }
-    Fit { count, bytes }
+    Fit {
+        count: lengths.len(),
+        bytes,
+    }
 }

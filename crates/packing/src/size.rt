@@ -1,6 +1,8 @@
 // The size of a packet, which counts its header.
 #![tactic(auto, using(crate::proofs::Rules::sizes))]
+
 ghost use Rattle.std.specs.Prelude.{◌≡◌};
+ghost use Rattle.wire.specs.Words.{refused_by};
 ghost use Rattle.packing.specs.Fit.{size_ground, room_of};
 
 use moldudp64::header::{LARGEST_DATAGRAM, SIZE};
@@ -12,24 +14,18 @@ use wire::refusal::Refusal;
 pub const LEAST: usize = SIZE + LENGTH_SIZE;
 
 // 19 where a size is out of its bounds.
-pub fn ground(size: usize) -> Refusal
-    ensures { result.number ≡ size_ground size }
+pub fn check(size: usize) -> Result<(), Refusal>
+    ensures { result ≡ refused_by (size_ground size) }
 {
-    if size < LEAST {
-        return refusal::BAD_SETTING;
+    if size < LEAST || LARGEST_DATAGRAM < size {
+        return Err(refusal::BAD_SETTING);
     }
-    if LARGEST_DATAGRAM < size {
-        return refusal::BAD_SETTING;
-    }
-    refusal::NONE
+    Ok(())
 }
 
 // What a size leaves for blocks.
 pub fn room(size: usize) -> usize
     ensures { result ≡ room_of size }
 {
-    if size < SIZE {
-        return 0;
-    }
-    size - SIZE
+    size.saturating_sub(SIZE)
 }

@@ -17,8 +17,12 @@ use Rattle.wire.specs.declared.refusal.Refusal.{Refusal}
 use Rattle.wire.specs.declared.kinds.SequenceNumber.{SequenceNumber}
 use Rattle.wire.specs.declared.kinds.MessageCount.{MessageCount}
 use Rattle.moldudp64.specs.Header.{number_of}
+use Rattle.std.specs.Prelude.{Result, Ok, Err, ⊤}
+use Rattle.wire.specs.Words.{refused_by}
+use Rattle.wire.proofs.Refusing.{passes, refuses-by, has-ground, handed-by}
+use Rattle.moldudp64.proofs.DownstreamLaws.{no_refusal}
 use Rattle.moldudp64.specs.declared.downstream.Downstream.{Downstream}
-use Rattle.moldudp64.specs.declared.downstream.Downstream.TheVariants.{Data, Heartbeat, EndOfSession, Refused}
+use Rattle.moldudp64.specs.declared.downstream.Downstream.TheVariants.{Data, Heartbeat, EndOfSession}
 use Rattle.moldudp64.specs.Downstream.{kind_of, refusal_of, downstream_words}
 use Rattle.receiver.specs.declared.receiver.Receiver.{Receiver}
 use Rattle.receiver.specs.Receiver.{receiver, name_by, named_by, other_session, open_for, end_below, own_refusal, refusal_for, below_read_at, below_read, refusal_read}
@@ -85,45 +89,61 @@ name-taken r l name o n f = rw f (by-case (same_bytes r.session blank) refl o)
 
 -- ---- the ladder, by what was read
 
-module _ (r : Receiver) (p : Downstream) where
-  pub below_end : (n : SequenceNumber) (t : Bool) → p ≡ EndOfSession n → t ≡ ltb n.0 r.next.0 → t ≡ below_read r (downstream_words p)
+module _ (r : Receiver) (p : Result Downstream Refusal) where
+  pub below_end : (d : Downstream) (n : SequenceNumber) (t : Bool) → p ≡ Ok d → d ≡ EndOfSession n → t ≡ ltb n.0 r.next.0 → t ≡ below_read r (downstream_words p)
   unfolding downstream_words below_read_at end_below
-  below_end n t e f = rw e f
+  below_end d n t k e f = rw (k, e) f
 
-  pub below-data : (n : SequenceNumber) (c : MessageCount) → p ≡ Data n c → false ≡ below_read r (downstream_words p)
+  pub below-data : (d : Downstream) (n : SequenceNumber) (c : MessageCount) → p ≡ Ok d → d ≡ Data n c → false ≡ below_read r (downstream_words p)
   unfolding downstream_words below_read_at end_below
-  below-data n c e = rw e
+  below-data d n c k e = rw (k, e) refl
 
-  pub below-heartbeat : (n : SequenceNumber) → p ≡ Heartbeat n → false ≡ below_read r (downstream_words p)
+  pub below-heartbeat : (d : Downstream) (n : SequenceNumber) → p ≡ Ok d → d ≡ Heartbeat n → false ≡ below_read r (downstream_words p)
   unfolding downstream_words below_read_at end_below
-  below-heartbeat n e = rw e
+  below-heartbeat d n k e = rw (k, e) refl
 
-  pub below-refused : (x : Refusal) → p ≡ Refused x → false ≡ below_read r (downstream_words p)
+  pub below-refused : (x : Refusal) → p ≡ Err x → false ≡ below_read r (downstream_words p)
   unfolding downstream_words below_read_at
-  below-refused x e = rw e
+  below-refused x e = rw e refl
 
-module _ (r : Receiver) (l : List ℕ) (p : Downstream) (k : ℕ) (e : k ≡ (downstream_words p).refusal) where
-  pub for-read : (k ≡ 0 → ⊥) → k ≡ refusal_read r l (downstream_words p)
+-- what the reader refused
+pub read_good : (p : Result Downstream Refusal) (d : Downstream) → p ≡ Ok d → Ok tt ≡ refused_by (downstream_words p).refusal
+read_good p d e = passes _ (rw e (no_refusal d))
+
+pub read-made-up : (p : Result Downstream Refusal) (x : Refusal) → p ≡ Err x → x.number ≡ 0 → Ok tt ≡ refused_by (downstream_words p).refusal
+unfolding downstream_words
+read-made-up p x e z = passes _ (rw (e, z) refl)
+
+pub read-bad : (p : Result Downstream Refusal) (x : Refusal) → p ≡ Err x → (x.number ≡ 0 → ⊥) → Err x ≡ refused_by (downstream_words p).refusal
+unfolding downstream_words
+read-bad p x e z = refuses-by _ x (rw e refl) (ne_eqb _ _ z)
+
+-- the ladder: s is what checking the reader's refusal gave
+module _ (r : Receiver) (l : List ℕ) (p : Result Downstream Refusal) where
+  pub for-read : (s w : Result ⊤ Refusal) (x : Refusal) → s ≡ refused_by (downstream_words p).refusal → s ≡ Err x → w ≡ Err x
+      → w ≡ refused_by (refusal_read r l (downstream_words p))
   unfolding refusal_read
-  for-read z = rw (← e, ne_eqb _ _ z)
+  for-read s w x e d f =
+      let z = has-ground s x _ e d in
+      rw (ne_eqb _ _ z) (handed-by s w x _ e d f)
 
-  module _ (z : k ≡ 0) (b : Bool) (o : b ≡ other_session r l) where
-    pub own-17 : b ≡ true → 17 ≡ refusal_read r l (downstream_words p)
+  module _ (z : (downstream_words p).refusal ≡ 0) (b : Bool) (o : b ≡ other_session r l) where
+    pub own-17 : b ≡ true → Err (record { number = 17 }) ≡ refused_by (refusal_read r l (downstream_words p))
     unfolding refusal_read own_refusal
-    own-17 f = rw (← e, z, ← o, f)
+    own-17 f = refuses-by _ _ (rw (z, ← o, f) refl) refl
 
-    pub own-18 : b ≡ false → r.ended ≡ true → 18 ≡ refusal_read r l (downstream_words p)
+    pub own-18 : b ≡ false → r.ended ≡ true → Err (record { number = 18 }) ≡ refused_by (refusal_read r l (downstream_words p))
     unfolding refusal_read own_refusal
-    own-18 f g = rw (← e, z, ← o, f, g)
+    own-18 f g = refuses-by _ _ (rw (z, ← o, f, g) refl) refl
 
     module _ (f : b ≡ false) (g : r.ended ≡ false) (low : Bool) (h : low ≡ below_read r (downstream_words p)) where
-      pub own-20 : low ≡ true → 20 ≡ refusal_read r l (downstream_words p)
+      pub own-20 : low ≡ true → Err (record { number = 20 }) ≡ refused_by (refusal_read r l (downstream_words p))
       unfolding refusal_read own_refusal
-      own-20 i = rw (← h, ← e, z, ← o, f, g, i)
+      own-20 i = refuses-by _ _ (rw (← h, z, ← o, f, g, i) refl) refl
 
-      pub own-0 : low ≡ false → 0 ≡ refusal_read r l (downstream_words p)
+      pub own-0 : low ≡ false → Ok tt ≡ refused_by (refusal_read r l (downstream_words p))
       unfolding refusal_read own_refusal
-      own-0 i = rw (← h, ← e, z, ← o, f, g, i)
+      own-0 i = passes _ (rw (← h, z, ← o, f, g, i) refl)
 
 -- ---- what the reader finds in l
 

@@ -8,6 +8,8 @@ use lib.Dec.{eqb}
 use borrow.Author.Tests.{eqb-true, eqb-false, ne_eqb}
 use Rattle.wire.specs.Words.{says, refuses}
 use Rattle.moldudp64.specs.Header.{number_of, count_of}
+use Rattle.std.specs.Prelude.{Result}
+use Rattle.wire.specs.declared.refusal.Refusal.{Refusal}
 use Rattle.moldudp64.specs.declared.downstream.Downstream.{Downstream}
 use Rattle.moldudp64.specs.Downstream.{DownstreamKind, data_packet, heartbeat, end_of_session, kind_of, block_count, refusal_of, values_of, downstream_of, downstream_words}
 use Rattle.moldudp64.proofs.DownstreamLaws.{sound}
@@ -85,7 +87,7 @@ pub read-as-whole : ReadAsWhole
 read-as-whole =
     record { answers = λ r l. by-reader r l (refused_as r l) (well-as r l); leaves = λ r l. by-reader r l (refused-left r l) (well-left r l) }
 
-module _ (r : Receiver) (l : List ℕ) (p : Downstream) (x : Taken) (e : downstream_words p ≡ downstream_of l) where
+module _ (r : Receiver) (l : List ℕ) (p : Result Downstream Refusal) (x : Taken) (e : downstream_words p ≡ downstream_of l) where
   pub whole-answer : answer_words x.answer ≡ answer_read r l (downstream_words p) → answer_words x.answer ≡ answer_of r l
   whole-answer f = rw e at f ∙ read-as-whole.answers r l
 

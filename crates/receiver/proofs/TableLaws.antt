@@ -17,9 +17,11 @@ use Rattle.wire.specs.declared.refusal.Refusal.{Refusal}
 use Rattle.wire.specs.declared.kinds.SequenceNumber.{SequenceNumber}
 use Rattle.wire.specs.declared.kinds.MessageCount.{MessageCount}
 use Rattle.wire.specs.declared.kinds.MessagePlace.{MessagePlace}
+use Rattle.std.specs.Prelude.{Result, Ok, Err, ⊤}
+use Rattle.wire.specs.Words.{refused_by}
+use Rattle.wire.proofs.Refusing.{checked, ground-of, has-ground}
 use Rattle.moldudp64.specs.declared.downstream.Downstream.{Downstream}
 use Rattle.moldudp64.specs.declared.downstream.Downstream.TheVariants.{Data, Heartbeat, EndOfSession}
-use Rattle.moldudp64.specs.declared.downstream.Downstream.TheVariants as found
 use Rattle.moldudp64.specs.Downstream.{DownstreamKind, data_packet, heartbeat, end_of_session, downstream_words}
 use Rattle.receiver.specs.declared.receiver.Receiver.{Receiver}
 use Rattle.receiver.specs.declared.receiver.Taken.{Taken}
@@ -101,50 +103,52 @@ end-now r m f h e = rw (le-ltb _ _ h) (record { answers = refl; leaves = e })
 
 -- ---- the row for what was read, p
 
-module _ (r : Receiver) (p : Downstream) (x : Taken) where
-  pub row-data : (n : SequenceNumber) (c : MessageCount) → p ≡ Data n c
+module _ (r : Receiver) (p : Result Downstream Refusal) (d : Downstream) (k : p ≡ Ok d) (x : Taken) where
+  pub row-data : (n : SequenceNumber) (c : MessageCount) → d ≡ Data n c
       → TakesRow x r (table r.limit.0 r.next.0 data_packet n.0 (numbered n.0 c.0)) → TakesRow x r (row_read r (downstream_words p))
   unfolding row_read_at downstream_words
-  row-data n c f t = rw f t
+  row-data n c f t = rw (k, f) t
 
-  pub row-heartbeat : (n : SequenceNumber) → p ≡ Heartbeat n → TakesRow x r (table r.limit.0 r.next.0 heartbeat n.0 0) → TakesRow x r (row_read r (downstream_words p))
+  pub row-heartbeat : (n : SequenceNumber) → d ≡ Heartbeat n → TakesRow x r (table r.limit.0 r.next.0 heartbeat n.0 0) → TakesRow x r (row_read r (downstream_words p))
   unfolding row_read_at downstream_words table
-  row-heartbeat n f t = rw f t
+  row-heartbeat n f t = rw (k, f) t
 
-  pub row-end-of-session : (n : SequenceNumber) → p ≡ EndOfSession n → TakesRow x r (table r.limit.0 r.next.0 end_of_session n.0 65535)
+  pub row-end-of-session : (n : SequenceNumber) → d ≡ EndOfSession n → TakesRow x r (table r.limit.0 r.next.0 end_of_session n.0 65535)
       → TakesRow x r (row_read r (downstream_words p))
   unfolding row_read_at downstream_words table
-  row-end-of-session n f t = rw f t
+  row-end-of-session n f t = rw (k, f) t
 
 -- a refusal of number 0 that was made up
-pub row-refused : (r : Receiver) (p : Downstream) (y : Refusal) → p ≡ found.Refused y → (downstream_words p).refusal ≡ 0 → TakesRow (stays r (Refused y)) r (row_read r (downstream_words p))
+pub row-refused : (r : Receiver) (p : Result Downstream Refusal) (y : Refusal) → p ≡ Err y → (downstream_words p).refusal ≡ 0 → TakesRow (stays r (Refused y)) r (row_read r (downstream_words p))
 unfolding answer_words row_read_at downstream_words
 row-refused r p y f z = let o : y.number ≡ 0 = rw f at z in rw f (record { answers = rw o; leaves = refl })
 
--- ---- the answer by what was read: k is its refusal
+-- ---- the answer by what was read: s is what checking it gave
 
-module _ (r : Receiver) (l : List ℕ) (p : Downstream) where
-  pub refused-read : (x : Refusal) → x.number ≡ refusal_read r l (downstream_words p) → (x.number ≡ 0 → ⊥)
-      → answer_words (Refused x) ≡ answer_read r l (downstream_words p)
+module _ (r : Receiver) (l : List ℕ) (p : Result Downstream Refusal) (s : Result ⊤ Refusal) (g : s ≡ refused_by (refusal_read r l (downstream_words p))) where
+  pub refused-read : (x : Refusal) → s ≡ Err x → answer_words (Refused x) ≡ answer_read r l (downstream_words p)
   unfolding answer_words answer_read
-  refused-read x e z = rw (← e, ne_eqb _ _ z)
+  refused-read x d = rw (← ground-of s x _ g d, ne_eqb _ _ (λ z. has-ground s x _ g d (sym (ground-of s x _ g d) ∙ z))) refl
 
-  pub refused-kept : (k : ℕ) → k ≡ refusal_read r l (downstream_words p) → (k ≡ 0 → ⊥) → r ≡ after_read r l (downstream_words p)
+  pub refused-kept : (x : Refusal) → s ≡ Err x → r ≡ after_read r l (downstream_words p)
   unfolding after_read
-  refused-kept k e z = rw (← e, ne_eqb _ _ z)
+  refused-kept x d = rw (ne_eqb _ _ (has-ground s x _ g d)) refl
 
-  module _ (k : ℕ) (g : k ≡ refusal_read r l (downstream_words p)) (z : k ≡ 0) where
+  module _ (u : ⊤) (d : s ≡ Ok u) where
+    z : refusal_read r l (downstream_words p) ≡ 0
+    z = checked s u _ g d
+
     -- then the reader refused nothing, and the datagram isn't of another session
     pub well-read : (downstream_words p).refusal ≡ 0
     unfolding refusal_read
-    well-read = go (downstream_words p).refusal _ (sym g ∙ z)
+    well-read = go (downstream_words p).refusal _ z
       where
         go : (n m : ℕ) → (if eqb n 0 then m else n) ≡ 0 → n ≡ 0
         go n m e = zero_or_not _ n (λ d. d) (λ d. rw (ne_eqb n 0 d) at e)
 
     pub own-session : other_session r l ≡ false
     unfolding refusal_read own_refusal
-    own-session = go (other_session r l) (sym own ∙ sym g ∙ z)
+    own-session = go (other_session r l) (sym own ∙ z)
       where
         own : refusal_read r l (downstream_words p) ≡ own_refusal r l (below_read r (downstream_words p))
         own = rw (eq-eqb _ _ well-read)
@@ -162,11 +166,11 @@ module _ (r : Receiver) (l : List ℕ) (p : Downstream) where
     module _ (q : Receiver) (x : Taken) (n : q ≡ named_by r l) (t : TakesRow x q (row_read q (downstream_words p))) where
       pub read_answer : answer_words x.answer ≡ answer_read r l (downstream_words p)
       unfolding answer_read
-      read_answer = rw (← g, z, ← row_same (downstream_words p).which) (rw n at t.answers)
+      read_answer = rw (z, ← row_same (downstream_words p).which) (rw n at t.answers)
 
       pub read-after : x.receiver ≡ after_read r l (downstream_words p)
       unfolding after_read
-      read-after = rw (← g, z, ← row_same (downstream_words p).which) (rw n at t.leaves)
+      read-after = rw (z, ← row_same (downstream_words p).which) (rw n at t.leaves)
 
 -- ---- the answer to a datagram, refused or not
 

@@ -1,5 +1,6 @@
 // What a deliver answer delivers, visited in one walk.
 #![tactic(auto, using(crate::proofs::Rules::deliveries))]
+
 ghost use Rattle.std.specs.Prelude.{◌≡◌};
 ghost use Rattle.receiver.specs.Delivery.{delivery_cursor, DeliveryVisits};
 

@@ -1,8 +1,10 @@
 // The receiver's start, and its taking of a datagram.
 #![tactic(auto, using(crate::proofs::Rules::found, crate::proofs::Rules::ladder, crate::proofs::Rules::names, crate::proofs::Rules::rows))]
+
 ghost use Rattle.std.specs.Prelude.{◌≡◌, false};
 ghost use Rattle.wire.specs.Refusals.{bad_setting};
 ghost use Rattle.moldudp64.specs.Header.{end_count};
+ghost use Rattle.wire.specs.Words.{refused_by};
 ghost use Rattle.moldudp64.specs.Downstream.{data_packet, heartbeat, end_of_session, downstream_words};
 ghost use Rattle.receiver.specs.Table.{ask_outcome, table, numbered};
 ghost use Rattle.receiver.specs.Receiver.{receiver, refused_receiver, unnamed, named_by, other_session, open_for};
@@ -23,7 +25,7 @@ use wire::{compare, kinds, parts, refusal};
 const LAST_OF_NAME: usize = SESSION_SIZE - 1;
 
 // The number stands in front of the name, so that no padding is copied between them.
-#[derive(Clone, Copy)]
+#[derive(Clone, Copy, Debug, PartialEq, Eq)]
 pub struct Receiver {
     // The number of the next message to deliver.
     pub next: SequenceNumber,
@@ -35,7 +37,7 @@ pub struct Receiver {
 }
 
 // What the receiver answers to a datagram.
-#[derive(Clone, Copy)]
+#[derive(Clone, Copy, Debug, PartialEq, Eq)]
 pub enum Answer {
     // Messages to deliver: the number of the first, how many, and the place of the first in its datagram, which is how
     // many are skipped before it.
@@ -56,14 +58,14 @@ pub enum Answer {
 }
 
 // The answer to a datagram, and the receiver to use next.
-#[derive(Clone, Copy)]
+#[derive(Clone, Copy, Debug, PartialEq, Eq)]
 pub struct Taken {
     pub answer: Answer,
     pub receiver: Receiver,
 }
 
 // The refusal of a start, its number 0 where there is none, and the receiver.
-#[derive(Clone, Copy)]
+#[derive(Clone, Copy, Debug, PartialEq, Eq)]
 pub struct Started {
     pub refusal: Refusal,
     pub receiver: Receiver,
@@ -84,6 +86,21 @@ fn refused_start() -> Started
     }
 }
 
+// What the reader refused. One of number 0, which was made up, refuses nothing.
+fn check_read(packet: Result<Downstream, Refusal>) -> Result<(), Refusal>
+    ensures { result ≡ refused_by (downstream_words packet).refusal }
+{
+    match packet {
+        Ok(_) => Ok(()),
+        Err(refused) => {
+            if refused.number == 0 {
+                return Ok(());
+            }
+            Err(refused)
+        }
+    }
+}
+
 impl Receiver {
     // The settings that a start takes: the smallest and largest number, the smallest and largest asking limit.
     pub const LEAST_NUMBER: SequenceNumber = kinds::LEAST_NUMBER;
@@ -95,6 +112,7 @@ impl Receiver {
     pub const LARGEST_LIMIT: MessageCount = kinds::LARGEST_LIMIT;
 
     // A fresh receiver, or the refusal 19. A blank name, ten spaces, is learned from the first accepted datagram.
+    #[tactic(auto, using(crate::proofs::Rules::starts))]
     pub fn new(session: [u8; SESSION_SIZE], next: SequenceNumber, limit: MessageCount) -> Started
         ensures starts { Starts result session next.0 limit.0 }
         ensures condition_3 { Condition3 }
@@ -103,16 +121,10 @@ impl Receiver {
         ensures not_weak { NotWeak }
         ensures calls { CallsDeliverTrue }
     {
-        if next < Receiver::LEAST_NUMBER {
+        if next < Receiver::LEAST_NUMBER || Receiver::LARGEST_NUMBER < next {
             return refused_start();
         }
-        if Receiver::LARGEST_NUMBER < next {
-            return refused_start();
-        }
-        if limit < Receiver::LEAST_LIMIT {
-            return refused_start();
-        }
-        if Receiver::LARGEST_LIMIT < limit {
+        if limit < Receiver::LEAST_LIMIT || Receiver::LARGEST_LIMIT < limit {
             return refused_start();
         }
         Started {
@@ -127,6 +139,7 @@ impl Receiver {
     }
 
     // Takes a datagram, with one walk over its blocks: the table works on what the reader found.
+    #[tactic(auto, using(crate::proofs::Rules::wholes))]
     pub fn take(self, datagram: &[u8]) -> Taken
         ensures takes { Takes result self datagram.now }
         ensures promises { ReceiverPromises }
@@ -136,12 +149,12 @@ impl Receiver {
 
     // The same by what was read, so that a caller can look at that before it has a receiver. It may be made up, or of
     // another datagram than the one whose session is compared and taken: condition 3 is about a datagram's own reading.
-    pub fn take_read(self, packet: Downstream, datagram: &[u8]) -> Taken
+    #[tactic(auto, using(crate::proofs::Rules::takes))]
+    pub fn take_read(self, packet: Result<Downstream, Refusal>, datagram: &[u8]) -> Taken
         ensures takes_read { TakesRead result self datagram.now (downstream_words packet) }
         ensures as_whole { ReadAsWhole }
     {
-        let refused = self.refusal_for(packet, datagram);
-        if refused.number != 0 {
+        if let Err(refused) = self.check(packet, datagram) {
             return Taken {
                 answer: Answer::Refused(refused),
                 receiver: self,
@@ -150,35 +163,32 @@ impl Receiver {
         self.named_by(datagram).take_row(packet)
     }
 
-    // What the reader refused, or 17, 18, 20, or 0. The session is compared once, for every kind of packet.
-    pub fn refusal_for(self, packet: Downstream, datagram: &[u8]) -> Refusal
-        ensures { result.number ≡ refusal_read self datagram.now (downstream_words packet) }
+    // What the reader refused, or 17, 18, 20. The session is compared once, for every kind of packet.
+    pub fn check(self, packet: Result<Downstream, Refusal>, datagram: &[u8]) -> Result<(), Refusal>
+        ensures { result ≡ refused_by (refusal_read self datagram.now (downstream_words packet)) }
     {
-        let refused = downstream::refusal_in(packet);
-        if refused.number != 0 {
-            return refused;
-        }
+        check_read(packet)?;
         if self.is_other_session(datagram) {
-            return refusal::SESSION_DIFFERS;
+            return Err(refusal::SESSION_DIFFERS);
         }
         if self.ended {
-            return refusal::SESSION_ENDED;
+            return Err(refusal::SESSION_ENDED);
         }
         if self.ends_below(packet) {
-            return refusal::END_BELOW_EXPECTED;
+            return Err(refusal::END_BELOW_EXPECTED);
         }
-        refusal::NONE
+        Ok(())
     }
 
     // Whether it is an end of session below the expected number.
-    fn ends_below(self, packet: Downstream) -> bool
+    fn ends_below(self, packet: Result<Downstream, Refusal>) -> bool
         ensures { result ≡ below_read self (downstream_words packet) }
     {
         match packet {
-            Downstream::EndOfSession { next } => next < self.next,
-            Downstream::Data { first: _, count: _ } => false,
-            Downstream::Heartbeat { next: _ } => false,
-            Downstream::Refused(_) => false,
+            Ok(Downstream::EndOfSession { next }) => next < self.next,
+            Ok(Downstream::Data { .. }) => false,
+            Ok(Downstream::Heartbeat { .. }) => false,
+            Err(_) => false,
         }
     }
 
@@ -240,15 +250,15 @@ impl Receiver {
     }
 
     // The row for what was read. A refusal of number 0, which no reader gives, is handed up.
-    fn take_row(self, packet: Downstream) -> Taken
+    fn take_row(self, packet: Result<Downstream, Refusal>) -> Taken
         requires { (downstream_words packet).refusal ≡ 0 }
         ensures { TakesRow result self (row_read self (downstream_words packet)) }
     {
         match packet {
-            Downstream::Data { first, count } => self.take_data(first, count),
-            Downstream::Heartbeat { next } => self.take_heartbeat(next),
-            Downstream::EndOfSession { next } => self.take_end(next),
-            Downstream::Refused(r) => Taken {
+            Ok(Downstream::Data { first, count }) => self.take_data(first, count),
+            Ok(Downstream::Heartbeat { next }) => self.take_heartbeat(next),
+            Ok(Downstream::EndOfSession { next }) => self.take_end(next),
+            Err(r) => Taken {
                 answer: Answer::Refused(r),
                 receiver: self,
             },

@@ -1,5 +1,7 @@
 -- What the tests of the kinds tell, as code that has t as a test's answer.
-use Prim.Native.Nat.{ℕ, ◌+◌, ◌-◌, ◌≤◌, ◌<◌}
+use Prim.Native.Nat.{ℕ, ◌+◌, ◌-◌, ◌≤◌, ◌<◌, min}
+use Rattle.std.proofs.Common.{is_lt, nat_cmp}
+use Rattle.std.specs.Prelude.{if◌then◌else◌}
 use native.Mathlib.Omega.{arith}
 use mathlib.Core.Path.{◌≡◌, sym, ◌∙◌}
 use mathlib.Core.Bool.{Bool, true, false, not}
@@ -19,6 +21,17 @@ module _ (a b : ℕ) (t : Bool) where
   pub below-not : t ≡ ltb a b → t ≡ false → b ≤ a
   below-not e h = ltb-false a b (sym e ∙ h)
 
+-- the order of a kind is that of its numbers
+module _ (a b : ℕ) (t : Bool) (e : t ≡ is_lt (nat_cmp a b)) where
+  pub less-so : t ≡ true → a < b
+  less-so h = let f : true ≡ is_lt (nat_cmp a b) = sym h ∙ e in grind arith
+
+  pub less-not : t ≡ false → b ≤ a
+  less-not h = let f : false ≡ is_lt (nat_cmp a b) = sym h ∙ e in grind arith
+
+pub smaller-so : (a b n : ℕ) → n ≡ (if is_lt (nat_cmp b a) then b else a) → n ≡ min a b
+smaller-so a b n e = grind arith
+
 module _ (n : ℕ) (t : Bool) where
   pub some_left : t ≡ eqb n 0 → not t ≡ true → 0 < n
   some_left e h = let z = eqb-false n 0 (sym e ∙ not-true t h) in omega arith
@@ -37,4 +50,4 @@ module _ (a b m : ℕ) (t : Bool) where
   pub room-so : t ≡ leb (a + b) m → not t ≡ false → a + b ≤ m
   room-so e h = leb-true (a + b) m (sym e ∙ not-false t h)
 
-pub ruleset tests = (equal-so, equal-not, below-so, below-not, some_left, none_left, fewer-left, room-not, room-so)
+pub ruleset tests = (equal-so, equal-not, below-so, below-not, less-so, less-not, some_left, none_left, fewer-left, room-not, room-so)
