@@ -221,15 +221,15 @@ slot-fits i j e = record { fits = omega arith }
 pub length-fits : (i j : ℕ) → i ≡ j % 64 → Fits w64 (i * 2)
 length-fits i j e = record { fits = omega arith }
 
-pub store-done : (r : EarlyReceiver) (k l s t m : List ℕ) (j i p : ℕ) (y : Written) (h : Held) → keeps r j (length m) ≡ true → i ≡ j % 64
-    → t ≡ put s (i * 1024) m → Writes y k l 0 (i * 2) (bytes 2 (length m)) → p ≡ min 65535 (j - next_of r - 1) → h.0 ≡ marked r.held.0 p
+pub store-done : (r : EarlyReceiver) (k l s t m : List ℕ) (j i p : ℕ) (h : Held) → keeps r j (length m) ≡ true → i ≡ j % 64
+    → t ≡ put s (i * 1024) m → l ≡ put k (i * 2) (bytes 2 (length m)) → p ≡ min 65535 (j - next_of r - 1) → h.0 ≡ marked r.held.0 p
     → lent (early r.base h.0) l t ≡ keep (lent r k s) j m
 unfolding keep
-store-done r k l s t m j i p y h e d f g q o =
+store-done r k l s t m j i p h e d f g q o =
     let a = (keepable r j (length m) e).near in
     let z : p ≡ j - next_of r - 1 = omega arith in
     let n : h.0 ≡ marked r.held.0 (j - next_of r - 1) = o ∙ rw z refl in
-    rw (f, g.leaves, d, ← n) refl
+    rw (f, g, d, ← n) refl
 
 module _ (r : EarlyReceiver) (k s : List ℕ) (j : ℕ) (m : List ℕ) (b : Bool) (e : b ≡ keeps r j (length m)) where
   pub one_kept : (h : Held) (l t : List ℕ) → b ≡ true → lent (early r.base h.0) l t ≡ keep (lent r k s) j m
@@ -243,9 +243,6 @@ module _ (r : EarlyReceiver) (k s : List ℕ) (j : ℕ) (m : List ℕ) (b : Bool
 
   pub one-asks : b ≡ true → keeps r j (length m) ≡ true
   one-asks f = sym e ∙ f
-
-pub put-length : (s t m : List ℕ) (x : Written) (at : ℕ) → Writes x s t 0 at m → length t ≡ length s
-put-length s t m x at p = ap length p.leaves ∙ length-put s at m
 
 pub laid-length : (s t m : List ℕ) (at : ℕ) → t ≡ put s at m → length t ≡ length s
 laid-length s t m at e = ap length e ∙ length-put s at m

@@ -1,10 +1,8 @@
 // A message kept in its slot, and how far the expected number moves.
-#![tactic(auto, using(crate::proofs::Rules::copies, crate::proofs::Rules::moves, crate::proofs::Rules::places, crate::proofs::Rules::stores))]
-ghost use Rattle.std.specs.Prelude.{◌≡◌, true, ◌+◌, ◌-◌, ◌<◌, ◌≤◌, min, length, take};
-ghost use Rattle.wire.specs.Output.{put};
+#![tactic(auto, using(crate::proofs::Rules::moves, crate::proofs::Rules::places, crate::proofs::Rules::stores))]
+ghost use Rattle.std.specs.Prelude.{◌≡◌, true, ◌+◌, ◌-◌, ◌<◌, ◌≤◌, min, length};
 ghost use Rattle.wire.specs.Bounds.{largest_count};
-ghost use Rattle.early_holding.specs.Holding.{slot_of, lent, early, is_held, keeps, keep, keep_one, move_to, eight_at};
-ghost use Rattle.early_holding.specs.Holding.{eight_of};
+ghost use Rattle.early_holding.specs.Holding.{slot_of, lent, early, is_held, keeps, keep, keep_one, move_to};
 
 use early_word::Held;
 use receiver::receiver::Receiver;
@@ -22,14 +20,14 @@ pub const SLOT_BYTES: usize = 64 * SLOT_SIZE;
 pub const LENGTH_BYTES: usize = 64 * COUNT_SIZE;
 
 // The plain receiver, and the numbers that are held: the lowest bit stands for the number after the next.
-#[derive(Clone, Copy)]
+#[derive(Clone, Copy, Debug, PartialEq, Eq)]
 pub struct EarlyReceiver {
     pub base: Receiver,
     pub held: Held,
 }
 
 // The expected number and the held numbers, moved on.
-#[derive(Clone, Copy)]
+#[derive(Clone, Copy, Debug, PartialEq, Eq)]
 pub struct Moved {
     pub next: SequenceNumber,
     pub held: Held,
@@ -58,91 +56,20 @@ pub fn slot_of(number: SequenceNumber) -> usize
     (number.0 % 64) as usize
 }
 
-// Eight bytes laid at a place that has room for them.
-fn lay_eight(out: &mut [u8], at: usize, a: u8, b: u8, c: u8, d: u8, e: u8, f: u8, g: u8, h: u8)
-    requires { at + 8 ≤ length out.old }
-    ensures { out.new ≡ eight_at out.old at a b c d e f g h }
-{
-    out[at] = a;
-    out[at + 1] = b;
-    out[at + 2] = c;
-    out[at + 3] = d;
-    out[at + 4] = e;
-    out[at + 5] = f;
-    out[at + 6] = g;
-    out[at + 7] = h;
-}
-
-// Eight bytes of a source laid as far behind a place as they stand in it. All are read before one is laid, which the
-// compiler makes one move of a word: it doesn't know that slots and datagram are apart.
-fn copy_eight(out: &mut [u8], at: usize, src: &[u8], i: usize)
-    requires { (at + i + 8 ≤ length out.old) × (i + 8 ≤ length src.now) }
-    ensures { out.new ≡ eight_of out.old (at + i) src.now i }
-{
-    lay_eight(
-        out,
-        at + i,
-        src[i],
-        src[i + 1],
-        src[i + 2],
-        src[i + 3],
-        src[i + 4],
-        src[i + 5],
-        src[i + 6],
-        src[i + 7],
-    );
-}
-
-// Bytes laid at a place that has room for them, as many as eights make; how many were laid.
-fn copy_by_eight(out: &mut [u8], at: usize, src: &[u8]) -> usize
-    requires { at + length src.now ≤ length out.old }
-    ensures { (result ≤ length src.now)
-        × (out.new ≡ put out.old at (take result src.now)) }
-{
-    let mut i: usize = 0;
-    while 8 <= src.len() - i {
-        copy_eight(out, at, src, i);
-        i += 8;
-    }
-    i
-}
-
-// Bytes laid at a place, where there is room.
-fn copy(out: &mut [u8], at: usize, src: &[u8])
-    ensures { out.new ≡ put out.old at src.now }
-{
-    if out.len() < at {
-        return;
-    }
-    if out.len() - at < src.len() {
-        return;
-    }
-    let laid = copy_by_eight(out, at, src);
-    output::lay(out, ByteOffset(at + laid), &src[laid..]);
-}
-
 impl EarlyReceiver {
     // How far a number above the expected one lies from the one after that: its place in the word.
     fn place_of(self, number: SequenceNumber) -> MessagePlace
         requires { self.base.next.0 < number.0 }
         ensures { result.0 ≡ min largest_count (number.0 - self.base.next.0 - 1) }
     {
-        let base = self.base;
-        let next = base.next;
-        next.plus(MessageCount(1)).place_of(number)
+        self.base.next.plus(MessageCount(1)).place_of(number)
     }
 
     // Whether a number is held.
     pub fn holds(self, number: SequenceNumber) -> bool
         ensures { result ≡ is_held self number.0 }
     {
-        let base = self.base;
-        let next = base.next;
-        if next >= number {
-            return false;
-        }
-        let held = self.held;
-        held.has(self.place_of(number))
+        self.base.next < number && self.held.has(self.place_of(number))
     }
 
     // Whether a message of this number and length is to be kept: not too long, not too far, and not held already.
@@ -150,20 +77,15 @@ impl EarlyReceiver {
     fn keeps(self, number: SequenceNumber, size: usize) -> bool
         ensures { result ≡ keeps self number.0 size }
     {
-        let base = self.base;
-        let next = base.next;
-        if next >= number {
-            return false;
-        }
-        if SLOT_SIZE < size {
+        if self.base.next >= number || SLOT_SIZE < size {
             return false;
         }
         let place = self.place_of(number);
-        if place.before() >= SLOTS {
+        let distance = place.before();
+        if distance >= SLOTS {
             return false;
         }
-        let held = self.held;
-        !held.has(place)
+        !self.held.has(place)
     }
 
     // A message laid from the first byte of its slot, its length noted and its number marked.
@@ -179,10 +101,9 @@ impl EarlyReceiver {
             ≡ keep (lent self lengths.old slots.old) number.0 message.now }
     {
         let slot = slot_of(number);
-        copy(slots, slot * SLOT_SIZE, message);
+        output::lay(slots, ByteOffset(slot * SLOT_SIZE), message);
         output::lay16(lengths, ByteOffset(slot * COUNT_SIZE), message.len() as u16);
-        let held = self.held;
-        held.marked(self.place_of(number))
+        self.held.marked(self.place_of(number))
     }
 
     // One message that isn't the expected one, kept or left: the numbers that are held then. Where the slots are too

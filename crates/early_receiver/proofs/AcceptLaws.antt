@@ -1,4 +1,5 @@
 -- Laws of an accepted datagram as `accept` has them: what each answer of the plain receiver comes to.
+use Rattle.std.specs.Prelude.{Result, Ok, Err, ⊤}
 use mathlib.Core.Path.{◌≡◌, refl, sym, ap, ap₂, ◌∙◌}
 use mathlib.Core.List.{List, [], ◌∷◌}
 use mathlib.Core.Bool.{true, false}
@@ -35,7 +36,7 @@ use Rattle.early_receiver.proofs.ArmLaws.{tag, Reached, Left, Above, Over, Arm, 
 
 -- a is the plain receiver's answer, and m that receiver after it
 
-module _ (r : EarlyReceiver) (ks ss l : List ℕ) (p : Downstream) (a : Plain) (m : Receiver)
+module _ (r : EarlyReceiver) (ks ss l : List ℕ) (p : Result Downstream Refusal) (a : Plain) (m : Receiver)
     (e : refusal_read r.base l (downstream_words p) ≡ 0) (g : answer_words a ≡ (row_read r.base (downstream_words p)).reply)
     (h : m ≡ after_row (named_by r.base l) (row_read r.base (downstream_words p))) where
   abbrev w : Words DownstreamKind

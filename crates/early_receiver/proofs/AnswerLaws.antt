@@ -22,8 +22,11 @@ use Rattle.early_holding.specs.declared.holding.EarlyReceiver.{EarlyReceiver}
 use Rattle.early_holding.specs.Holding.{early, next_of}
 use Rattle.early_receiver.specs.declared.early.Answer.{Answer}
 use Rattle.early_receiver.specs.declared.early.Answer.TheVariants.{Ended}
-use Rattle.early_receiver.specs.declared.early.Request.{Request}
-use Rattle.early_receiver.specs.declared.early.Request.TheVariants.{Nothing, Ask}
+use Rattle.std.specs.Prelude.{Option, Result, Ok, Err, ⊤}
+use Rattle.wire.specs.Words.{refused_by}
+use Rattle.wire.proofs.Refusing.{passes, refuses-by, checked, ground-of, has-ground}
+use Rattle.early_receiver.specs.declared.early.Ask.{Ask}
+use Rattle.std.specs.Prelude.{Some, None}
 use Rattle.early_receiver.specs.declared.early.Taken.{Taken}
 use Rattle.early_receiver.specs.Answers.{request_words}
 use Rattle.early_receiver.specs.Early.{with_slots, wanted_to, wanted}
@@ -32,48 +35,59 @@ use Rattle.early_receiver.specs.Steps.{Stays}
 -- ---- the plain receiver's refusal
 
 module _ (a : Plain) where
-  pub in-deliver : (f : SequenceNumber) (c : MessageCount) (s : MessagePlace) → a ≡ plain.Deliver f c s → 0 ≡ (answer_words a).refusal
+  pub in-deliver : (f : SequenceNumber) (c : MessageCount) (s : MessagePlace) → a ≡ plain.Deliver f c s → Ok tt ≡ refused_by (answer_words a).refusal
   unfolding answer_words
-  in-deliver f c s e = rw e
+  in-deliver f c s e = passes _ (rw e refl)
 
-  pub in-old : a ≡ plain.Old → 0 ≡ (answer_words a).refusal
+  pub in-old : a ≡ plain.Old → Ok tt ≡ refused_by (answer_words a).refusal
   unfolding answer_words
-  in-old e = rw e
+  in-old e = passes _ (rw e refl)
 
-  pub in-quiet : a ≡ plain.Quiet → 0 ≡ (answer_words a).refusal
+  pub in-quiet : a ≡ plain.Quiet → Ok tt ≡ refused_by (answer_words a).refusal
   unfolding answer_words
-  in-quiet e = rw e
+  in-quiet e = passes _ (rw e refl)
 
-  pub in-ask : (f : SequenceNumber) (c : MessageCount) → a ≡ plain.Ask f c → 0 ≡ (answer_words a).refusal
+  pub in-ask : (f : SequenceNumber) (c : MessageCount) → a ≡ plain.Ask f c → Ok tt ≡ refused_by (answer_words a).refusal
   unfolding answer_words
-  in-ask f c e = rw e
+  in-ask f c e = passes _ (rw e refl)
 
-  pub in-ended : a ≡ plain.Ended → 0 ≡ (answer_words a).refusal
+  pub in-ended : a ≡ plain.Ended → Ok tt ≡ refused_by (answer_words a).refusal
   unfolding answer_words
-  in-ended e = rw e
+  in-ended e = passes _ (rw e refl)
 
-  pub in-refused : (r : Refusal) → a ≡ plain.Refused r → r.number ≡ (answer_words a).refusal
+  pub in-made-up : (r : Refusal) → a ≡ plain.Refused r → r.number ≡ 0 → Ok tt ≡ refused_by (answer_words a).refusal
   unfolding answer_words
-  in-refused r e = rw e
+  in-made-up r e z = passes _ (rw (e, z) refl)
 
--- ---- 19 before 20
+  pub in-refused : (r : Refusal) → a ≡ plain.Refused r → (r.number ≡ 0 → ⊥) → Err r ≡ refused_by (answer_words a).refusal
+  unfolding answer_words
+  in-refused r e z = refuses-by _ r (rw e refl) (ne_eqb _ _ z)
 
-module _ (b : Bool) (k : ℕ) where
-  pub slots-right : b ≡ true → k ≡ with_slots b k
+-- ---- 19 before 20: f is what was found
+
+module _ (b : Bool) (f : Result ⊤ Refusal) where
+  pub slots-right : b ≡ true → (k : ℕ) → f ≡ refused_by k → f ≡ refused_by (with_slots b k)
   unfolding with_slots
-  slots-right e = rw e
+  slots-right e k g = g ∙ rw e refl
 
-  pub slots-none : b ≡ false → k ≡ 0 → 19 ≡ with_slots b k
+  pub slots-none : b ≡ false → (u : ⊤) → f ≡ Ok u → (k : ℕ) → f ≡ refused_by k → Err (record { number = 19 }) ≡ refused_by (with_slots b k)
   unfolding with_slots
-  slots-none e z = rw (e, eq-eqb _ _ z)
+  slots-none e u d k g = let z = checked f u k g d in refuses-by _ _ (rw (e, eq-eqb _ _ z) refl) refl
 
-  pub slots-above : b ≡ false → (k ≡ 0 → ⊥) → 19 < k → 19 ≡ with_slots b k
+  pub slots-above : b ≡ false → (r : Refusal) → f ≡ Err r → 19 < r.number → (k : ℕ) → f ≡ refused_by k
+      → Err (record { number = 19 }) ≡ refused_by (with_slots b k)
   unfolding with_slots
-  slots-above e z h = rw (e, ne_eqb _ _ z, lt-ltb _ _ h)
+  slots-above e r d h k g =
+      let n = ground-of f r k g d in
+      let i : 19 < k = omega arith in
+      refuses-by _ _ (rw (e, ne_eqb _ _ (has-ground f r k g d), lt-ltb _ _ i) refl) refl
 
-  pub slots-below : b ≡ false → (k ≡ 0 → ⊥) → k ≤ 19 → k ≡ with_slots b k
+  pub slots-below : b ≡ false → (r : Refusal) → f ≡ Err r → r.number ≤ 19 → (k : ℕ) → f ≡ refused_by k → f ≡ refused_by (with_slots b k)
   unfolding with_slots
-  slots-below e z h = rw (e, ne_eqb _ _ z, le-ltb _ _ h)
+  slots-below e r d h k g =
+      let n = ground-of f r k g d in
+      let i : k ≤ 19 = omega arith in
+      g ∙ rw (e, ne_eqb _ _ (has-ground f r k g d), le-ltb _ _ i) refl
 
 -- no refusal with the slots: they are right, and there is none without them
 pub slots-open : (b : Bool) (k : ℕ) → with_slots b k ≡ 0 → (b ≡ true) × (k ≡ 0)
@@ -96,23 +110,23 @@ pub lowest-fits : (h k : ℕ) → k ≡ lowest h → Fits w16 (k + 1)
 lowest-fits h k e = record { fits = omega (arith, zeros-le 64 h) }
 
 -- an ended receiver asks for nothing
-pub wants-ended : (r : EarlyReceiver) (f : ℕ) → r.base.ended ≡ true → request_words Nothing ≡ wanted r f
+pub wants-ended : (r : EarlyReceiver) (f : ℕ) → r.base.ended ≡ true → request_words None ≡ wanted r f
 unfolding request_words wanted
 wants-ended r f e = rw e
 
 module _ (r : EarlyReceiver) (f : ℕ) (e : r.base.ended ≡ false) where
-  pub wants-none : r.held.0 ≡ 0 → f ≤ next_of r → request_words Nothing ≡ wanted r f
+  pub wants-none : r.held.0 ≡ 0 → f ≤ next_of r → request_words None ≡ wanted r f
   unfolding request_words wanted wanted_to
   wants-none z h = rw (e, eq-eqb _ _ z, le-ltb _ _ h)
 
-  pub wants-ahead : (q : Request) (g : ℕ) → r.held.0 ≡ 0 → next_of r < f → Fits w16 r.base.limit.0 → g ≡ min 65535 (f - next_of r)
+  pub wants-ahead : (q : Option Ask) (g : ℕ) → r.held.0 ≡ 0 → next_of r < f → Fits w16 r.base.limit.0 → g ≡ min 65535 (f - next_of r)
       → request_words q ≡ next_of r ∷ min g r.base.limit.0 ∷ [] → request_words q ≡ wanted r f
   unfolding wanted wanted_to
   wants-ahead q g z h s d w =
       let m : min (f - next_of r) r.base.limit.0 ≡ min g r.base.limit.0 = omega arith in
       rw (e, eq-eqb _ _ z, lt-ltb _ _ h, m) w
 
-  pub wants-held : (q : Request) (k : ℕ) → (r.held.0 ≡ 0 → ⊥) → k ≡ lowest r.held.0 → request_words q ≡ next_of r ∷ min (k + 1) r.base.limit.0 ∷ []
+  pub wants-held : (q : Option Ask) (k : ℕ) → (r.held.0 ≡ 0 → ⊥) → k ≡ lowest r.held.0 → request_words q ≡ next_of r ∷ min (k + 1) r.base.limit.0 ∷ []
       → request_words q ≡ wanted r f
   unfolding wanted wanted_to
   wants-held q k z o w =
@@ -126,7 +140,7 @@ unfolding wanted wanted_to
 wants-same r f g z = rw (ne_eqb _ _ z)
 
 -- as code that has no number above the expected one
-pub wants-nothing : (r : EarlyReceiver) → r.base.ended ≡ false → r.held.0 ≡ 0 → request_words Nothing ≡ wanted r 0
+pub wants-nothing : (r : EarlyReceiver) → r.base.ended ≡ false → r.held.0 ≡ 0 → request_words None ≡ wanted r 0
 wants-nothing r e z = wants-none r 0 e z (omega arith)
 
 pub no_number : (r : EarlyReceiver) (f : ℕ) → f ≤ next_of r → wanted r 0 ≡ wanted r f
@@ -143,7 +157,7 @@ no_number r f h = go (eqb r.held.0 0)
 
 -- ---- as `stay`, `end` and `ahead_of` have them
 
-pub ends_so : (r : EarlyReceiver) → r.base.ended ≡ true → Stays (record { answer = Ended; request = Nothing; receiver = early r.base 0 }) (early r.base 0) Ended 0
+pub ends_so : (r : EarlyReceiver) → r.base.ended ≡ true → Stays (record { answer = Ended; request = None; receiver = early r.base 0 }) (early r.base 0) Ended 0
 ends_so r e = record { answers = refl; asks = wants-ended (early r.base 0) 0 e; leaves = refl }
 
 pub ahead-held : (r : EarlyReceiver) (f : ℕ) (x : Taken) (a : Answer) → (r.held.0 ≡ 0 → ⊥) → Stays x r a 0 → Stays x r a f

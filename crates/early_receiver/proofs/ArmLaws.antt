@@ -1,4 +1,6 @@
 -- Laws of the answers to an accepted datagram: which of the table's rows each is, and what the datagram then does.
+use Rattle.wire.specs.declared.refusal.Refusal.{Refusal}
+use Rattle.std.specs.Prelude.{Result, Ok, Err, ⊤}
 use mathlib.Core.Path.{◌≡◌, refl, ap, ◌∙◌}
 use mathlib.Core.List.{List}
 use mathlib.Core.Bool.{Bool, true, false}
@@ -130,20 +132,20 @@ module _ (r : Receiver) (l : List ℕ) where
       go true q z = (own-none r l _ z).unended
       go false q z = absurd (eqb-false _ _ q z)
 
-  not-below : (f : SequenceNumber) → refusal_read r l (downstream_words (EndOfSession f)) ≡ 0 → r.next.0 ≤ f.0
+  not-below : (f : SequenceNumber) → refusal_read r l (downstream_words (Ok (EndOfSession f))) ≡ 0 → r.next.0 ≤ f.0
   unfolding refusal_read downstream_words below_read_at end_below
   not-below f e = ltb-false _ _ (own-none r l _ e).no_end
 
-  pub arm-of : (p : Downstream) → refusal_read r l (downstream_words p) ≡ 0
+  pub arm-of : (p : Result Downstream Refusal) → refusal_read r l (downstream_words p) ≡ 0
       → Arm r.limit.0 r.next.0 l (downstream_words p) (row_read r (downstream_words p))
   unfolding downstream_words row_read_at take_read_at tag
-  arm-of (Data f c) e =
+  arm-of (Ok (Data f c)) e =
       by_row _ _ l _ data_packet _ refl
       (rows r.limit.0 r.next.0 f.0 (numbered f.0 c.0) data_packet (λ z. let k : ◌≡◌ {A = ℕ} 0 1 = cc in absurd (omega arith)))
-  arm-of (Heartbeat f) e =
+  arm-of (Ok (Heartbeat f)) e =
       by_row _ _ l _ heartbeat _ refl
       (rows r.limit.0 r.next.0 f.0 (numbered f.0 0) heartbeat (λ z. let k : ◌≡◌ {A = ℕ} 0 1 = cc in absurd (omega arith)))
-  arm-of (EndOfSession f) e =
+  arm-of (Ok (EndOfSession f)) e =
       by_row _ _ l _ end_of_session _ refl
       (rows r.limit.0 r.next.0 f.0 (numbered f.0 0) end_of_session (λ z. not-below f e))
-  arm-of (found.Refused y) e = left (record { begins = omega arith; next = refl; goes_on = refl; same = λ s z. refl }) refl
+  arm-of (Err y) e = left (record { begins = omega arith; next = refl; goes_on = refl; same = λ s z. refl }) refl

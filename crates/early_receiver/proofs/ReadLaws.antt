@@ -1,4 +1,5 @@
 -- What the reader finds in a datagram is answered as the datagram is; and the refusals, as `take_read` has them.
+use Rattle.std.specs.Prelude.{Result, Ok, Err, ⊤}
 use mathlib.Core.Path.{◌≡◌, refl, sym, ap, ◌∙◌}
 use mathlib.Core.List.{List, [], ◌∷◌}
 use mathlib.Core.Bool.{Bool, false, ◌&&◌}
@@ -24,9 +25,11 @@ use Rattle.receiver.proofs.ReadLaws.{refused-read, refuses-it, reads, count-of, 
 use Rattle.early_holding.specs.declared.holding.EarlyReceiver.{EarlyReceiver}
 use Rattle.early_holding.specs.Holding.{Lent, lent}
 use Rattle.early_receiver.specs.declared.early.Answer.TheVariants.{Refused}
-use Rattle.early_receiver.specs.declared.early.Request.TheVariants.{Nothing}
+use Rattle.std.specs.Prelude.{None}
 use Rattle.early_receiver.specs.declared.early.Taken.{Taken}
 use Rattle.early_receiver.specs.Answers.{early_words, request_words}
+use Rattle.wire.specs.Words.{refused_by}
+use Rattle.wire.proofs.Refusing.{checked, ground-of, has-ground}
 use Rattle.early_receiver.specs.Early.{right_size, with_slots, early_refusal, named_lent, take_kind, lent_after, request_of, early_answer, TakesEarly}
 use Rattle.early_receiver.specs.Read.{messages_from_cursor, messages_read, early_refusal_read, take_read_at, lent_after_read, request_read, early_answer_read, EarlyReadAsWhole, TakesEarlyRead}
 use Rattle.early_receiver.specs.Steps.{Accepts}
@@ -114,7 +117,7 @@ early-read-as-whole =
       leaves = λ s l. by-reader s.receiver.base l (bad-after s l) (well-after s l);
     }
 
-pub whole_takes : (x : Taken) (ls ss : List ℕ) (s : Lent) (l : List ℕ) (p : Downstream) → downstream_words p ≡ downstream_of l
+pub whole_takes : (x : Taken) (ls ss : List ℕ) (s : Lent) (l : List ℕ) (p : Result Downstream Refusal) → downstream_words p ≡ downstream_of l
     → TakesEarlyRead x ls ss s l (downstream_words p) → TakesEarly x ls ss s l
 whole_takes x ls ss s l p e t =
     record {
@@ -130,25 +133,31 @@ unfolding answer_read
 answer-refusal r l w =
     zero_or_not _ (refusal_read r l w) (λ z. rw z (row_open r w w.which)) (λ z. rw (ne_eqb _ _ z))
 
-module _ (r : EarlyReceiver) (ls ss l : List ℕ) (p : Downstream) (y : PlainTaken) (b : Bool) (k x : Refusal)
-    (a : answer_words y.answer ≡ answer_read r.base l (downstream_words p)) (e : k.number ≡ (answer_words y.answer).refusal)
-    (c : b ≡ (eqb (length ss) 65536 && eqb (length ls) 128)) (f : x.number ≡ with_slots b k.number) where
-  k-is : k.number ≡ refusal_read r.base l (downstream_words p)
-  k-is = e ∙ ap (λ (w : Words AnswerKind). w.refusal) a ∙ answer-refusal r.base l (downstream_words p)
+module _ (r : EarlyReceiver) (ls ss l : List ℕ) (p : Result Downstream Refusal) (y : PlainTaken) (b : Bool) (s x : Result ⊤ Refusal)
+    (a : answer_words y.answer ≡ answer_read r.base l (downstream_words p)) (e : s ≡ refused_by (answer_words y.answer).refusal)
+    (c : b ≡ (eqb (length ss) 65536 && eqb (length ls) 128)) (f : (k : ℕ) → s ≡ refused_by k → x ≡ refused_by (with_slots b k)) where
+  k-is : (answer_words y.answer).refusal ≡ refusal_read r.base l (downstream_words p)
+  k-is = ap (λ (w : Words AnswerKind). w.refusal) a ∙ answer-refusal r.base l (downstream_words p)
 
-  x-is : x.number ≡ early_refusal_read (lent r ls ss) l (downstream_words p)
+  x-is : x ≡ refused_by (early_refusal_read (lent r ls ss) l (downstream_words p))
   unfolding early_refusal_read
-  x-is = f ∙ rw (k-is, c)
+  x-is = f _ e ∙ rw (k-is, c) refl
 
-  pub take-refused : (x.number ≡ 0 → ⊥)
-      → TakesEarlyRead (record { answer = Refused x; request = Nothing; receiver = r }) ls ss (lent r ls ss) l (downstream_words p)
+  pub take-refused : (q : Refusal) → x ≡ Err q
+      → TakesEarlyRead (record { answer = Refused q; request = None; receiver = r }) ls ss (lent r ls ss) l (downstream_words p)
   unfolding early_words request_words early_answer_read request_read lent_after_read
-  take-refused z =
-      record { answers = rw (← x-is, ne_eqb _ _ z); asks = rw (← x-is, ne_eqb _ _ z); leaves = rw (← x-is, ne_eqb _ _ z) }
+  take-refused q d =
+      let n = ground-of x q _ x-is d in
+      let z = has-ground x q _ x-is d in
+      record { answers = rw (n, ne_eqb _ _ z) refl; asks = rw (ne_eqb _ _ z) refl; leaves = rw (ne_eqb _ _ z) refl }
 
-  module _ (z : x.number ≡ 0) where
+  module _ (u : ⊤) (d : x ≡ Ok u) where
+    none : early_refusal_read (lent r ls ss) l (downstream_words p) ≡ 0
+    none = checked x u _ x-is d
+
     pub take_open : refusal_read r.base l (downstream_words p) ≡ 0
-    take_open = sym k-is ∙ (slots-open b k.number (sym f ∙ z)).1
+    unfolding early_refusal_read
+    take_open = (slots-open b (refusal_read r.base l (downstream_words p)) (rw (← c) at none)).1
 
     pub take_row : answer_words y.answer ≡ (row_read r.base (downstream_words p)).reply
     unfolding answer_read
@@ -162,6 +171,4 @@ module _ (r : EarlyReceiver) (ls ss l : List ℕ) (p : Downstream) (y : PlainTak
     pub take_done : (v : Taken) (lt st : List ℕ) → Accepts v lt st (lent r ls ss) l (downstream_words p)
         → TakesEarlyRead v lt st (lent r ls ss) l (downstream_words p)
     unfolding early_answer_read request_read lent_after_read
-    take_done v lt st d =
-        let o : early_refusal_read (lent r ls ss) l (downstream_words p) ≡ 0 = sym x-is ∙ z in
-        record { answers = rw o d.answers; asks = rw o d.asks; leaves = rw o d.leaves }
+    take_done v lt st t = record { answers = rw none t.answers; asks = rw none t.asks; leaves = rw none t.leaves }

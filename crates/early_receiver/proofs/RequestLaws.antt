@@ -28,8 +28,9 @@ use Rattle.early_holding.specs.Holding.{Lent, next_of, is_held, number_past, adv
 use Rattle.early_holding.proofs.HoldingLaws.{either}
 use Rattle.early_receiver.specs.declared.early.Answer.{Answer}
 use Rattle.early_receiver.specs.declared.early.Answer.TheVariants.{Deliver, Old, Quiet, Ahead, Ended, Refused}
-use Rattle.early_receiver.specs.declared.early.Request.{Request}
-use Rattle.early_receiver.specs.declared.early.Request.TheVariants.{Nothing, Ask}
+use Rattle.std.specs.Prelude.{Option}
+use Rattle.early_receiver.specs.declared.early.Ask.{Ask}
+use Rattle.std.specs.Prelude.{Some, None}
 use Rattle.early_receiver.specs.Answers.{early_words, request_words}
 use Rattle.early_receiver.specs.Early.{right_size, early_refusal, named_lent, end_at, take_kind, lent_after, wanted_to, wanted, request_of}
 use Rattle.early_receiver.specs.Statements.{EarlyRefusalKeeps, AsksExactlyWhen, CountsAll}
@@ -218,14 +219,14 @@ answers_apart = read_back early_words (λ w. answered w.which w.refusal w.values
     back Ended = refl
     back (Refused r) = refl
 
-requested : List ℕ → Request
-requested [] = Nothing
-requested (n ∷ vs) = Ask (record { 0 = n }) (record { 0 = get_or vs 0 0 })
+requested : List ℕ → Option Ask
+requested [] = None
+requested (n ∷ vs) = Some (record { from = record { 0 = n }; count = record { 0 = get_or vs 0 0 } })
 
 pub requests_apart : Injective request_words
 unfolding request_words requested
 requests_apart = read_back request_words requested back
   where
-    back : (a : Request) → requested (request_words a) ≡ a
-    back Nothing = refl
-    back (Ask n c) = refl
+    back : (a : Option Ask) → requested (request_words a) ≡ a
+    back None = refl
+    back (Some a) = refl

@@ -1,4 +1,5 @@
 -- Laws of what is settled without what is lent: data and heartbeats that aren't ahead, at a receiver of their name.
+use Rattle.std.specs.Prelude.{Result, Ok, Err, ⊤}
 use mathlib.Core.Path.{◌≡◌, refl, sym, ap, ◌∙◌}
 use mathlib.Core.List.{List, []}
 use mathlib.Core.Bool.{Bool, true, false, not, ◌&&◌, true≢false}
@@ -31,6 +32,7 @@ use Rattle.early_holding.proofs.HoldingLaws.{either}
 use Rattle.early_receiver.specs.declared.early.Answer.TheVariants.{Old, Quiet}
 use Rattle.early_receiver.specs.declared.early.Settled.{Settled}
 use Rattle.early_receiver.specs.declared.early.Taken.{Taken}
+use Rattle.wire.specs.Words.{refused_by}
 use Rattle.early_receiver.specs.Early.{with_slots, TakesEarly}
 use Rattle.early_receiver.specs.Read.{early_refusal_read, early_answer_read, request_read, lent_after_read}
 use Rattle.early_receiver.specs.Steps.{Stays, Delivers, Accepts}
@@ -40,49 +42,52 @@ use Rattle.early_receiver.proofs.AcceptLaws as accepts
 
 -- ---- the kind
 
-module _ (p : Downstream) where
-  pub kind-data : (f : SequenceNumber) (c : MessageCount) → p ≡ found.Data f c → true ≡ data_or_beat (downstream_words p).which
-  unfolding data_or_beat downstream_words
-  kind-data f c e = rw e refl
+module _ (p : Result Downstream Refusal) where
+  module _ (d : Downstream) (k : p ≡ Ok d) where
+    pub kind-data : (f : SequenceNumber) (c : MessageCount) → d ≡ found.Data f c → true ≡ data_or_beat (downstream_words p).which
+    unfolding data_or_beat downstream_words
+    kind-data f c e = rw (k, e) refl
 
-  pub kind-beat : (f : SequenceNumber) → p ≡ found.Heartbeat f → true ≡ data_or_beat (downstream_words p).which
-  unfolding data_or_beat downstream_words
-  kind-beat f e = rw e refl
+    pub kind-beat : (f : SequenceNumber) → d ≡ found.Heartbeat f → true ≡ data_or_beat (downstream_words p).which
+    unfolding data_or_beat downstream_words
+    kind-beat f e = rw (k, e) refl
 
-  pub kind-end : (f : SequenceNumber) → p ≡ found.EndOfSession f → false ≡ data_or_beat (downstream_words p).which
-  unfolding data_or_beat downstream_words
-  kind-end f e = rw e refl
+    pub kind-end : (f : SequenceNumber) → d ≡ found.EndOfSession f → false ≡ data_or_beat (downstream_words p).which
+    unfolding data_or_beat downstream_words
+    kind-end f e = rw (k, e) refl
 
-  pub kind-refused : (k : Refusal) → p ≡ found.Refused k → false ≡ data_or_beat (downstream_words p).which
+  pub kind-refused : (k : Refusal) → p ≡ Err k → false ≡ data_or_beat (downstream_words p).which
   unfolding data_or_beat downstream_words
   kind-refused k e = rw e refl
 
   -- ---- its row
 
   module _ (x : PlainTaken) (b : Receiver) where
-    pub here-data : (f : SequenceNumber) (c : MessageCount) → p ≡ found.Data f c
-        → TakesRow x b (table b.limit.0 b.next.0 data_packet f.0 (numbered f.0 c.0)) → RowHere x b (downstream_words p)
-    here-data f c e t z = row-data b p x f c e t
+    module _ (d : Downstream) (k : p ≡ Ok d) where
+      pub here-data : (f : SequenceNumber) (c : MessageCount) → d ≡ found.Data f c
+          → TakesRow x b (table b.limit.0 b.next.0 data_packet f.0 (numbered f.0 c.0)) → RowHere x b (downstream_words p)
+      here-data f c e t z = row-data b p d k x f c e t
 
-    pub here-beat : (f : SequenceNumber) → p ≡ found.Heartbeat f → TakesRow x b (table b.limit.0 b.next.0 heartbeat f.0 0) → RowHere x b (downstream_words p)
-    here-beat f e t z = row-heartbeat b p x f e t
+      pub here-beat : (f : SequenceNumber) → d ≡ found.Heartbeat f → TakesRow x b (table b.limit.0 b.next.0 heartbeat f.0 0) → RowHere x b (downstream_words p)
+      here-beat f e t z = row-heartbeat b p d k x f e t
 
-    pub here_end : (f : SequenceNumber) → p ≡ found.EndOfSession f → RowHere x b (downstream_words p)
-    here_end f e z = absurd (true≢false (sym z ∙ sym (kind-end f e)))
+      pub here_end : (f : SequenceNumber) → d ≡ found.EndOfSession f → RowHere x b (downstream_words p)
+      here_end f e z = absurd (true≢false (sym z ∙ sym (kind-end d k f e)))
 
-    pub here-refused : (k : Refusal) → p ≡ found.Refused k → RowHere x b (downstream_words p)
+    pub here-refused : (k : Refusal) → p ≡ Err k → RowHere x b (downstream_words p)
     here-refused k e z = absurd (true≢false (sym z ∙ sym (kind-refused k e)))
 
 -- ---- a refusal before anything is taken
 
-pub refusal-so : (r : EarlyReceiver) (ls ss l : List ℕ) (p : Downstream) (b : Bool) (k x : Refusal) → b ≡ (eqb (length ss) 65536 && eqb (length ls) 128)
-    → k.number ≡ refusal_read r.base l (downstream_words p) → x.number ≡ with_slots b k.number → x.number ≡ early_refusal_read (lent r ls ss) l (downstream_words p)
+pub refusal-so : (r : EarlyReceiver) (ls ss l : List ℕ) (p : Result Downstream Refusal) (b : Bool) (s x : Result ⊤ Refusal)
+    → b ≡ (eqb (length ss) 65536 && eqb (length ls) 128) → s ≡ refused_by (refusal_read r.base l (downstream_words p))
+    → ((k : ℕ) → s ≡ refused_by k → x ≡ refused_by (with_slots b k)) → x ≡ refused_by (early_refusal_read (lent r ls ss) l (downstream_words p))
 unfolding early_refusal_read
-refusal-so r ls ss l p b k x e f g = g ∙ rw (f, e) refl
+refusal-so r ls ss l p b s x e f g = g _ f ∙ rw e refl
 
 -- ---- a row settled: a is the plain receiver's answer, m that receiver after it
 
-module _ (r : EarlyReceiver) (l : List ℕ) (p : Downstream) (a : Plain) (m : Receiver)
+module _ (r : EarlyReceiver) (l : List ℕ) (p : Result Downstream Refusal) (a : Plain) (m : Receiver)
     (e : refusal_read r.base l (downstream_words p) ≡ 0) (g : answer_words a ≡ (row_read r.base (downstream_words p)).reply)
     (h : m ≡ after_row (named_by r.base l) (row_read r.base (downstream_words p))) where
   row_is : (k : Case AnswerKind) → (answer_words a).which ≡ k → stays_here k ≡ stays_here (row_read r.base (downstream_words p)).reply.which
@@ -170,12 +175,12 @@ module _ (b : Receiver) (l : List ℕ) (o : open_for b l ≡ true) where
   unfolding name_by
   named-same = rw (different b.session blank is_open.named) refl
 
-  pub open-read : (p : Downstream) → data_or_beat (downstream_words p).which ≡ true → refusal_read b l (downstream_words p) ≡ 0
+  pub open-read : (p : Result Downstream Refusal) → data_or_beat (downstream_words p).which ≡ true → refusal_read b l (downstream_words p) ≡ 0
   unfolding refusal_read own_refusal below_read_at end_below downstream_words data_or_beat
-  open-read (found.Data f c) z = rw (own_name b l is_open.named is_open.same, is_open.going) refl
-  open-read (found.Heartbeat f) z = rw (own_name b l is_open.named is_open.same, is_open.going) refl
-  open-read (found.EndOfSession f) z = absurd (true≢false (sym z))
-  open-read (found.Refused k) z = absurd (true≢false (sym z))
+  open-read (Ok (found.Data f c)) z = rw (own_name b l is_open.named is_open.same, is_open.going) refl
+  open-read (Ok (found.Heartbeat f)) z = rw (own_name b l is_open.named is_open.same, is_open.going) refl
+  open-read (Ok (found.EndOfSession f)) z = absurd (true≢false (sym z))
+  open-read (Err k) z = absurd (true≢false (sym z))
 
 -- ---- a row stays where its number isn't above
 
@@ -191,25 +196,25 @@ beat-stays limit n f c =
     below_or_not _ n f (λ h. rw (lt-ltb _ _ h, lt-leb _ _ h) refl)
     (λ h. below_or_not _ f n (λ g. rw (le-ltb _ _ h, lt-ltb _ _ g, le-leb _ _ h) refl) (λ g. rw (le-ltb _ _ h, le-ltb _ _ g, le-leb _ _ h) refl))
 
-stays-read : (b : Receiver) (p : Downstream) → data_or_beat (downstream_words p).which ≡ true
+stays-read : (b : Receiver) (p : Result Downstream Refusal) → data_or_beat (downstream_words p).which ≡ true
     → stays_here (row_read b (downstream_words p)).reply.which ≡ leb (number_read (downstream_words p)) b.next.0
 unfolding row_read_at downstream_words data_or_beat
-stays-read b (found.Data f c) z = data-stays b.limit.0 b.next.0 f.0 (numbered f.0 c.0)
-stays-read b (found.Heartbeat f) z = beat-stays b.limit.0 b.next.0 f.0 (numbered f.0 0)
-stays-read b (found.EndOfSession f) z = absurd (true≢false (sym z))
-stays-read b (found.Refused k) z = absurd (true≢false (sym z))
+stays-read b (Ok (found.Data f c)) z = data-stays b.limit.0 b.next.0 f.0 (numbered f.0 c.0)
+stays-read b (Ok (found.Heartbeat f)) z = beat-stays b.limit.0 b.next.0 f.0 (numbered f.0 0)
+stays-read b (Ok (found.EndOfSession f)) z = absurd (true≢false (sym z))
+stays-read b (Err k) z = absurd (true≢false (sym z))
 
 -- ---- settled
 
-pub here-open : (b : Receiver) (l : List ℕ) (p : Downstream) (o k : Bool) → o ≡ open_for b l → o ≡ true → k ≡ data_or_beat (downstream_words p).which → k ≡ is_here b l (downstream_words p)
+pub here-open : (b : Receiver) (l : List ℕ) (p : Result Downstream Refusal) (o k : Bool) → o ≡ open_for b l → o ≡ true → k ≡ data_or_beat (downstream_words p).which → k ≡ is_here b l (downstream_words p)
 unfolding is_here
 here-open b l p o k e t f = rw (sym e ∙ t) f
 
-pub here-not : (b : Receiver) (l : List ℕ) (p : Downstream) (o : Bool) → o ≡ open_for b l → o ≡ false → false ≡ is_here b l (downstream_words p)
+pub here-not : (b : Receiver) (l : List ℕ) (p : Result Downstream Refusal) (o : Bool) → o ≡ open_for b l → o ≡ false → false ≡ is_here b l (downstream_words p)
 unfolding is_here
 here-not b l p o e t = rw (sym e ∙ t) refl
 
-module _ (r : EarlyReceiver) (l : List ℕ) (p : Downstream) (t : Bool) (e : t ≡ is_here r.base l (downstream_words p)) where
+module _ (r : EarlyReceiver) (l : List ℕ) (p : Result Downstream Refusal) (t : Bool) (e : t ≡ is_here r.base l (downstream_words p)) where
   pub not-here : (y : Settled) → not t ≡ true → y ≡ unsettled_of r → Settles y r l (downstream_words p)
   unfolding settles
   not-here y n u =
@@ -254,7 +259,7 @@ module _ (r : EarlyReceiver) (l : List ℕ) (p : Downstream) (t : Bool) (e : t �
 
 -- ---- as `take` has it: what is settled is taken, whatever is lent of its size
 
-pub settled-takes : (r : EarlyReceiver) (ls ss l : List ℕ) (p : Downstream) (b : Bool) (y : Settled) (x : Taken) → downstream_words p ≡ downstream_of l
+pub settled-takes : (r : EarlyReceiver) (ls ss l : List ℕ) (p : Result Downstream Refusal) (b : Bool) (y : Settled) (x : Taken) → downstream_words p ≡ downstream_of l
     → b ≡ (eqb (length ss) 65536 && eqb (length ls) 128) → b ≡ true → Settles y r l (downstream_words p) → y.applies ≡ true → y.taken ≡ x
     → TakesEarly x ls ss (lent r ls ss) l
 settled-takes r ls ss l p b y x e f g s a i = whole_takes x ls ss (lent r ls ss) l p e (rw i at (s.takes a ls ss (sym f ∙ g)))

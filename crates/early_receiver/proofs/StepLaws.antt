@@ -1,4 +1,5 @@
 -- Laws of the two steps that an accepted datagram can take: messages delivered, and a datagram ahead.
+use Rattle.std.specs.Prelude.{Result, Ok, Err, ⊤}
 use mathlib.Core.Path.{◌≡◌, sym, ap, ◌∙◌}
 use mathlib.Core.List.{List}
 use mathlib.Core.Bool.{false}
@@ -22,8 +23,9 @@ use Rattle.early_holding.specs.declared.holding.Moved.{Moved}
 use Rattle.early_holding.specs.Holding.{Lent, lent, early, next_of, at, take_all, moved, move_to}
 use Rattle.early_holding.proofs.HoldingLaws.{move-free}
 use Rattle.early_receiver.specs.declared.early.Answer.TheVariants.{Deliver, Ahead}
-use Rattle.early_receiver.specs.declared.early.Request.{Request}
-use Rattle.early_receiver.specs.declared.early.Request.TheVariants.{Nothing}
+use Rattle.std.specs.Prelude.{Option}
+use Rattle.early_receiver.specs.declared.early.Ask.{Ask}
+use Rattle.std.specs.Prelude.{None}
 use Rattle.early_receiver.specs.declared.early.Taken.{Taken}
 use Rattle.early_receiver.specs.Answers.{early_words, request_words}
 use Rattle.early_receiver.specs.Early.{end_at, wanted}
@@ -41,7 +43,7 @@ module _ (r : EarlyReceiver) (n : SequenceNumber) (c : MessageCount) (p : Messag
       ap (λ (x : Moved). early (at r.base x.next.0) x.held.0) m ∙ ap (early r.base) (sym z)
 
   pub deliver-free : r.base.ended ≡ false → r.held.0 ≡ 0 → Fits w16 c.0
-      → Delivers (record { answer = Deliver n c p; request = Nothing; receiver = r }) r n.0 c.0 p.0
+      → Delivers (record { answer = Deliver n c p; request = None; receiver = r }) r n.0 c.0 p.0
   unfolding early_words
   deliver-free o z g =
       let q = free-past z in
@@ -58,7 +60,7 @@ past-held r n c end m e f d g =
     let u : end ≡ n + c = omega arith in
     ap (λ (x : Moved). early (at r.base x.next.0) x.held.0) (rw u at g)
 
-pub deliver-held : (r q : EarlyReceiver) (n : SequenceNumber) (c : ℕ) (p : MessagePlace) (k : MessageCount) (y : Request) → n.0 + c ≤ 18446744073709551615
+pub deliver-held : (r q : EarlyReceiver) (n : SequenceNumber) (c : ℕ) (p : MessagePlace) (k : MessageCount) (y : Option Ask) → n.0 + c ≤ 18446744073709551615
     → q ≡ moved_past r n.0 c → k.0 ≡ min 65535 (next_of q - n.0) → request_words y ≡ wanted q 0 → Delivers (record { answer = Deliver n k p; request = y; receiver = q }) r n.0 c p.0
 unfolding early_words
 deliver-held r q n c p k y e x i w =
@@ -70,18 +72,18 @@ moved_open r q n c e g = ap (λ (x : EarlyReceiver). x.base.ended) g ∙ e
 
 -- ---- a datagram ahead
 
-module _ (p : Downstream) (n : ℕ) (h : n < number_read (downstream_words p)) where
-  pub data-above : (f : SequenceNumber) (c : MessageCount) → p ≡ Data f c → n < f.0
+module _ (p : Result Downstream Refusal) (n : ℕ) (h : n < number_read (downstream_words p)) (d : Downstream) (k : p ≡ Ok d) where
+  pub data-above : (f : SequenceNumber) (c : MessageCount) → d ≡ Data f c → n < f.0
   unfolding downstream_words
-  data-above f c e = rw e at h
+  data-above f c e = rw (k, e) at h
 
-  pub beat-above : (f : SequenceNumber) → p ≡ Heartbeat f → n < f.0
+  pub beat-above : (f : SequenceNumber) → d ≡ Heartbeat f → n < f.0
   unfolding downstream_words
-  beat-above f e = rw e at h
+  beat-above f e = rw (k, e) at h
 
-  pub end-above : (f : SequenceNumber) → p ≡ EndOfSession f → n < f.0
+  pub end-above : (f : SequenceNumber) → d ≡ EndOfSession f → n < f.0
   unfolding downstream_words
-  end-above f e = rw e at h
+  end-above f e = rw (k, e) at h
 
 -- the messages kept change neither the number nor whether the session has ended
 module _ (r q : EarlyReceiver) (ks ss kt st : List ℕ) (f : ℕ) (ms : List (List ℕ)) (g : lent q kt st ≡ take_all (lent r ks ss) f ms) where
@@ -94,43 +96,44 @@ module _ (r q : EarlyReceiver) (ks ss kt st : List ℕ) (f : ℕ) (ms : List (Li
   pub kept_above : next_of r < f → next_of q < f
   kept_above h = omega (arith, ap (λ (x : Receiver). x.next.0) (same_base h))
 
-module _ (p : Downstream) (r : EarlyReceiver) (ks ss l : List ℕ) (x : Taken) where
-  pub ahead-kept : (q : EarlyReceiver) (kt st : List ℕ) (f : SequenceNumber) (c : MessageCount) → p ≡ Data f c
-      → lent q kt st ≡ take_all (lent r ks ss) f.0 (messages_read l (numbered f.0 c.0)) → Stays x q Ahead f.0
-      → TakesAhead x kt st (lent r ks ss) l (downstream_words p)
-  unfolding downstream_words take_read_at
-  ahead-kept q kt st f c e g y =
-      rw e
-      (record {
-        answers = y.answers;
-        asks = y.asks ∙ ap (λ (z : EarlyReceiver). wanted z f.0) (sym y.leaves);
-        leaves = ap (λ (z : EarlyReceiver). lent z kt st) y.leaves ∙ g;
-      })
+module _ (p : Result Downstream Refusal) (r : EarlyReceiver) (ks ss l : List ℕ) (x : Taken) where
+  module _ (d : Downstream) (k : p ≡ Ok d) where
+    pub ahead-kept : (q : EarlyReceiver) (kt st : List ℕ) (f : SequenceNumber) (c : MessageCount) → d ≡ Data f c
+        → lent q kt st ≡ take_all (lent r ks ss) f.0 (messages_read l (numbered f.0 c.0)) → Stays x q Ahead f.0
+        → TakesAhead x kt st (lent r ks ss) l (downstream_words p)
+    unfolding downstream_words take_read_at
+    ahead-kept q kt st f c e g y =
+        rw (k, e)
+        (record {
+          answers = y.answers;
+          asks = y.asks ∙ ap (λ (z : EarlyReceiver). wanted z f.0) (sym y.leaves);
+          leaves = ap (λ (z : EarlyReceiver). lent z kt st) y.leaves ∙ g;
+        })
 
-  pub ahead-beat : (f : SequenceNumber) → p ≡ Heartbeat f → Stays x r Ahead f.0 → TakesAhead x ks ss (lent r ks ss) l (downstream_words p)
-  unfolding downstream_words take_read_at
-  ahead-beat f e y =
-      rw e
-      (record {
-        answers = y.answers;
-        asks = y.asks ∙ ap (λ (z : EarlyReceiver). wanted z f.0) (sym y.leaves);
-        leaves = ap (λ (z : EarlyReceiver). lent z ks ss) y.leaves;
-      })
+    pub ahead-beat : (f : SequenceNumber) → d ≡ Heartbeat f → Stays x r Ahead f.0 → TakesAhead x ks ss (lent r ks ss) l (downstream_words p)
+    unfolding downstream_words take_read_at
+    ahead-beat f e y =
+        rw (k, e)
+        (record {
+          answers = y.answers;
+          asks = y.asks ∙ ap (λ (z : EarlyReceiver). wanted z f.0) (sym y.leaves);
+          leaves = ap (λ (z : EarlyReceiver). lent z ks ss) y.leaves;
+        })
 
-  pub ahead-end : (f : SequenceNumber) → p ≡ EndOfSession f → next_of r < number_read (downstream_words p) → Stays x r Ahead f.0
-      → TakesAhead x ks ss (lent r ks ss) l (downstream_words p)
-  unfolding downstream_words take_read_at end_at
-  ahead-end f e h y =
-      let o = end-above p (next_of r) h f e in
-      let z : f.0 ≡ next_of r → ⊥ = λ u. omega arith in
-      rw e
-      (record {
-        answers = y.answers;
-        asks = y.asks ∙ ap (λ (z : EarlyReceiver). wanted z f.0) (sym y.leaves);
-        leaves = ap (λ (z : EarlyReceiver). lent z ks ss) y.leaves ∙ rw (ne_eqb _ _ z);
-      })
+    pub ahead-end : (f : SequenceNumber) → d ≡ EndOfSession f → next_of r < number_read (downstream_words p) → Stays x r Ahead f.0
+        → TakesAhead x ks ss (lent r ks ss) l (downstream_words p)
+    unfolding downstream_words take_read_at end_at
+    ahead-end f e h y =
+        let o = end-above p (next_of r) h d k f e in
+        let z : f.0 ≡ next_of r → ⊥ = λ u. omega arith in
+        rw (k, e)
+        (record {
+          answers = y.answers;
+          asks = y.asks ∙ ap (λ (z : EarlyReceiver). wanted z f.0) (sym y.leaves);
+          leaves = ap (λ (z : EarlyReceiver). lent z ks ss) y.leaves ∙ rw (ne_eqb _ _ z);
+        })
 
-  pub ahead-refused : (k : Refusal) → p ≡ Refused k → Stays x r Ahead 0 → TakesAhead x ks ss (lent r ks ss) l (downstream_words p)
+  pub ahead-refused : (k : Refusal) → p ≡ Err k → Stays x r Ahead 0 → TakesAhead x ks ss (lent r ks ss) l (downstream_words p)
   unfolding downstream_words take_read_at
   ahead-refused k e y =
       rw e

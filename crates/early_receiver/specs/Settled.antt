@@ -11,7 +11,7 @@ use Rattle.early_holding.specs.declared.holding.EarlyReceiver.{EarlyReceiver}
 use Rattle.early_holding.specs.Holding.{lent, next_of}
 use Rattle.early_receiver.specs.declared.early.Taken.{Taken}
 use Rattle.early_receiver.specs.declared.early.Answer.TheVariants.{Old}
-use Rattle.early_receiver.specs.declared.early.Request.TheVariants.{Nothing}
+use Rattle.std.specs.Prelude.{None}
 use Rattle.early_receiver.specs.declared.early.Settled.{Settled}
 use Rattle.early_receiver.specs.Early.{right_size}
 use Rattle.early_receiver.specs.Read.{TakesEarlyRead}
@@ -33,7 +33,7 @@ unfoldable pub settles : EarlyReceiver → List ℕ → Words DownstreamKind →
 settles r l w = if is_here r.base l w then leb (number_read w) (next_of r) else false
 
 abbrev pub unsettled_of : EarlyReceiver → Settled
-unsettled_of r = record { applies = false; taken = record { answer = Old; request = Nothing; receiver = r } }
+unsettled_of r = record { applies = false; taken = record { answer = Old; request = None; receiver = r } }
 
 abbrev pub settled_of : Taken → Settled
 settled_of x = record { applies = true; taken = x }

@@ -1,6 +1,7 @@
 // The receiver's taking of a datagram.
 #![tactic(auto, using(crate::proofs::Rules::accepts, crate::proofs::Rules::aheads, crate::proofs::Rules::delivers, crate::proofs::Rules::keeping, crate::proofs::Rules::kinds_here, crate::proofs::Rules::refusals, crate::proofs::Rules::requests, crate::proofs::Rules::rows_here, crate::proofs::Rules::settles))]
-ghost use Rattle.std.specs.Prelude.{◌≡◌, true, false, ◌&&◌, [], ◌∷◌, ◌+◌, ◌-◌, ◌<◌, ◌≤◌, min, ltb, eqb};
+ghost use Rattle.std.specs.Prelude.{◌≡◌, ℕ, Some, true, false, ◌&&◌, [], ◌∷◌, ◌+◌, ◌-◌, ◌<◌, ◌≤◌, min, ltb, eqb};
+ghost use Rattle.wire.specs.Words.{refused_by};
 ghost use Rattle.wire.specs.Bounds.{largest_number, largest_count};
 ghost use Rattle.moldudp64.specs.Downstream.{downstream_words};
 ghost use Rattle.receiver.specs.Table.{numbered, answer_words};
@@ -44,27 +45,24 @@ pub enum Answer {
     Refused(Refusal),
 }
 
-// A request to send, beside the answer.
+// A request to send, beside the answer: the first number wanted, and how many.
 #[derive(Clone, Copy)]
-pub enum Request {
-    Nothing,
-    // The first number wanted, and how many.
-    Ask {
-        from: SequenceNumber,
-        count: MessageCount,
-    },
+pub struct Ask {
+    pub from: SequenceNumber,
+    pub count: MessageCount,
 }
 
-// The answer to a datagram, the request that it draws, and the receiver to use next.
+// The answer to a datagram, the request that it draws if any, and the receiver to use next.
 #[derive(Clone, Copy)]
 pub struct Taken {
     pub answer: Answer,
-    pub request: Request,
+    pub request: Option<Ask>,
     pub receiver: EarlyReceiver,
 }
 
 // Takes a datagram: the reader walks over its blocks, and a datagram ahead of the expected number is walked over again.
 // What can be told without the slots goes the short way.
+#[tactic(auto, using(crate::proofs::Rules::wholes))]
 pub fn take(receiver: EarlyReceiver, lengths: &mut [u8], slots: &mut [u8], datagram: &[u8]) -> Taken
     ensures takes_early { TakesEarly result lengths.new slots.new
         (lent receiver lengths.old slots.old) datagram.now }
@@ -81,9 +79,10 @@ pub fn take(receiver: EarlyReceiver, lengths: &mut [u8], slots: &mut [u8], datag
 }
 
 // The same by what was read, so that a caller can look at that before it has a receiver.
+#[tactic(auto, using(crate::proofs::Rules::takes))]
 pub fn take_read(
     receiver: EarlyReceiver,
-    packet: Downstream,
+    packet: Result<Downstream, Refusal>,
     lengths: &mut [u8],
     slots: &mut [u8],
     datagram: &[u8],
@@ -96,11 +95,10 @@ pub fn take_read(
     let taken = base.take_read(packet, datagram);
     let answer = taken.answer;
     let right = is_right_size(lengths.len(), slots.len());
-    let refused = with_slots(right, refusal_in(answer));
-    if refused.number != 0 {
+    if let Err(refused) = with_slots(right, check_answer(answer)) {
         return Taken {
             answer: Answer::Refused(refused),
-            request: Request::Nothing,
+            request: None,
             receiver,
         };
     }
@@ -117,7 +115,7 @@ pub struct Settled {
 
 // Takes data or a heartbeat that isn't ahead, of the receiver's name: nothing is kept then, so nothing is lent. It is
 // the short way of nearly every datagram.
-pub fn settle(receiver: EarlyReceiver, packet: Downstream, datagram: &[u8]) -> Settled
+pub fn settle(receiver: EarlyReceiver, packet: Result<Downstream, Refusal>, datagram: &[u8]) -> Settled
     ensures { Settles result receiver datagram.now (downstream_words packet) }
 {
     let base = receiver.base;
@@ -128,7 +126,7 @@ pub fn settle(receiver: EarlyReceiver, packet: Downstream, datagram: &[u8]) -> S
 }
 
 // Whether it is data or a heartbeat for which the receiver is open.
-fn is_here(base: Receiver, packet: Downstream, datagram: &[u8]) -> bool
+fn is_here(base: Receiver, packet: Result<Downstream, Refusal>, datagram: &[u8]) -> bool
     ensures { result ≡ is_here base datagram.now (downstream_words packet) }
 {
     if base.is_open_for(datagram) {
@@ -144,7 +142,7 @@ fn unsettled(receiver: EarlyReceiver) -> Settled
         applies: false,
         taken: Taken {
             answer: Answer::Old,
-            request: Request::Nothing,
+            request: None,
             receiver,
         },
     }
@@ -159,26 +157,26 @@ fn applied(taken: Taken) -> Settled
     }
 }
 
-fn is_data_or_beat(packet: Downstream) -> bool
+fn is_data_or_beat(packet: Result<Downstream, Refusal>) -> bool
     ensures { result ≡ data_or_beat (downstream_words packet).which }
 {
     match packet {
-        Downstream::Data { first: _, count: _ } => true,
-        Downstream::Heartbeat { next: _ } => true,
-        Downstream::EndOfSession { next: _ } => false,
-        Downstream::Refused(_) => false,
+        Ok(Downstream::Data { .. }) => true,
+        Ok(Downstream::Heartbeat { .. }) => true,
+        Ok(Downstream::EndOfSession { .. }) => false,
+        Err(_) => false,
     }
 }
 
 // The plain receiver's row for data or a heartbeat; for anything else, any.
-fn row_here(base: Receiver, packet: Downstream) -> plain::Taken
+fn row_here(base: Receiver, packet: Result<Downstream, Refusal>) -> plain::Taken
     ensures { RowHere result base (downstream_words packet) }
 {
     match packet {
-        Downstream::Data { first, count } => base.take_data(first, count),
-        Downstream::Heartbeat { next } => base.take_heartbeat(next),
-        Downstream::EndOfSession { next } => base.take_heartbeat(next),
-        Downstream::Refused(_) => base.take_heartbeat(base.next),
+        Ok(Downstream::Data { first, count }) => base.take_data(first, count),
+        Ok(Downstream::Heartbeat { next }) => base.take_heartbeat(next),
+        Ok(Downstream::EndOfSession { next }) => base.take_heartbeat(next),
+        Err(_) => base.take_heartbeat(base.next),
     }
 }
 
@@ -186,7 +184,7 @@ fn row_here(base: Receiver, packet: Downstream) -> plain::Taken
 fn settle_row(
     receiver: EarlyReceiver,
     taken: plain::Taken,
-    packet: Downstream,
+    packet: Result<Downstream, Refusal>,
     datagram: &[u8],
 ) -> Settled
     requires packet_value { refusal_read receiver.base datagram.now (downstream_words packet) ≡ 0 }
@@ -213,21 +211,20 @@ fn settle_row(
     }
 }
 
-// The refusal of a datagram that was read, its number 0 where there is none, before anything is taken.
-pub fn refusal_read(
+// What a datagram that was read is refused for, before anything is taken.
+pub fn check(
     receiver: EarlyReceiver,
-    packet: Downstream,
+    packet: Result<Downstream, Refusal>,
     lengths: &[u8],
     slots: &[u8],
     datagram: &[u8],
-) -> Refusal
-    ensures { result.number ≡ early_refusal_read (lent receiver lengths.now slots.now)
-        datagram.now (downstream_words packet) }
+) -> Result<(), Refusal>
+    ensures { result ≡ refused_by (early_refusal_read (lent receiver lengths.now slots.now)
+        datagram.now (downstream_words packet)) }
 {
-    let base = receiver.base;
     with_slots(
         is_right_size(lengths.len(), slots.len()),
-        base.refusal_for(packet, datagram),
+        receiver.base.check(packet, datagram),
     )
 }
 
@@ -238,37 +235,36 @@ fn is_right_size(lengths: usize, slots: usize) -> bool
     (slots == SLOT_BYTES) & (lengths == LENGTH_BYTES)
 }
 
-// A refusal with 19 put in before 20 where the slots are of another size.
-fn with_slots(right: bool, found: Refusal) -> Refusal
-    ensures { result.number ≡ with_slots right found.number }
+// What was found, with 19 put in before 20 where the slots are of another size.
+fn with_slots(right: bool, found: Result<(), Refusal>) -> Result<(), Refusal>
+    ensures { (k : ℕ) → found ≡ refused_by k → result ≡ refused_by (with_slots right k) }
 {
     if right {
         return found;
     }
-    if found.number == 0 {
-        return refusal::BAD_SETTING;
+    match found {
+        Err(refused) => {
+            if refusal::BAD_SETTING.number < refused.number {
+                return Err(refusal::BAD_SETTING);
+            }
+            found
+        }
+        Ok(()) => Err(refusal::BAD_SETTING),
     }
-    if refusal::BAD_SETTING.number < found.number {
-        return refusal::BAD_SETTING;
-    }
-    found
 }
 
-// The plain receiver's refusal, its number 0 where it answers.
-fn refusal_in(answer: plain::Answer) -> Refusal
-    ensures { result.number ≡ (answer_words answer).refusal }
+// What the plain receiver refused. One of number 0, which was made up, refuses nothing.
+fn check_answer(answer: plain::Answer) -> Result<(), Refusal>
+    ensures { result ≡ refused_by (answer_words answer).refusal }
 {
     match answer {
-        plain::Answer::Deliver {
-            first: _,
-            count: _,
-            skipped: _,
-        } => refusal::NONE,
-        plain::Answer::Old => refusal::NONE,
-        plain::Answer::Quiet => refusal::NONE,
-        plain::Answer::Ask { from: _, count: _ } => refusal::NONE,
-        plain::Answer::Ended => refusal::NONE,
-        plain::Answer::Refused(r) => r,
+        plain::Answer::Refused(refused) => {
+            if refused.number == 0 {
+                return Ok(());
+            }
+            Err(refused)
+        }
+        _ => Ok(()),
     }
 }
 
@@ -276,7 +272,7 @@ fn refusal_in(answer: plain::Answer) -> Refusal
 fn accept(
     receiver: EarlyReceiver,
     taken: plain::Taken,
-    packet: Downstream,
+    packet: Result<Downstream, Refusal>,
     lengths: &mut [u8],
     slots: &mut [u8],
     datagram: &[u8],
@@ -328,7 +324,7 @@ fn deliver(
                 count,
                 skipped,
             },
-            request: Request::Nothing,
+            request: None,
             receiver,
         };
     }
@@ -389,7 +385,7 @@ fn end(receiver: EarlyReceiver) -> Taken
     let base = receiver.base;
     Taken {
         answer: Answer::Ended,
-        request: Request::Nothing,
+        request: None,
         receiver: EarlyReceiver {
             base,
             held: Held::NOTHING,
@@ -401,7 +397,7 @@ fn end(receiver: EarlyReceiver) -> Taken
 // for.
 fn ahead(
     receiver: EarlyReceiver,
-    packet: Downstream,
+    packet: Result<Downstream, Refusal>,
     lengths: &mut [u8],
     slots: &mut [u8],
     datagram: &[u8],
@@ -412,13 +408,13 @@ fn ahead(
         (lent receiver lengths.old slots.old) datagram.now (downstream_words packet) }
 {
     match packet {
-        Downstream::Data { first, count } => {
+        Ok(Downstream::Data { first, count }) => {
             let kept = keep_all(first, count, receiver, lengths, slots, datagram);
             ahead_of(kept, first)
         }
-        Downstream::Heartbeat { next } => ahead_of(receiver, next),
-        Downstream::EndOfSession { next } => ahead_of(receiver, next),
-        Downstream::Refused(_) => stay(receiver, Answer::Ahead),
+        Ok(Downstream::Heartbeat { next }) => ahead_of(receiver, next),
+        Ok(Downstream::EndOfSession { next }) => ahead_of(receiver, next),
+        Err(_) => stay(receiver, Answer::Ahead),
     }
 }
 
@@ -434,7 +430,7 @@ fn ahead_of(receiver: EarlyReceiver, number: SequenceNumber) -> Taken
         let next = base.next;
         return Taken {
             answer: Answer::Ahead,
-            request: ask(receiver, next.gap(number)),
+            request: Some(request_for(receiver, next.gap(number))),
             receiver,
         };
     }
@@ -442,27 +438,24 @@ fn ahead_of(receiver: EarlyReceiver, number: SequenceNumber) -> Taken
 }
 
 // A request for the numbers below the lowest held one; nothing where none is held.
-fn for_held(receiver: EarlyReceiver) -> Request
+fn for_held(receiver: EarlyReceiver) -> Option<Ask>
     requires { receiver.base.ended ≡ false }
     ensures { request_words result ≡ wanted receiver 0 }
 {
     let held = receiver.held;
     if held.is_nothing() {
-        return Request::Nothing;
+        return None;
     }
-    ask(receiver, MessageCount(held.lowest().0 + 1))
+    Some(request_for(receiver, MessageCount(held.lowest().0 + 1)))
 }
 
 // A request from the expected number on, for the smaller of the gap and the limit.
-fn ask(receiver: EarlyReceiver, gap: MessageCount) -> Request
-    ensures { request_words result ≡ receiver.base.next.0 ∷ min gap.0 receiver.base.limit.0 ∷ [] }
+fn request_for(receiver: EarlyReceiver, gap: MessageCount) -> Ask
+    ensures { request_words (Some result) ≡ receiver.base.next.0 ∷ min gap.0 receiver.base.limit.0 ∷ [] }
 {
-    let base = receiver.base;
-    let next = base.next;
-    let limit = base.limit;
-    Request::Ask {
-        from: next,
-        count: gap.min(limit),
+    Ask {
+        from: receiver.base.next,
+        count: gap.min(receiver.base.limit),
     }
 }
 
@@ -516,9 +509,8 @@ fn keep_to(
     let mut cursor = Cursor::first(first.gap(end));
     while number < end {
         let message = cursor.message(datagram);
-        let after = cursor.next(datagram);
         held = EarlyReceiver { base, held }.keep(lengths, slots, number, message);
-        cursor = after;
+        cursor = cursor.next(datagram);
         number = number.plus(MessageCount(1));
     }
     EarlyReceiver { base, held }

@@ -10,7 +10,7 @@ use wire::kinds::{MessageCount, MessagePlace};
 // The bits of a word.
 const BITS: u16 = 64;
 
-#[derive(Clone, Copy)]
+#[derive(Clone, Copy, Debug, PartialEq, Eq)]
 pub struct Held(pub u64);
 
 impl Held {

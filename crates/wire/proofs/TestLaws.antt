@@ -1,6 +1,6 @@
 -- What the tests of the kinds tell, as code that has t as a test's answer.
 use Prim.Native.Nat.{ℕ, ◌+◌, ◌-◌, ◌≤◌, ◌<◌, min}
-use Rattle.std.proofs.Common.{is_lt, nat_cmp}
+use Rattle.std.proofs.Common.{is_lt, is_ge, nat_cmp}
 use Rattle.std.specs.Prelude.{if◌then◌else◌}
 use native.Mathlib.Omega.{arith}
 use mathlib.Core.Path.{◌≡◌, sym, ◌∙◌}
@@ -29,6 +29,13 @@ module _ (a b : ℕ) (t : Bool) (e : t ≡ is_lt (nat_cmp a b)) where
   pub less-not : t ≡ false → b ≤ a
   less-not h = let f : false ≡ is_lt (nat_cmp a b) = sym h ∙ e in grind arith
 
+module _ (a b : ℕ) (t : Bool) (e : t ≡ is_ge (nat_cmp a b)) where
+  pub reach-so : t ≡ true → b ≤ a
+  reach-so h = let f : true ≡ is_ge (nat_cmp a b) = sym h ∙ e in grind arith
+
+  pub reach-not : t ≡ false → a < b
+  reach-not h = let f : false ≡ is_ge (nat_cmp a b) = sym h ∙ e in grind arith
+
 pub smaller-so : (a b n : ℕ) → n ≡ (if is_lt (nat_cmp b a) then b else a) → n ≡ min a b
 smaller-so a b n e = grind arith
 
@@ -50,4 +57,4 @@ module _ (a b m : ℕ) (t : Bool) where
   pub room-so : t ≡ leb (a + b) m → not t ≡ false → a + b ≤ m
   room-so e h = leb-true (a + b) m (sym e ∙ not-false t h)
 
-pub ruleset tests = (equal-so, equal-not, below-so, below-not, less-so, less-not, some_left, none_left, fewer-left, room-not, room-so)
+pub ruleset tests = (equal-so, equal-not, below-so, below-not, less-so, less-not, reach-so, reach-not, some_left, none_left, fewer-left, room-not, room-so)
