@@ -1,5 +1,6 @@
 // How many messages a datagram will deliver, and one of them by its place.
 #![tactic(auto, using(crate::proofs::Rules::counts, crate::proofs::Rules::locates, crate::proofs::Rules::messages, crate::proofs::Rules::slots))]
+
 ghost use Rattle.std.specs.Prelude.{◌≡◌, ◌-◌, min, length, take, drop};
 ghost use Rattle.wire.specs.Bounds.{largest_count};
 ghost use Rattle.early_holding.specs.Holding.{slot_at, length_of, lent};
@@ -53,25 +54,16 @@ pub fn count(receiver: EarlyReceiver, lengths: &[u8], slots: &[u8], datagram: &[
     ensures { result.0 ≡ min largest_count
         (delivered_count (lent receiver lengths.now slots.now) datagram.now) }
 {
-    if slots.len() != SLOT_BYTES {
+    if slots.len() != SLOT_BYTES || lengths.len() != LENGTH_BYTES {
         return MessageCount(0);
     }
-    if lengths.len() != LENGTH_BYTES {
-        return MessageCount(0);
-    }
-    let base = receiver.base;
-    let held = receiver.held;
-    let taken = base.take(datagram);
-    let answer = taken.answer;
-    match answer {
-        plain::Answer::Deliver {
-            first,
-            count,
-            skipped: _,
-        } => first.gap(holding::move_to(first, held, first.plus(count)).next),
+    match receiver.base.take(datagram).answer {
+        plain::Answer::Deliver { first, count, .. } => {
+            first.gap(holding::move_to(first, receiver.held, first.plus(count)).next)
+        }
         plain::Answer::Old => MessageCount(0),
         plain::Answer::Quiet => MessageCount(0),
-        plain::Answer::Ask { from: _, count: _ } => MessageCount(0),
+        plain::Answer::Ask { .. } => MessageCount(0),
         plain::Answer::Ended => MessageCount(0),
         plain::Answer::Refused(_) => MessageCount(0),
     }
@@ -81,10 +73,7 @@ pub fn count(receiver: EarlyReceiver, lengths: &[u8], slots: &[u8], datagram: &[
 fn left_from(s: &[u8], at: ByteOffset) -> usize
     ensures { result ≡ length s.now - at.0 }
 {
-    if s.len() < at.0 {
-        return 0;
-    }
-    s.len() - at.0
+    s.len().saturating_sub(at.0)
 }
 
 // Where the message of a number lies in the slots; a length that was made up ends with them.
@@ -96,13 +85,11 @@ pub(crate) fn slot_part(lengths: &[u8], slots: &[u8], number: SequenceNumber) ->
     let slot = holding::slot_of(number);
     let at = ByteOffset(slot * SLOT_SIZE);
     let noted = number::be16(lengths, ByteOffset(slot * COUNT_SIZE)) as usize;
-    let left = left_from(slots, at);
-    let length = if left < noted { left } else { noted };
     Part {
         exists: true,
         held: true,
         offset: at,
-        length,
+        length: left_from(slots, at).min(noted),
     }
 }
 

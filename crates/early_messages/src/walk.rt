@@ -1,5 +1,6 @@
 // All that a datagram will deliver, in one walk over the datagram.
 #![tactic(auto, using(crate::proofs::Rules::walks))]
+
 ghost use Rattle.std.specs.Prelude.{◌≡◌};
 ghost use Rattle.early_holding.specs.Holding.{lent};
 ghost use Rattle.early_messages.specs.Walk.{start_walk, walk_part, walk_on, WalksTheDelivery};

@@ -102,7 +102,7 @@ slots-open false k e = absurd (go (eqb k 0) refl (ltb 19 k) e)
 
 -- ---- the request
 
-pub ask-is : (n gap limit : ℕ) (k : MessageCount) → k.0 ≡ min gap limit → request_words (Ask (record { 0 = n }) k) ≡ n ∷ min gap limit ∷ []
+pub ask-is : (n gap limit : ℕ) (k : MessageCount) → k.0 ≡ min gap limit → request_words (Some (record { from = record { 0 = n }; count = k })) ≡ n ∷ min gap limit ∷ []
 unfolding request_words
 ask-is n gap limit k e = rw e
 

@@ -1,5 +1,6 @@
 // The receiver's taking of a datagram.
 #![tactic(auto, using(crate::proofs::Rules::accepts, crate::proofs::Rules::aheads, crate::proofs::Rules::delivers, crate::proofs::Rules::keeping, crate::proofs::Rules::kinds_here, crate::proofs::Rules::refusals, crate::proofs::Rules::requests, crate::proofs::Rules::rows_here, crate::proofs::Rules::settles))]
+
 ghost use Rattle.std.specs.Prelude.{◌≡◌, ℕ, Some, true, false, ◌&&◌, [], ◌∷◌, ◌+◌, ◌-◌, ◌<◌, ◌≤◌, min, ltb, eqb};
 ghost use Rattle.wire.specs.Words.{refused_by};
 ghost use Rattle.wire.specs.Bounds.{largest_number, largest_count};
@@ -115,7 +116,11 @@ pub struct Settled {
 
 // Takes data or a heartbeat that isn't ahead, of the receiver's name: nothing is kept then, so nothing is lent. It is
 // the short way of nearly every datagram.
-pub fn settle(receiver: EarlyReceiver, packet: Result<Downstream, Refusal>, datagram: &[u8]) -> Settled
+pub fn settle(
+    receiver: EarlyReceiver,
+    packet: Result<Downstream, Refusal>,
+    datagram: &[u8],
+) -> Settled
     ensures { Settles result receiver datagram.now (downstream_words packet) }
 {
     let base = receiver.base;
@@ -258,13 +263,17 @@ fn check_answer(answer: plain::Answer) -> Result<(), Refusal>
     ensures { result ≡ refused_by (answer_words answer).refusal }
 {
     match answer {
+        plain::Answer::Deliver { .. } => Ok(()),
+        plain::Answer::Old => Ok(()),
+        plain::Answer::Quiet => Ok(()),
+        plain::Answer::Ask { .. } => Ok(()),
+        plain::Answer::Ended => Ok(()),
         plain::Answer::Refused(refused) => {
             if refused.number == 0 {
                 return Ok(());
             }
             Err(refused)
         }
-        _ => Ok(()),
     }
 }
 

@@ -3,7 +3,7 @@ use Prim.Native.Nat.{◌-◌}
 use lib.ListN.{length}
 use Rattle.early_holding.specs.Holding.{lent, early, take_all}
 use Rattle.early_receiver.specs.Read.{messages_read}
-use Rattle.early_receiver.proofs.KeepLaws.{Keeping}
+use Rattle.early_receiver.proofs.KeepingLaws.{Keeping}
 use Rattle.early_receiver.proofs.early.keep_to.Given as goal
 
 abbrev pub invariant-loop-end : goal.invariant-loop-end
