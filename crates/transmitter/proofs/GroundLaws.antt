@@ -63,10 +63,9 @@ module _ (n all : ℕ) (p : Progress) (g : Fit) (have : ℕ) where
 -- ---- the whole ladder
 
 module _ (size n : ℕ) (ks d : List ℕ) (p : Progress) where
-  -- as code that has s as the size's ground
-  pub next-19 : (s : ℕ) → s ≡ size_ground size → (s ≡ 0 → ⊥) → s ≡ next_ground size n ks d p
+  pub next-19 : (size_ground size ≡ 0 → ⊥) → size_ground size ≡ next_ground size n ks d p
   unfolding next_ground
-  next-19 s e z = rw (← e, ne_eqb _ _ z)
+  next-19 z = rw (ne_eqb _ _ z) refl
 
   abbrev c : ℕ
   c = most_that_fit (size - 20) (drop p.messages ks)
@@ -84,11 +83,10 @@ module _ (size n : ℕ) (ks d : List ℕ) (p : Progress) where
   unfolding next_ground group_ground
   by-group s = rw (s, its-count, its-data)
 
-  -- t is what the group's grounds gave
-  pub next-behind : (s r t : ℕ) (g : Fit) (x : List ℕ) → s ≡ size_ground size → s ≡ 0 → r ≡ size - 20 → g ≡ fitting r (drop p.messages ks)
-      → x ≡ take g.bytes (drop p.bytes d) → t ≡ group_ground n (length ks) p g (length x) → t ≡ next_ground size n ks d p
+  pub next-behind : (g : Fit) (x : List ℕ) → size_ground size ≡ 0 → g ≡ fitting (size - 20) (drop p.messages ks) → x ≡ take g.bytes (drop p.bytes d)
+      → group_ground n (length ks) p g (length x) ≡ next_ground size n ks d p
   unfolding next_data next_lengths
-  next-behind s r t g x e z f q a b = b ∙ rw (a, q, f) (by-group (sym e ∙ z))
+  next-behind g x z q a = rw (a, q) (by-group z)
 
   module _ (s : size_ground size ≡ 0) where
     pub next-none : length ks ≤ p.messages → next_ground size n ks d p ≡ 54

@@ -1,7 +1,9 @@
 -- The laws that the functions' proofs need, for `search`: one set for each task.
 use borrow.Author.Rules.{rules}
 use mathlib.Core.Path.{refl}
-use Rattle.moldudp64_writer.proofs.WriterLaws.{write-ground}
+use Rattle.wire.proofs.Refusing.{refusals}
+use Rattle.wire.proofs.Outputs.{writes-refused}
+use Rattle.wire.proofs.TestLaws.{tests}
 use Rattle.transmitter.proofs.RunLaws.{each_next, each-stop, each-end, run-19, run-44, run-13, run-14, run-52, run-good, start-refused, start-good}
 use Rattle.transmitter.proofs.GroundLaws.{group-none, group-some, group-room, ground-54, ground-44, ground-14, ground-13, ground-52, ground-good, next-19, next-behind}
 use Rattle.transmitter.proofs.TurnLaws.{moved-wrote, moved-refused, stays, stays-19, group-few, turn-there, turn-number, turn_end, turn-to, turn-counts, turn-sums, turn-done, turns-go-by-place}
@@ -9,16 +11,16 @@ use Rattle.transmitter.proofs.WalkLaws.{walking_start, walking-end, walking-stop
 use Rattle.transmitter.proofs.WitnessLaws.{not_vacuous}
 use Rattle.transmitter.proofs.StatementLaws.{transmitter-promises}
 
-pub ruleset runs = (each_next, each-stop, each-end, run-19, run-44, run-13, run-14, run-52, run-good, start-refused, start-good, turns-go-by-place, not_vacuous, refl, rules)
+pub ruleset runs = (each_next, each-stop, each-end, run-19, run-44, run-13, run-14, run-52, run-good, start-refused, start-good, turns-go-by-place, not_vacuous, refl, refusals, rules)
 
-pub ruleset groups = (group-none, group-some, ground-54, ground-44, ground-14, ground-13, ground-52, ground-good, next-behind, group-few, rules)
+pub ruleset groups = (group-none, group-some, ground-54, ground-44, ground-14, ground-13, ground-52, ground-good, next-behind, group-few, refusals, rules)
 
-pub ruleset turns = (group-room, next-19, write-ground, stays, stays-19, group-few, rules)
+pub ruleset turns = (group-room, next-19, writes-refused, stays, stays-19, group-few, refusals, rules)
 
 pub ruleset writes = (turn-there, turn-number, turn_end, turn-to, turn-counts, turn-sums, turn-done, rules)
 
 pub ruleset walks = (walking_start, walking-end, walking-stop, walking-counts, walking-sums, walking-next, rules)
 
-pub ruleset places = (place-refused, run_fits, place-written, write-ground, transmitter-promises, rules)
+pub ruleset places = (place-refused, run_fits, place-written, writes-refused, transmitter-promises, refusals, rules)
 
 pub ruleset moves = (moved-wrote, moved-refused, rules)

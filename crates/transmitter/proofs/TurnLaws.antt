@@ -49,8 +49,8 @@ module _ (s : List ℕ) (size n : ℕ) (ks d : List ℕ) (p : Progress) (o : Lis
   unfolding write_refusal
   stays t e z = sym (after-refused (rw (← e, ne_eqb _ _ z) (ne_eqb _ _ z)))
 
-  pub stays-19 : (b : ℕ) → b ≡ size_ground size → (b ≡ 0 → ⊥) → p ≡ progress_after s size n ks d p o
-  stays-19 b e z = stays b (next-19 size n ks d p b e z) z
+  pub stays-19 : (size_ground size ≡ 0 → ⊥) → p ≡ progress_after s size n ks d p o
+  stays-19 z = stays (size_ground size) (next-19 size n ks d p z) z
 
 -- a writer that refuses has a refusal
 not-wrote : (t : ℕ) (l : List ℕ) (a : ℕ) (bs : List ℕ) (r : ℕ) → write_answer t l a bs ≡ refuses r → eqb (write_refusal t l a bs) 0 ≡ false

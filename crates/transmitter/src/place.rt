@@ -1,5 +1,6 @@
 // One packet of a run, asked for by its place from 0. A caller that sends them all takes turns.
 #![tactic(auto, using(crate::proofs::Rules::places))]
+
 ghost use Rattle.std.specs.Prelude.{◌≡◌, ◌<◌, ◌^◌};
 ghost use Rattle.wire.specs.Output.{Writes};
 ghost use Rattle.moldudp64_writer.specs.Writer.{total};
@@ -20,13 +21,11 @@ fn reach(lengths: &[u16], room: usize, place: u64) -> Progress
     ensures { result ≡ past_groups room lengths.now beginning place }
 {
     let mut at = turns::BEGINNING;
-    let mut left = place;
-    while 0 < left {
+    for _ in 0..place {
         if lengths.len() <= at.messages {
             return at;
         }
         at = at.past(at.group(lengths, room));
-        left -= 1;
     }
     at
 }
@@ -47,10 +46,7 @@ pub fn write(
         (packet_at session size first.0 lengths.now joined.now place) }
     ensures promises { TransmitterPromises }
 {
-    let refused = run::ground(first, lengths, joined, size);
-    if refused.number != 0 {
-        return Err(refused);
-    }
+    run::check(first, lengths, joined, size)?;
     let at = reach(lengths, size::room(size), place);
     at.next(out, session, first, lengths, joined, size).written
 }

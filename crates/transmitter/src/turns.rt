@@ -2,8 +2,10 @@
 // two numbers, which anyone can make up or use with another run, so a turn takes any: the packet is then well-formed,
 // of that run's bytes from where the numbers say.
 #![tactic(auto, using(crate::proofs::Rules::groups, crate::proofs::Rules::moves, crate::proofs::Rules::runs, crate::proofs::Rules::turns, crate::proofs::Rules::writes))]
+
 ghost use Rattle.std.specs.Prelude.{◌≡◌, ◌+◌, ◌-◌, ◌≤◌, ◌<◌, ◌^◌, drop};
 ghost use Rattle.wire.specs.Output.{Writes};
+ghost use Rattle.wire.specs.Words.{refused_by};
 ghost use Rattle.packing.specs.Fit.{size_ground, room_of, fitting};
 ghost use Rattle.transmitter.specs.Transmitter.{run_ground};
 ghost use Rattle.transmitter.specs.Turns.{start_of_run, next_ground, next_bytes, progress_after, TurnsGoByPlace};
@@ -19,21 +21,21 @@ use wire::refusal::Refusal;
 use wire::{parts, refusal};
 
 // How many messages earlier packets took, and the bytes of their data.
-#[derive(Clone, Copy)]
+#[derive(Clone, Copy, Debug, PartialEq, Eq)]
 pub struct Progress {
     pub messages: usize,
     pub bytes: usize,
 }
 
 // A start that isn't refused begins at the first message.
-#[derive(Clone, Copy)]
+#[derive(Clone, Copy, Debug, PartialEq, Eq)]
 pub struct Started {
     pub refusal: Refusal,
     pub progress: Progress,
 }
 
 // What a turn wrote, and the progress then.
-#[derive(Clone, Copy)]
+#[derive(Clone, Copy, Debug, PartialEq, Eq)]
 pub struct Turn {
     pub written: Result<usize, Refusal>,
     pub progress: Progress,
@@ -52,8 +54,7 @@ pub fn start(first: SequenceNumber, lengths: &[u16], joined: &[u8], size: usize)
     ensures by_place { TurnsGoByPlace }
     ensures not_vacuous { NotVacuous }
 {
-    let refusal = run::ground(first, lengths, joined, size);
-    if refusal.number != 0 {
+    if let Err(refusal) = run::check(first, lengths, joined, size) {
         return Started {
             refusal,
             progress: Progress {
@@ -63,7 +64,7 @@ pub fn start(first: SequenceNumber, lengths: &[u16], joined: &[u8], size: usize)
         };
     }
     Started {
-        refusal,
+        refusal: refusal::NONE,
         progress: BEGINNING,
     }
 }
@@ -97,51 +98,57 @@ impl Progress {
         ensures { result ≡ moved self group written }
     {
         match written {
-            Ok(size) => self.past(group),
-            Err(short) => self,
+            Ok(_) => self.past(group),
+            Err(_) => self,
         }
     }
 
     // A turn's grounds behind its size: all is how many messages the run has, and have how much of the group's data is
     // there.
-    fn group_ground(self, first: SequenceNumber, all: usize, group: Fit, have: usize) -> Refusal
+    fn check_group(
+        self,
+        first: SequenceNumber,
+        all: usize,
+        group: Fit,
+        have: usize,
+    ) -> Result<(), Refusal>
         requires { group.count ≤ all - self.messages }
-        ensures { result.number ≡ group_ground first.0 all self group have }
+        ensures { result ≡ refused_by (group_ground first.0 all self group have) }
     {
         let messages = self.messages;
         if all <= messages {
-            return refusal::NO_SUCH_PACKET;
+            return Err(refusal::NO_SUCH_PACKET);
         }
         if group.bytes != have {
-            return refusal::LENGTHS_DIFFER;
+            return Err(refusal::LENGTHS_DIFFER);
         }
         // before 13, so that the number can't wrap: number 0 has room for any group
         if LARGEST_NUMBER.0 - first.0 < (messages + group.count) as u64 {
-            return refusal::NUMBERS_RUN_OUT;
+            return Err(refusal::NUMBERS_RUN_OUT);
         }
         if first.0 + messages as u64 == 0 {
-            return refusal::NUMBER_ZERO;
+            return Err(refusal::NUMBER_ZERO);
         }
         if group.count == 0 {
-            return refusal::MESSAGE_LONG;
+            return Err(refusal::MESSAGE_LONG);
         }
-        refusal::NONE
+        Ok(())
     }
 
-    // The ground of a turn whose size is good.
-    fn ground(
+    // The grounds of a turn whose size is good.
+    fn check(
         self,
         first: SequenceNumber,
         lengths: &[u16],
         joined: &[u8],
         size: usize,
         group: Fit,
-    ) -> Refusal
+    ) -> Result<(), Refusal>
         requires { (size_ground size ≡ 0) × (group ≡ fitting (room_of size) (drop self.messages lengths.now)) }
-        ensures { result.number ≡ next_ground size first.0 lengths.now joined.now self }
+        ensures { result ≡ refused_by (next_ground size first.0 lengths.now joined.now self) }
     {
         let data = parts::part(joined, ByteOffset(self.bytes), group.bytes);
-        self.group_ground(first, lengths.len(), group, data.len())
+        self.check_group(first, lengths.len(), group, data.len())
     }
 
     // Writes the group of a turn that has no ground.
@@ -186,16 +193,14 @@ impl Progress {
             × (result.progress ≡ progress_after session size first.0 lengths.now joined.now self
             out.old) }
     {
-        let bad = size::ground(size);
-        if bad.number != 0 {
+        if let Err(bad) = size::check(size) {
             return Turn {
                 written: Err(bad),
                 progress: self,
             };
         }
         let group = self.group(lengths, size::room(size));
-        let refused = self.ground(first, lengths, joined, size, group);
-        if refused.number != 0 {
+        if let Err(refused) = self.check(first, lengths, joined, size, group) {
             return Turn {
                 written: Err(refused),
                 progress: self,
