@@ -8,7 +8,8 @@ use lib.ListN.{length, take, drop, length-drop}
 use lib.Seq.{take_all, take-take, length-take-le}
 use lib.Dec.{eqb}
 use borrow.Author.Tests.{eq-eqb, ne_eqb, eqb-true, eqb-false, not-false}
-use Rattle.std.specs.Prelude.{if◌then◌else◌}
+use Rattle.std.specs.Prelude.{if◌then◌else◌, Option, Some, None, Result, Ok, Err}
+use Rattle.wire.specs.declared.refusal.Refusal.{Refusal}
 use Rattle.wire.specs.Bytes.{same_bytes}
 use Rattle.wire.proofs.Cases.{below_or_not}
 use Rattle.moldudp64.specs.Header.{number_of, count_of}
@@ -23,7 +24,7 @@ use Rattle.packing.proofs.PartLaws.{cut-part, total-take, total-drop, part-whole
 use Rattle.store.specs.Store.{Store, numbers_ground, store_ground, place_of, in_store, length_at, answer_ground, how_many, chosen, answer_bytes}
 use Rattle.store.specs.declared.ask.Asked.{Asked}
 use Rattle.store.specs.declared.pick.Picked.{Picked}
-use Rattle.store.specs.Steps.{setting_ground, ask_nothing, is_held, ask_held, ask_from, ask_of, wanted_lengths, pick_nothing, pick_most, pick_of, taken_lengths, taken_data, Within}
+use Rattle.store.specs.Steps.{setting_ground, is_held, ask_refused, ask_held, ask_from, ask_of, wanted_lengths, pick_most, pick_of, taken_lengths, taken_data, Within}
 use Rattle.store.proofs.AnswerLaws.{Good, good, Placed, placed, wanted-from, some-chosen, is-the-most, within-wanted, within-store, wants-some}
 
 -- ---- the setting
@@ -50,21 +51,26 @@ module _ (st : Store) (size : ℕ) where
 
 -- ---- the lengths and the data
 
-is_whole : Picked → Bool
-is_whole p = p.whole
-
-whole_is : (ks : List ℕ) (d place count room : ℕ) → is_whole (pick_of ks d place count room) ≡ eqb (total ks) d
-unfolding pick_of is_whole
-whole_is ks d place count room = go (eqb (total ks) d)
+none-picked : (ks : List ℕ) (d place count room : ℕ) → None ≡ pick_of ks d place count room → eqb (total ks) d ≡ false
+unfolding pick_of
+none-picked ks d place count room e = go (eqb (total ks) d) e
   where
-    go : (t : Bool) → is_whole (if t then pick_most ks place count room else pick_nothing) ≡ t
-    go true = refl
-    go false = refl
+    go : (t : Bool) → ◌≡◌ {A = Option Picked} None (if t then Some (pick_most ks place count room) else None) → t ≡ false
+    go true f = let z : ◌≡◌ {A = ℕ} 0 1 = cc in absurd (omega arith)
+    go false f = refl
 
 -- where they add up
-most-picked : (ks : List ℕ) (d place count room : ℕ) (p : Picked) → p ≡ pick_of ks d place count room → total ks ≡ d → p ≡ pick_most ks place count room
+record Picks (ks : List ℕ) (d place count room : ℕ) (p : Picked) : Type 0 where
+  add_up : eqb (total ks) d ≡ true
+  most : p ≡ pick_most ks place count room
+
+picks : (ks : List ℕ) (d place count room : ℕ) (p : Picked) → Some p ≡ pick_of ks d place count room → Picks ks d place count room p
 unfolding pick_of
-most-picked ks d place count room p e w = rw (eq-eqb _ _ w) at e
+picks ks d place count room p e = go (eqb (total ks) d) refl e
+  where
+    go : (t : Bool) → eqb (total ks) d ≡ t → ◌≡◌ {A = Option Picked} (Some p) (if t then Some (pick_most ks place count room) else None) → Picks ks d place count room p
+    go true b f = record { add_up = b; most = cc }
+    go false b f = let z : ◌≡◌ {A = ℕ} 0 1 = cc in absurd (omega arith)
 
 -- ---- the request
 
@@ -77,37 +83,54 @@ record Asks (st : Store) (q : List ℕ) (a : Asked) : Type 0 where
   place : a.place ≡ place_of st (number_of q)
   count : a.count ≡ min (count_of q) (length st.lengths - place_of st (number_of q))
 
-module _ (st : Store) (q : List ℕ) (a : Asked) (e : a ≡ ask_of st.session st.first (length st.lengths) q) where
-  asks : a.refusal.number ≡ 0 → Asks st q a
+abbrev asked_by : Store → List ℕ → Bool → Bool → Bool → Result Asked Refusal
+asked_by st q t u v =
+    if not t then ask_refused (request_refusal q)
+    else if not u then ask_refused 53
+    else if v then Ok (ask_held st.first (length st.lengths) (number_of q) (count_of q))
+    else ask_refused 51
+
+module _ (st : Store) (q : List ℕ) where
+  asks : (a : Asked) → Ok a ≡ ask_of st.session st.first (length st.lengths) q → Asks st q a
   unfolding ask_of ask_from is_held in_store
-  asks z = go (eqb (request_refusal q) 0) refl (same_bytes (request_session q) st.session) refl (in_store st (number_of q)) refl e
+  asks a e = go (eqb (request_refusal q) 0) refl (same_bytes (request_session q) st.session) refl (in_store st (number_of q)) refl e
     where
       go : (t : Bool) → eqb (request_refusal q) 0 ≡ t → (u : Bool) → same_bytes (request_session q) st.session ≡ u → (v : Bool) → in_store st (number_of q) ≡ v
-          → a ≡ (if not t then ask_nothing (request_refusal q) else if not u then ask_nothing 53 else if v then ask_held st.first (length st.lengths) (number_of q) (count_of q) else ask_nothing 51) → Asks st q a
-      go false b u c v d f = absurd (eqb-false _ _ b (sym (ap (λ (x : Asked). x.refusal.number) f) ∙ z))
-      go true b false c v d f = let y : ◌≡◌ {A = ℕ} 53 0 = sym (ap (λ (x : Asked). x.refusal.number) f) ∙ z in absurd (omega arith)
-      go true b true c false d f = let y : ◌≡◌ {A = ℕ} 51 0 = sym (ap (λ (x : Asked). x.refusal.number) f) ∙ z in absurd (omega arith)
+          → Ok a ≡ asked_by st q t u v → Asks st q a
+      go false b u c v d f = let z : ◌≡◌ {A = ℕ} 0 1 = cc in absurd (omega arith)
+      go true b false c v d f = let z : ◌≡◌ {A = ℕ} 0 1 = cc in absurd (omega arith)
+      go true b true c false d f = let z : ◌≡◌ {A = ℕ} 0 1 = cc in absurd (omega arith)
       go true b true c true d f =
+          let k : a ≡ ask_held st.first (length st.lengths) (number_of q) (count_of q) = cc in
           record {
             good = eqb-true _ _ b;
             same = c;
             there = d;
-            number = ap (λ (x : Asked). x.number.0) f;
-            place = ap (λ (x : Asked). x.place) f;
-            count = ap (λ (x : Asked). x.count) f;
+            number = ap (λ (x : Asked). x.number.0) k;
+            place = ap (λ (x : Asked). x.place) k;
+            count = ap (λ (x : Asked). x.count) k;
           }
 
-  asks-not : (x : ℕ) → (a.refusal.number ≡ 0 → ⊥)
-      → (if not (eqb (request_refusal q) 0) then request_refusal q else if not (same_bytes (request_session q) st.session) then 53 else if not (in_store st (number_of q)) then 51 else x) ≡ a.refusal.number
+  record AsksNot (x : ℕ) (r : Refusal) : Type 0 where
+    ground : (if not (eqb (request_refusal q) 0) then request_refusal q else if not (same_bytes (request_session q) st.session) then 53 else if not (in_store st (number_of q)) then 51 else x) ≡ r.number
+    is_one : r.number ≡ 0 → ⊥
+
+  asks-not : (x : ℕ) (r : Refusal) → Err r ≡ ask_of st.session st.first (length st.lengths) q → AsksNot x r
   unfolding ask_of ask_from is_held in_store
-  asks-not x z = go (eqb (request_refusal q) 0) (same_bytes (request_session q) st.session) (in_store st (number_of q)) e
+  asks-not x r e = record { ground = go (eqb (request_refusal q) 0) (same_bytes (request_session q) st.session) (in_store st (number_of q)) e; is_one = is (eqb (request_refusal q) 0) refl (same_bytes (request_session q) st.session) (in_store st (number_of q)) e }
     where
-      go : (t u v : Bool)
-          → a ≡ (if not t then ask_nothing (request_refusal q) else if not u then ask_nothing 53 else if v then ask_held st.first (length st.lengths) (number_of q) (count_of q) else ask_nothing 51) → (if not t then request_refusal q else if not u then 53 else if not v then 51 else x) ≡ a.refusal.number
-      go false u v f = sym (ap (λ (y : Asked). y.refusal.number) f)
-      go true false v f = sym (ap (λ (y : Asked). y.refusal.number) f)
-      go true true false f = sym (ap (λ (y : Asked). y.refusal.number) f)
-      go true true true f = absurd (z (ap (λ (y : Asked). y.refusal.number) f))
+      go : (t u v : Bool) → Err r ≡ asked_by st q t u v
+          → (if not t then request_refusal q else if not u then 53 else if not v then 51 else x) ≡ r.number
+      go false u v f = cc
+      go true false v f = cc
+      go true true false f = cc
+      go true true true f = let z : ◌≡◌ {A = ℕ} 0 1 = cc in absurd (omega arith)
+
+      is : (t : Bool) → eqb (request_refusal q) 0 ≡ t → (u v : Bool) → Err r ≡ asked_by st q t u v → r.number ≡ 0 → ⊥
+      is false b u v f z = let k : r.number ≡ request_refusal q = cc in eqb-false _ _ b (sym k ∙ z)
+      is true b false v f z = let k : r.number ≡ 53 = cc in omega arith
+      is true b true false f z = let k : r.number ≡ 51 = cc in omega arith
+      is true b true true f z = let y : ◌≡◌ {A = ℕ} 0 1 = cc in absurd (omega arith)
 
 -- the count wanted, and the store's end
 take-wanted : (ks : List ℕ) (place c : ℕ) → take (min c (length ks - place)) (drop place ks) ≡ take c (drop place ks)
@@ -121,43 +144,54 @@ take-wanted ks place c =
 
 -- ---- what an answer is
 
-module _ (st : Store) (size : ℕ) (q : List ℕ) (g : ℕ) (eg : g ≡ setting_ground st.first (length st.lengths) size) where
-  pub answer-setting : (g ≡ 0 → ⊥) → g ≡ answer_ground st size q
+module _ (st : Store) (size : ℕ) (q : List ℕ) where
+  pub answer-setting : (setting_ground st.first (length st.lengths) size ≡ 0 → ⊥) → setting_ground st.first (length st.lengths) size ≡ answer_ground st size q
   unfolding answer_ground
-  answer-setting z = let s = setting-refuses st size g eg z in rw (s, ne_eqb _ _ z)
+  answer-setting z = let s = setting-refuses st size _ refl z in rw (s, ne_eqb _ _ z)
 
-  module _ (zg : g ≡ 0) (a : Asked) (ea : a ≡ ask_of st.session st.first (length st.lengths) q) (room : ℕ) (er : room ≡ size - 20)
-      (p : Picked) (ep : p ≡ pick_of st.lengths (length st.joined) a.place a.count room) where
-    whole-so : p.whole ≡ add_up st.lengths st.joined
-    unfolding is_whole
-    whole-so = ap is_whole ep ∙ whole_is st.lengths (length st.joined) a.place a.count room
-
-    pub answer-44 : not p.whole ≡ true → 44 ≡ answer_ground st size q
+  module _ (zg : setting_ground st.first (length st.lengths) size ≡ 0) where
+    pub answer-44 : add_up st.lengths st.joined ≡ false → 44 ≡ answer_ground st size q
     unfolding answer_ground
     answer-44 h =
-        let s : store_ground st size ≡ 44 = setting-passes st size (sym eg ∙ zg) ∙ rw (sym whole-so, h) in
+        let s : store_ground st size ≡ 44 = setting-passes st size zg ∙ rw h in
         rw s
 
-    module _ (hw : not p.whole ≡ false) where
+    module _ (hw : add_up st.lengths st.joined ≡ true) where
       no-store-ground : store_ground st size ≡ 0
-      no-store-ground = setting-passes st size (sym eg ∙ zg) ∙ rw (sym whole-so, hw)
+      no-store-ground = setting-passes st size zg ∙ rw hw
 
       add-up : total st.lengths ≡ length st.joined
-      add-up = eqb-true _ _ (sym whole-so ∙ not-false _ hw)
+      add-up = eqb-true _ _ hw
 
-      pub answer-ask : (a.refusal.number ≡ 0 → ⊥) → a.refusal.number ≡ answer_ground st size q
+      pub answer-ask : (r : Refusal) → Err r ≡ ask_of st.session st.first (length st.lengths) q → r.number ≡ answer_ground st size q
       unfolding answer_ground
-      answer-ask z = rw no-store-ground (sym (asks-not st q a ea _ z))
+      answer-ask r e = rw no-store-ground (sym (asks-not st q _ r e).ground)
 
-      module _ (za : a.refusal.number ≡ 0) where
+    pub asked-ground : (r : Refusal) → Err r ≡ ask_of st.session st.first (length st.lengths) q → r.number ≡ 0 → ⊥
+    asked-ground r e = (asks-not st q 0 r e).is_one
+
+    module _ (a : Asked) (ea : Ok a ≡ ask_of st.session st.first (length st.lengths) q) (room : ℕ) (er : room ≡ size - 20) where
+      pub answer-none : None ≡ pick_of st.lengths (length st.joined) a.place a.count room → 44 ≡ answer_ground st size q
+      answer-none e = answer-44 (none-picked st.lengths (length st.joined) a.place a.count room e)
+
+      module _ (p : Picked) (ep : Some p ≡ pick_of st.lengths (length st.joined) a.place a.count room) where
+        is-picked : Picks st.lengths (length st.joined) a.place a.count room p
+        is-picked = picks st.lengths (length st.joined) a.place a.count room p ep
+
+        adds-up : total st.lengths ≡ length st.joined
+        adds-up = eqb-true _ _ is-picked.add_up
+
+        store-good : store_ground st size ≡ 0
+        store-good = no-store-ground is-picked.add_up
+
         abbrev n : ℕ
         n = number_of q
 
         asked : Asks st q a
-        asked = asks st q a ea za
+        asked = asks st q a ea
 
         is-good : Good st size
-        is-good = good st size no-store-ground
+        is-good = good st size store-good
 
         is-placed : Placed st n
         is-placed = placed st n asked.there
@@ -170,7 +204,7 @@ module _ (st : Store) (size : ℕ) (q : List ℕ) (g : ℕ) (eg : g ≡ setting_
         the-wanted = rw (asked.place, asked.count) (take-wanted st.lengths (place_of st n) (count_of q))
 
         picked-most : p ≡ pick_most st.lengths a.place a.count room
-        picked-most = most-picked st.lengths (length st.joined) a.place a.count room p ep add-up
+        picked-most = is-picked.most
 
         as_many : p.count ≡ how_many st size n (count_of q)
         unfolding how_many
@@ -178,7 +212,7 @@ module _ (st : Store) (size : ℕ) (q : List ℕ) (g : ℕ) (eg : g ≡ setting_
 
         fits-or-long : (t : Bool) → fits_alone (size - 20) (length_at st n) ≡ t → (if not t then 52 else 0) ≡ answer_ground st size q
         unfolding answer_ground
-        fits-or-long t e = rw (no-store-ground, asked.good, asked.same, asked.there, e)
+        fits-or-long t e = rw (store-good, asked.good, asked.same, asked.there, e)
 
         none-fits : fits_alone (size - 20) (length_at st n) ≡ false → how_many st size n (count_of q) ≡ 0
         unfolding how_many
@@ -241,7 +275,7 @@ module _ (st : Store) (size : ℕ) (q : List ℕ) (g : ℕ) (eg : g ≡ setting_
               let u = total-drop pl st.lengths in
               record {
                 messages = omega (arith, as_many, asked.place, within);
-                bytes = omega (arith, their-bytes, they-begin, add-up);
+                bytes = omega (arith, their-bytes, they-begin, adds-up);
               }
 
           pub are_bytes : encoded_cut st.session a.number.0 (taken_lengths a p st.lengths) (taken_data p st.joined) ≡ answer_bytes st size q
@@ -251,7 +285,7 @@ module _ (st : Store) (size : ℕ) (q : List ℕ) (g : ℕ) (eg : g ≡ setting_
           is-writable : Writable n (take hm (drop pl st.lengths)) (take (total (take hm (drop pl st.lengths))) (drop (total (take pl st.lengths)) st.joined))
           is-writable =
               let k = length-take-le hm (drop pl st.lengths) (omega (arith, within, length-drop pl st.lengths)) in
-              let w = part-whole pl hm st.lengths st.joined add-up in
+              let w = part-whole pl hm st.lengths st.joined adds-up in
               let f = rw first_of at the-most.fits.fit in
               let s = is-good.small in
               let b = is-good.large in

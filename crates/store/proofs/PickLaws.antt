@@ -2,31 +2,31 @@
 -- there on of which the most that fit are taken, and those behind; d is how many bytes the data has.
 use Prim.Native.Nat.{ℕ, ◌+◌, ◌-◌, ◌≤◌, ◌<◌}
 use mathlib.Core.List.{List}
-use mathlib.Core.Bool.{true, false, not}
-use mathlib.Core.Path.{◌≡◌, sym, ap, ◌∙◌}
+use mathlib.Core.Bool.{Bool, true, false}
+use mathlib.Core.Path.{◌≡◌, refl, sym, ap, ◌∙◌}
 use native.Mathlib.Omega.{arith}
 use lib.ListN.{length, take, drop, length-take}
 use lib.Seq.{length-take-le, take-take, drop-drop}
 use lib.Dec.{leb}
-use borrow.Author.Tests.{leb-true, leb-false, eq-eqb, ne_eqb, not-true, not-false}
+use borrow.Author.Tests.{leb-true, leb-false, le-leb, eq-eqb, ne_eqb}
 use mir.Val.{Fits}
 use mir.Syntax.{w64}
+use Rattle.std.specs.Prelude.{if◌then◌else◌, Option, Some, None}
 use Rattle.wire.proofs.Numbers.{part_to_end}
-use Rattle.moldudp64_writer.specs.declared.lengths.Left.{Left}
 use Rattle.moldudp64_writer.specs.Writer.{total, left_after}
 use Rattle.moldudp64_writer.proofs.LengthLaws.{total-parts}
 use Rattle.packing.specs.declared.fit.Fit.{Fit}
 use Rattle.packing.specs.Fit.{most_that_fit, fitting}
 use Rattle.packing.proofs.FitLaws.{is_most}
 use Rattle.store.specs.declared.pick.Picked.{Picked}
-use Rattle.store.specs.Steps.{pick_nothing, wanted_lengths, TakesMost, pick_of}
+use Rattle.store.specs.Steps.{wanted_lengths, TakesMost, pick_of}
 
 -- ---- parts of the lengths
 
 pub before-count : (ks : List ℕ) (place : ℕ) → place ≤ length ks → length (take place ks) ≡ place
 before-count ks place h = length-take-le place ks h
 
-pub behind-so : (ks : List ℕ) (place d : ℕ) (x : Left) → x ≡ left_after (take (length ks - place) (drop place ks)) d → x ≡ left_after (drop place ks) d
+pub behind-so : (ks : List ℕ) (place d : ℕ) (x : Option ℕ) → x ≡ left_after (take (length ks - place) (drop place ks)) d → x ≡ left_after (drop place ks) d
 behind-so ks place d x e = rw (part_to_end place ks) at e
 
 -- those that are taken are among those that are wanted
@@ -45,67 +45,79 @@ behind-fits ks place count room fit t f = record { fits = omega (arith, t.among,
 
 -- ---- all of them
 
-not-whole : (ks : List ℕ) (d place count room : ℕ) (p : Picked) → p ≡ pick_nothing → (total ks ≡ d → ⊥) → p ≡ pick_of ks d place count room
+not-whole : (ks : List ℕ) (d place count room : ℕ) → (total ks ≡ d → ⊥) → None ≡ pick_of ks d place count room
 unfolding pick_of
-not-whole ks d place count room p e z = rw (ne_eqb _ _ z) e
+not-whole ks d place count room z = rw (ne_eqb _ _ z)
 
-module _ (ks : List ℕ) (d place count room : ℕ) (before : Left) (eb : before ≡ left_after (take place ks) d) where
-  enough-before : before.enough ≡ leb (total (take place ks)) d
-  enough-before = ap (λ (x : Left). x.enough) eb
+-- what is left of so many bytes, or that they aren't enough
+record Leaves (ks : List ℕ) (d left : ℕ) : Type 0 where
+  enough : total ks ≤ d
+  rest : left ≡ d - total ks
 
-  bytes-before : before.bytes ≡ d - total (take place ks)
-  bytes-before = ap (λ (x : Left). x.bytes) eb
+leaves : (ks : List ℕ) (d left : ℕ) → Some left ≡ left_after ks d → Leaves ks d left
+leaves ks d left e = go (leb (total ks) d) refl e
+  where
+    go : (t : Bool) → leb (total ks) d ≡ t → ◌≡◌ {A = Option ℕ} (Some left) (if t then Some (d - total ks) else None) → Leaves ks d left
+    go true b f = record { enough = leb-true _ _ b; rest = cc }
+    go false b f = let z : ◌≡◌ {A = ℕ} 0 1 = cc in absurd (omega arith)
 
-  pub pick-before : (p : Picked) → not before.enough ≡ true → p ≡ pick_nothing → p ≡ pick_of ks d place count room
-  pick-before p h e =
-      let l : d < total (take place ks) = leb-false _ _ (sym enough-before ∙ not-true _ h) in
-      not-whole ks d place count room p e (λ (z : total ks ≡ d). omega (arith, total-parts place ks))
+lacks : (ks : List ℕ) (d : ℕ) → None ≡ left_after ks d → d < total ks
+lacks ks d e = go (leb (total ks) d) refl e
+  where
+    go : (t : Bool) → leb (total ks) d ≡ t → ◌≡◌ {A = Option ℕ} None (if t then Some (d - total ks) else None) → d < total ks
+    go true b f = let z : ◌≡◌ {A = ℕ} 0 1 = cc in absurd (omega arith)
+    go false b f = leb-false _ _ b
 
-  pub before-less : before.bytes ≤ d
-  before-less = omega (arith, bytes-before)
+none-left : (ks : List ℕ) (d : ℕ) → total ks ≡ d → left_after ks d ≡ Some 0
+none-left ks d e =
+    let l : total ks ≤ d = omega arith in
+    let z : d - total ks ≡ 0 = omega arith in
+    rw (le-leb _ _ l, z)
 
-  module _ (fit : Fit) (tf : TakesMost fit ks place count room) where
-    as_many : fit.count ≡ most_that_fit room (wanted_lengths ks place count)
-    as_many = ap (λ (x : Fit). x.count) tf.most
+module _ (ks : List ℕ) (d place count room : ℕ) (before : Option ℕ) (eb : before ≡ left_after (take place ks) d) where
+  pub pick-before : before ≡ None → None ≡ pick_of ks d place count room
+  pick-before h =
+      let l = lacks (take place ks) d (sym h ∙ eb) in
+      not-whole ks d place count room (λ (z : total ks ≡ d). omega (arith, total-parts place ks))
 
-    their-bytes : fit.bytes ≡ total (take (most_that_fit room (wanted_lengths ks place count)) (wanted_lengths ks place count))
-    their-bytes = ap (λ (x : Fit). x.bytes) tf.most
+  module _ (left : ℕ) (hl : before ≡ Some left) where
+    the-rest : Leaves (take place ks) d left
+    the-rest = leaves (take place ks) d left (sym hl ∙ eb)
 
-    -- before, of and behind the messages taken
-    three-parts : total ks ≡ total (take place ks) + fit.bytes + total (drop (place + fit.count) ks)
-    three-parts =
-        let t = take-take (most_that_fit room (wanted_lengths ks place count)) count (drop place ks) (within_count ks place count room) in
-        let b : fit.bytes ≡ total (take fit.count (drop place ks)) = rw as_many (their-bytes ∙ ap total t) in
-        let q = rw drop-drop at (total-parts fit.count (drop place ks)) in
-        omega (arith, total-parts place ks, b, q)
+    pub before-less : left ≤ d
+    before-less = omega (arith, the-rest.rest)
 
-    module _ (hb : not before.enough ≡ false) where
-      enough : total (take place ks) ≤ d
-      enough = leb-true _ _ (sym enough-before ∙ not-false _ hb)
+    module _ (fit : Fit) (tf : TakesMost fit ks place count room) where
+      as_many : fit.count ≡ most_that_fit room (wanted_lengths ks place count)
+      as_many = ap (λ (x : Fit). x.count) tf.most
 
-      pub pick-fit : (p : Picked) → before.bytes < fit.bytes → p ≡ pick_nothing → p ≡ pick_of ks d place count room
-      pick-fit p l e = not-whole ks d place count room p e (λ (z : total ks ≡ d). omega (arith, bytes-before, three-parts, enough))
+      their-bytes : fit.bytes ≡ total (take (most_that_fit room (wanted_lengths ks place count)) (wanted_lengths ks place count))
+      their-bytes = ap (λ (x : Fit). x.bytes) tf.most
 
-      module _ (behind : Left) (ea : behind ≡ left_after (drop (place + fit.count) ks) (before.bytes - fit.bytes)) (hf : fit.bytes ≤ before.bytes) where
-        enough-behind : behind.enough ≡ leb (total (drop (place + fit.count) ks)) (before.bytes - fit.bytes)
-        enough-behind = ap (λ (x : Left). x.enough) ea
+      -- before, of and behind the messages taken
+      three-parts : total ks ≡ total (take place ks) + fit.bytes + total (drop (place + fit.count) ks)
+      three-parts =
+          let t = take-take (most_that_fit room (wanted_lengths ks place count)) count (drop place ks) (within_count ks place count room) in
+          let b : fit.bytes ≡ total (take fit.count (drop place ks)) = rw as_many (their-bytes ∙ ap total t) in
+          let q = rw drop-drop at (total-parts fit.count (drop place ks)) in
+          omega (arith, total-parts place ks, b, q)
 
-        bytes-behind : behind.bytes ≡ before.bytes - fit.bytes - total (drop (place + fit.count) ks)
-        bytes-behind = ap (λ (x : Left). x.bytes) ea
+      pub pick-fit : left < fit.bytes → None ≡ pick_of ks d place count room
+      pick-fit l = not-whole ks d place count room (λ (z : total ks ≡ d). omega (arith, the-rest.rest, three-parts, the-rest.enough))
 
-        pub pick-behind : (p : Picked) → not behind.enough ≡ true → p ≡ pick_nothing → p ≡ pick_of ks d place count room
-        pick-behind p h e =
-            let l : before.bytes - fit.bytes < total (drop (place + fit.count) ks) = leb-false _ _ (sym enough-behind ∙ not-true _ h) in
-            not-whole ks d place count room p e (λ (z : total ks ≡ d). omega (arith, bytes-before, three-parts, enough))
+      module _ (hf : fit.bytes ≤ left) (rest : ℕ) (hr : rest ≡ left - fit.bytes) (behind : Option ℕ)
+          (ea : behind ≡ left_after (drop (place + fit.count) ks) rest) where
+        pub pick-behind : (behind ≡ Some 0 → ⊥) → None ≡ pick_of ks d place count room
+        pick-behind n =
+            not-whole ks d place count room
+            (λ (z : total ks ≡ d).
+            let e : total (drop (place + fit.count) ks) ≡ rest = omega (arith, the-rest.rest, three-parts, the-rest.enough) in
+            n (ea ∙ none-left (drop (place + fit.count) ks) rest e))
 
-        pub pick-left : (p : Picked) → (behind.bytes ≡ 0 → ⊥) → p ≡ pick_nothing → p ≡ pick_of ks d place count room
-        pick-left p n e = not-whole ks d place count room p e (λ (z : total ks ≡ d). n (omega (arith, bytes-before, bytes-behind, three-parts, enough)))
-
-        pub pick-whole : not behind.enough ≡ false → behind.bytes ≡ 0
-            → record { whole = true; from = d - before.bytes; count = fit.count; bytes = fit.bytes } ≡ pick_of ks d place count room
+        pub pick-whole : behind ≡ Some 0 → Some (record { from = d - left; count = fit.count; bytes = fit.bytes }) ≡ pick_of ks d place count room
         unfolding pick_of
-        pick-whole h n =
-            let l : total (drop (place + fit.count) ks) ≤ before.bytes - fit.bytes = leb-true _ _ (sym enough-behind ∙ not-false _ h) in
-            let w : total ks ≡ d = omega (arith, bytes-before, bytes-behind, three-parts, enough) in
-            let f : d - before.bytes ≡ total (take place ks) = omega (arith, bytes-before, enough) in
+        pick-whole h =
+            let l = leaves (drop (place + fit.count) ks) rest 0 (sym h ∙ ea) in
+            let w : total ks ≡ d = omega (arith, the-rest.rest, l.rest, l.enough, three-parts, the-rest.enough) in
+            let f : d - left ≡ total (take place ks) = omega (arith, the-rest.rest, the-rest.enough) in
             rw (eq-eqb _ _ w, f, as_many, their-bytes)

@@ -1,36 +1,23 @@
 // The messages that an answer takes, found while all lengths are held against the joined data.
 #![tactic(auto, using(crate::proofs::Rules::picks))]
+
 ghost use Rattle.std.specs.Prelude.{◌≡◌, ◌+◌, ◌≤◌, length, take, drop};
 ghost use Rattle.moldudp64_writer.specs.Writer.{left_after};
-ghost use Rattle.store.specs.Steps.{pick_nothing, TakesMost, pick_of};
+ghost use Rattle.store.specs.Steps.{TakesMost, pick_of};
 
-use moldudp64_writer::lengths::{Left, left_after};
+use moldudp64_writer::lengths::left_after;
 use packing::fit::{Fit, most_that_fit};
 
-// Whether the lengths add up to the data, and if so where the data of the messages taken begins, how many they are and
-// how many bytes they have.
+// Where the data of the messages taken begins, how many they are and how many bytes they have.
 #[derive(Clone, Copy)]
 pub(crate) struct Picked {
-    pub whole: bool,
     pub from: usize,
     pub count: usize,
     pub bytes: usize,
 }
 
-// The lengths don't add up.
-fn nothing() -> Picked
-    ensures { result ≡ pick_nothing }
-{
-    Picked {
-        whole: false,
-        from: 0,
-        count: 0,
-        bytes: 0,
-    }
-}
-
 // What is left of so many bytes after the messages before a place.
-fn left_before(lengths: &[u16], place: usize, bytes: usize) -> Left
+fn left_before(lengths: &[u16], place: usize, bytes: usize) -> Option<usize>
     requires { place ≤ length lengths.now }
     ensures { result ≡ left_after (take place lengths.now) bytes }
 {
@@ -38,7 +25,7 @@ fn left_before(lengths: &[u16], place: usize, bytes: usize) -> Left
 }
 
 // What is left of so many bytes after the messages from a place on.
-fn left_behind(lengths: &[u16], place: usize, bytes: usize) -> Left
+fn left_behind(lengths: &[u16], place: usize, bytes: usize) -> Option<usize>
     requires { place ≤ length lengths.now }
     ensures { result ≡ left_after (drop place lengths.now) bytes }
 {
@@ -54,7 +41,7 @@ fn fit_from(lengths: &[u16], place: usize, count: usize, room: usize) -> Fit
     most_that_fit(&lengths[place..end], room)
 }
 
-// Takes the most that fit of so many messages from a place on. The lengths before them, theirs and those behind them
+// Takes the most that fit of so many messages from a place on, where all lengths add up to the data. The lengths before them, theirs and those behind them
 // are each gone through once, so that a store of a million messages is held against its data in one pass.
 pub(crate) fn pick(
     lengths: &[u16],
@@ -62,29 +49,19 @@ pub(crate) fn pick(
     place: usize,
     count: usize,
     room: usize,
-) -> Picked
+) -> Option<Picked>
     requires { place + count ≤ length lengths.now }
     ensures { result ≡ pick_of lengths.now joined place count room }
 {
-    let before = left_before(lengths, place, joined);
-    if !before.enough {
-        return nothing();
-    }
+    let left = left_before(lengths, place, joined)?;
     let fit = fit_from(lengths, place, count, room);
-    if before.bytes < fit.bytes {
-        return nothing();
+    let behind = left.checked_sub(fit.bytes)?;
+    if left_behind(lengths, place + fit.count, behind) != Some(0) {
+        return None;
     }
-    let behind = left_behind(lengths, place + fit.count, before.bytes - fit.bytes);
-    if !behind.enough {
-        return nothing();
-    }
-    if behind.bytes != 0 {
-        return nothing();
-    }
-    Picked {
-        whole: true,
-        from: joined - before.bytes,
+    Some(Picked {
+        from: joined - left,
         count: fit.count,
         bytes: fit.bytes,
-    }
+    })
 }

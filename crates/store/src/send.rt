@@ -1,5 +1,6 @@
 // The messages that are taken, handed to the writer of packets.
 #![tactic(auto, using(crate::proofs::Rules::sendings))]
+
 ghost use Rattle.wire.specs.Output.{Writes};
 ghost use Rattle.moldudp64_writer.specs.Writer.{encoded_cut, packet_ground};
 ghost use Rattle.store.specs.Steps.{Within, taken_lengths, taken_data};
