@@ -11,14 +11,14 @@ use moldudp64_messages::cursor::{Cursor, Located};
 use receiver::delivery;
 use wire::kinds::{MessageCount, MessagePlace};
 
-#[derive(Clone, Copy)]
+#[derive(Clone, Copy, Debug, PartialEq, Eq)]
 pub struct Reader<'a> {
     pub cursor: Cursor,
     pub datagram: &'a [u8],
 }
 
 // Where the message is, how many are left from it on, and the place of the next one.
-#[derive(Clone, Copy)]
+#[derive(Clone, Copy, Debug, PartialEq, Eq)]
 pub struct Shown {
     pub located: Located,
     pub left: MessageCount,
