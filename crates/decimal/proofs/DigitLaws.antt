@@ -11,23 +11,24 @@ use Rattle.io.specs.Digits.{last_digits as io-digits, IsDigitCount}
 use Rattle.wire.specs.Bounds.{largest_number}
 use Rattle.wire.specs.Output.{Writes}
 use Rattle.wire.specs.Output.{Written}
-use Rattle.decimal.specs.declared.reading.Appended.TheVariants.{Value, NoDigit, TooLarge}
+use Rattle.std.specs.Prelude.{Ok, Err}
+use Rattle.decimal.specs.declared.reading.DigitError.TheVariants.{NoDigit, TooLarge}
 use Rattle.decimal.specs.Decimal.{is_digit, appended_words, append_of, digits}
 use Rattle.decimal.proofs.SpellLaws.{decimal-digits}
 
-pub append-low : (v b : ℕ) → b < 48 → appended_words NoDigit ≡ append_of v b
+pub append-low : (v b : ℕ) → b < 48 → appended_words (Err NoDigit) ≡ append_of v b
 unfolding appended_words append_of is_digit
 append-low v b h = simp (lt-ltb _ _ h)
 
-pub append-high : (v b : ℕ) → 48 ≤ b → 57 < b → appended_words NoDigit ≡ append_of v b
+pub append-high : (v b : ℕ) → 48 ≤ b → 57 < b → appended_words (Err NoDigit) ≡ append_of v b
 unfolding appended_words append_of is_digit
 append-high v b h g = simp (le-ltb _ _ h, lt-leb _ _ g)
 
-pub append-large : (v b : ℕ) → 48 ≤ b → b ≤ 57 → (largest_number - (b - 48)) / 10 < v → appended_words TooLarge ≡ append_of v b
+pub append-large : (v b : ℕ) → 48 ≤ b → b ≤ 57 → (largest_number - (b - 48)) / 10 < v → appended_words (Err TooLarge) ≡ append_of v b
 unfolding appended_words append_of is_digit
 append-large v b h g m = let k : largest_number < v * 10 + (b - 48) = omega arith in simp (le-ltb _ _ h, le-leb _ _ g, lt-ltb _ _ k)
 
-pub append-value : (v b : ℕ) → 48 ≤ b → b ≤ 57 → v ≤ (largest_number - (b - 48)) / 10 → appended_words (Value (v * 10 + (b - 48))) ≡ append_of v b
+pub append-value : (v b : ℕ) → 48 ≤ b → b ≤ 57 → v ≤ (largest_number - (b - 48)) / 10 → appended_words (Ok (v * 10 + (b - 48))) ≡ append_of v b
 unfolding appended_words append_of is_digit
 append-value v b h g m = let k : v * 10 + (b - 48) ≤ largest_number = omega arith in simp (le-ltb _ _ h, le-leb _ _ g, le-ltb _ _ k)
 

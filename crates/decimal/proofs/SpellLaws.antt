@@ -9,30 +9,30 @@ use lib.ListN.{length, get_or, length-append, get_or-append}
 use lib.Dec.{ltb, leb}
 use borrow.Author.Tests.{lt-ltb, le-ltb, ltb-true, ltb-false, le-leb, leb-true, leb-false}
 use Rattle.io.specs.Digits.{last_digits as io-digits, IsDigitCount, hex_digit_ascii}
-use Rattle.std.specs.Prelude.{if◌then◌else◌}
+use Rattle.std.specs.Prelude.{if◌then◌else◌, Result, Ok, Err}
 use Rattle.wire.specs.Bounds.{largest_number}
 use Rattle.wire.specs.Words.{Case, answer, refused}
 use Rattle.wire.proofs.Words.{read_back}
-use Rattle.decimal.specs.declared.reading.Appended.{Appended}
-use Rattle.decimal.specs.declared.reading.Appended.TheVariants.{Value, NoDigit, TooLarge}
+use Rattle.decimal.specs.declared.reading.DigitError.{DigitError}
+use Rattle.decimal.specs.declared.reading.DigitError.TheVariants.{NoDigit, TooLarge}
 use Rattle.decimal.specs.Decimal.{is_digit, with_digit, Appending, value, no_digit, too_large, appended_words, AppendedApart, digits_up_to, digits, value_from, value_of, are_digits, Spelled, SpellsNumbers}
 
 -- ---- the words tell all answers apart
 
-answered : Case Appending → List ℕ → Appended
-answered (answer value) vs = Value (get_or vs 0 0)
-answered (answer no_digit) vs = NoDigit
-answered (answer too_large) vs = TooLarge
-answered refused vs = NoDigit
+answered : Case Appending → List ℕ → Result ℕ DigitError
+answered (answer value) vs = Ok (get_or vs 0 0)
+answered (answer no_digit) vs = Err NoDigit
+answered (answer too_large) vs = Err TooLarge
+answered refused vs = Err NoDigit
 
 pub appended-apart : AppendedApart
 unfolding AppendedApart appended_words answered
 appended-apart = read_back appended_words (λ w. answered w.which w.values) back
   where
-    back : (a : Appended) → answered (appended_words a).which (appended_words a).values ≡ a
-    back (Value v) = refl
-    back NoDigit = refl
-    back TooLarge = refl
+    back : (a : Result ℕ DigitError) → answered (appended_words a).which (appended_words a).values ≡ a
+    back (Ok v) = refl
+    back (Err NoDigit) = refl
+    back (Err TooLarge) = refl
 
 -- ---- one digit
 

@@ -1,10 +1,10 @@
 -- Decimal numbers as text, in ASCII.
-use Rattle.std.specs.Prelude.{ℕ, zero, suc, ◌+◌, ◌*◌, ◌-◌, ◌/◌, ◌%◌, ◌<◌, ◌≤◌, List, [], ◌∷◌, ◌++◌, Bool, true, false, ◌&&◌, ◌≡◌, length, get_or, ltb, leb, if◌then◌else◌}
+use Rattle.std.specs.Prelude.{ℕ, zero, suc, ◌+◌, ◌*◌, ◌-◌, ◌/◌, ◌%◌, ◌<◌, ◌≤◌, List, [], ◌∷◌, ◌++◌, Bool, true, false, ◌&&◌, ◌≡◌, length, get_or, ltb, leb, if◌then◌else◌, Result, Ok, Err}
 use Rattle.wire.specs.Text.{letter}
 use Rattle.wire.specs.Bounds.{largest_number}
 use Rattle.wire.specs.Words.{Words, says, Injective}
-use Rattle.decimal.specs.declared.reading.Appended.{Appended}
-use Rattle.decimal.specs.declared.reading.Appended.TheVariants.{Value, NoDigit, TooLarge}
+use Rattle.decimal.specs.declared.reading.DigitError.{DigitError}
+use Rattle.decimal.specs.declared.reading.DigitError.TheVariants.{NoDigit, TooLarge}
 
 -- `0` to `9`
 unfoldable pub is_digit : ℕ → Bool
@@ -20,10 +20,10 @@ with_digit v b = v * 10 + (b - letter "0")
 pub data Appending : Type 0 where
   value no_digit too_large : Appending
 
-unfoldable pub appended_words : Appended → Words Appending
-appended_words (Value v) = says value (v ∷ [])
-appended_words NoDigit = says no_digit []
-appended_words TooLarge = says too_large []
+unfoldable pub appended_words : Result ℕ DigitError → Words Appending
+appended_words (Ok v) = says value (v ∷ [])
+appended_words (Err NoDigit) = says no_digit []
+appended_words (Err TooLarge) = says too_large []
 
 -- the number with that digit, if the byte is one and the number stays within 2^64 - 1
 unfoldable pub append_of : ℕ → ℕ → Words Appending

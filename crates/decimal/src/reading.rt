@@ -3,33 +3,23 @@
 ghost use Rattle.std.specs.Prelude.{◌≡◌};
 ghost use Rattle.decimal.specs.Decimal.{appended_words, append_of, AppendedApart};
 
-use wire::kinds;
-
-// What one more byte makes of a number.
-#[derive(Clone, Copy)]
-pub enum Appended {
-    Value { value: u64 },
+// Why a byte makes no number of another.
+#[derive(Clone, Copy, Debug, PartialEq, Eq)]
+pub enum DigitError {
     NoDigit,
     // It would be above 2^64 - 1.
     TooLarge,
 }
 
 // Puts a byte's digit behind a number.
-pub fn append(value: u64, b: u8) -> Appended
+pub fn append(value: u64, b: u8) -> Result<u64, DigitError>
     ensures result_value { appended_words result ≡ append_of value b }
     ensures tells_apart { AppendedApart }
 {
-    if b < b'0' {
-        return Appended::NoDigit;
-    }
-    if b'9' < b {
-        return Appended::NoDigit;
-    }
-    let digit = (b - b'0') as u64;
-    if (kinds::LARGEST_NUMBER.0 - digit) / 10 < value {
-        return Appended::TooLarge;
-    }
-    Appended::Value {
-        value: value * 10 + digit,
-    }
+    let digit = match b {
+        b'0'..=b'9' => (b - b'0') as u64,
+        _ => return Err(DigitError::NoDigit),
+    };
+    let tens = value.checked_mul(10).ok_or(DigitError::TooLarge)?;
+    tens.checked_add(digit).ok_or(DigitError::TooLarge)
 }

@@ -9,14 +9,13 @@ use lib.ListN.{length, drop, get_or, replicate, length-append, length-replicate}
 use lib.Seq.{drop_at}
 use lib.Dec.{ltb, leb, eqb}
 use borrow.Author.Tests.{le-leb, lt-ltb, ltb-true, leb-true, ne_eqb, eqb-true}
-use Rattle.std.specs.Prelude.{if◌then◌else◌}
+use Rattle.std.specs.Prelude.{if◌then◌else◌, Option, Some, None}
 use Rattle.wire.specs.Bounds.{largest_number}
 use Rattle.wire.specs.Words.{Case, answer, refused, says, Injective}
 use Rattle.wire.proofs.Words.{which-of, values-of, read_back}
 use Rattle.decimal.specs.Decimal.{are_digits, value_of, digits, Spelled}
 use Rattle.decimal.proofs.SpellLaws.{are-so, digit-so, spells-numbers}
-use Rattle.text_fields.specs.declared.number.Number.{Number}
-use Rattle.text_fields.specs.declared.number.Number.TheVariants.{Value, Bad}
+use Rattle.wire.specs.declared.kinds.SequenceNumber.{SequenceNumber}
 use Rattle.text_fields.specs.Letters.{space, leading_spaces, after_spaces}
 use Rattle.text_fields.specs.Number.{NumberKind, value, bad, number_words, is_number, read_number, number_field_size, number_field, NoLeadingZero, NumberLaws}
 
@@ -117,18 +116,18 @@ writes_back l n least h e z =
 
 -- ---- the words tell all readings apart
 
-answered : Case NumberKind → List ℕ → Number
-answered (answer value) vs = Value (record { 0 = get_or vs 0 0 })
-answered (answer bad) vs = Bad
-answered refused vs = Bad
+answered : Case NumberKind → List ℕ → Option SequenceNumber
+answered (answer value) vs = Some (record { 0 = get_or vs 0 0 })
+answered (answer bad) vs = None
+answered refused vs = None
 
 tells_apart : Injective number_words
 unfolding number_words answered
 tells_apart = read_back number_words (λ w. answered w.which w.values) back
   where
-    back : (a : Number) → answered (number_words a).which (number_words a).values ≡ a
-    back (Value n) = refl
-    back Bad = refl
+    back : (a : Option SequenceNumber) → answered (number_words a).which (number_words a).values ≡ a
+    back (Some n) = refl
+    back None = refl
 
 pub number-laws : NumberLaws
 number-laws = record { reads_back = reads_back; writes_back = writes_back; tells_apart = tells_apart }

@@ -11,19 +11,18 @@ use lib.Dec.{ltb, leb, eqb, lit<}
 use mir.Val.{bool_byte, Fits}
 use mir.Syntax.{w8, w64}
 use borrow.Author.Tests.{lt-ltb, le-ltb, le-leb, lt-leb, ltb-true, ltb-false, leb-true, eq-eqb, ne_eqb}
-use Rattle.std.specs.Prelude.{if◌then◌else◌}
+use Rattle.std.specs.Prelude.{if◌then◌else◌, Option, Some, None, Result, Ok, Err}
 use Rattle.wire.specs.Bounds.{largest_number}
 use Rattle.wire.specs.Words.{Case, Words, answer, refused, says}
 use Rattle.wire.proofs.Cases.{below_or_not}
-use Rattle.decimal.specs.declared.reading.Appended.{Appended}
-use Rattle.decimal.specs.declared.reading.Appended.TheVariants as appended
+use Rattle.decimal.specs.declared.reading.DigitError.{DigitError}
+use Rattle.decimal.specs.declared.reading.DigitError.TheVariants.{NoDigit, TooLarge}
 use Rattle.decimal.specs.Decimal.{is_digit, with_digit, Appending, value, no_digit, too_large, appended_words, append_of}
 use Rattle.text_fields.specs.declared.session.SessionState.{SessionState}
 use Rattle.text_fields.specs.declared.session.SessionState.TheVariants.{Blank, Named, Bad}
 use Rattle.text_fields.specs.declared.number.NumberState.{NumberState}
 use Rattle.text_fields.specs.declared.number.NumberState.TheVariants as state
-use Rattle.text_fields.specs.declared.number.Number.{Number}
-use Rattle.text_fields.specs.declared.number.Number.TheVariants as number
+use Rattle.wire.specs.declared.kinds.SequenceNumber.{SequenceNumber}
 use Rattle.text_fields.specs.Letters.{is_letter_or_digit, lower, space}
 use Rattle.text_fields.specs.Session.{good_session, session_step, session_from, session_good}
 use Rattle.text_fields.specs.Number.{number_words, read_number, digit_step, number_step, number_from, number_good}
@@ -194,21 +193,15 @@ digit-told v b = go (is_digit b) (ltb largest_number (with_digit v b))
     go true false = refl
     go false y = refl
 
-module _ (a : Appended) (v b : ℕ) (q : appended_words a ≡ append_of v b) where
-  state-of : (c : Appended) → a ≡ c → tells (appended_words c) ≡ digit_step v b
-  state-of c e = ap (λ (x : Appended). tells (appended_words x)) (sym e) ∙ ap tells q ∙ digit-told v b
-
-  pub more-value : (n : ℕ) → a ≡ appended.Value n → state.Digits n ≡ digit_step v b
+module _ (v b : ℕ) where
+  pub more-value : (n : ℕ) → appended_words (Ok n) ≡ append_of v b → state.Digits n ≡ digit_step v b
   unfolding appended_words tells told
-  more-value n e = state-of (appended.Value n) e
+  more-value n q = ap tells q ∙ digit-told v b
 
-  pub more-none : a ≡ appended.NoDigit → state.Bad ≡ digit_step v b
+  pub more-none : (e : DigitError) → appended_words (Err e) ≡ append_of v b → state.Bad ≡ digit_step v b
   unfolding appended_words tells told
-  more-none e = state-of appended.NoDigit e
-
-  pub more-large : a ≡ appended.TooLarge → state.Bad ≡ digit_step v b
-  unfolding appended_words tells told
-  more-large e = state-of appended.TooLarge e
+  more-none NoDigit q = ap tells q ∙ digit-told v b
+  more-none TooLarge q = ap tells q ∙ digit-told v b
 
 module _ (b : ℕ) (s : NumberState) where
   pub number-space : s ≡ state.Blank → b ≡ space → state.Blank ≡ number_step s b
@@ -228,19 +221,19 @@ module _ (b : ℕ) (s : NumberState) where
   number-stays e = simp e
 
 module _ (least : ℕ) (s : NumberState) where
-  pub value-blank : s ≡ state.Blank → number_words number.Bad ≡ number_good least s
+  pub value-blank : s ≡ state.Blank → number_words None ≡ number_good least s
   unfolding number_words number_good
   value-blank e = simp e
 
-  pub value-bad : s ≡ state.Bad → number_words number.Bad ≡ number_good least s
+  pub value-bad : s ≡ state.Bad → number_words None ≡ number_good least s
   unfolding number_words number_good
   value-bad e = simp e
 
-  pub value_low : (v : ℕ) → s ≡ state.Digits v → v < least → number_words number.Bad ≡ number_good least s
+  pub value_low : (v : ℕ) → s ≡ state.Digits v → v < least → number_words None ≡ number_good least s
   unfolding number_words number_good
   value_low v e h = simp (e, lt-ltb _ _ h)
 
-  pub value-good : (v : ℕ) → s ≡ state.Digits v → least ≤ v → number_words (number.Value (record { 0 = v })) ≡ number_good least s
+  pub value-good : (v : ℕ) → s ≡ state.Digits v → least ≤ v → number_words (Some (record { 0 = v })) ≡ number_good least s
   unfolding number_words number_good
   value-good v e h = simp (e, le-ltb _ _ h)
 
@@ -250,7 +243,7 @@ module _ (l : List ℕ) (i : ℕ) (s : NumberState) where
   unfolding number_from
   number-next p r v h e = rw e (rw (front l i h) at v)
 
-  pub number-end : (least : ℕ) (r : Number) → number_from s (drop i l) ≡ number_from state.Blank l → length l ≤ i → number_words r ≡ number_good least s
+  pub number-end : (least : ℕ) (r : Option SequenceNumber) → number_from s (drop i l) ≡ number_from state.Blank l → length l ≤ i → number_words r ≡ number_good least s
       → number_words r ≡ read_number least l
   unfolding number_from
   number-end least r v h e = e ∙ ap (number_good least) (rw (drop_of_length-le l h) at v) ∙ number-fold.same least l

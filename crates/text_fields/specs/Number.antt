@@ -1,5 +1,5 @@
 -- A number field: spaces, then one or more decimal digits of a value of at most 2^64 - 1.
-use Rattle.std.specs.Prelude.{ℕ, ◌-◌, ◌≤◌, ◌<◌, List, [], ◌∷◌, ◌++◌, Bool, ◌&&◌, ◌≡◌, length, get_or, replicate, ltb, leb, eqb, if◌then◌else◌}
+use Rattle.std.specs.Prelude.{ℕ, ◌-◌, ◌≤◌, ◌<◌, List, [], ◌∷◌, ◌++◌, Bool, ◌&&◌, ◌≡◌, length, get_or, replicate, ltb, leb, eqb, if◌then◌else◌, Option, Some, None}
 use Rattle.wire.specs.Text.{letter}
 use Rattle.wire.specs.Bounds.{largest_number}
 use Rattle.wire.specs.Words.{Words, says, Injective}
@@ -7,17 +7,16 @@ use Rattle.decimal.specs.Decimal.{is_digit, with_digit, are_digits, value_of, di
 use Rattle.text_fields.specs.declared.number.NumberState.{NumberState}
 use Rattle.text_fields.specs.declared.number.NumberState.TheVariants.{Blank, Digits}
 use Rattle.text_fields.specs.declared.number.NumberState.TheVariants as state
-use Rattle.text_fields.specs.declared.number.Number.{Number}
-use Rattle.text_fields.specs.declared.number.Number.TheVariants.{Value, Bad}
+use Rattle.wire.specs.declared.kinds.SequenceNumber.{SequenceNumber}
 use Rattle.text_fields.specs.Letters.{space, after_spaces}
 
 -- what a field can be
 pub data NumberKind : Type 0 where
   value bad : NumberKind
 
-unfoldable pub number_words : Number → Words NumberKind
-number_words (Value n) = says value (n.0 ∷ [])
-number_words Bad = says bad []
+unfoldable pub number_words : Option SequenceNumber → Words NumberKind
+number_words (Some n) = says value (n.0 ∷ [])
+number_words None = says bad []
 
 -- one or more digits alone, of a value that fits
 unfoldable pub is_number : List ℕ → Bool

@@ -7,7 +7,6 @@ ghost use Rattle.text_fields.specs.Number.{number_field_size, digit_step, number
 ghost use Rattle.text_fields.specs.Number.{read_number, number_field, NumberFold, NumberLaws};
 
 use crate::letters;
-use decimal::reading::Appended;
 use decimal::{reading, writing};
 use wire::kinds::{ByteOffset, SequenceNumber};
 use wire::output;
@@ -17,17 +16,10 @@ use wire::refusal::Refusal;
 pub const NUMBER_FIELD_SIZE: usize = 20;
 
 // What the bytes of a field so far are: spaces alone, digits after them with their value, or no number.
-#[derive(Clone, Copy)]
+#[derive(Clone, Copy, Debug, PartialEq, Eq)]
 pub enum NumberState {
     Blank,
     Digits { value: u64 },
-    Bad,
-}
-
-// What a field is.
-#[derive(Clone, Copy)]
-pub enum Number {
-    Value { number: SequenceNumber },
     Bad,
 }
 
@@ -36,9 +28,8 @@ fn more(value: u64, b: u8) -> NumberState
     ensures { result ≡ digit_step value b }
 {
     match reading::append(value, b) {
-        Appended::Value { value: v } => NumberState::Digits { value: v },
-        Appended::NoDigit => NumberState::Bad,
-        Appended::TooLarge => NumberState::Bad,
+        Ok(value) => NumberState::Digits { value },
+        Err(_) => NumberState::Bad,
     }
 }
 
@@ -48,45 +39,31 @@ pub fn step(state: NumberState, b: u8) -> NumberState
     ensures fold { NumberFold }
 {
     match state {
-        NumberState::Blank => {
-            if b == letters::SPACE {
-                return NumberState::Blank;
-            }
-            more(0, b)
-        }
+        NumberState::Blank if b == letters::SPACE => NumberState::Blank,
+        NumberState::Blank => more(0, b),
         NumberState::Digits { value } => more(value, b),
         NumberState::Bad => NumberState::Bad,
     }
 }
 
-// What a whole field is, where the number has to be at least another.
-pub fn value(state: NumberState, least: SequenceNumber) -> Number
+// The number of a whole field, where it has to be at least another; none where the field is bad.
+pub fn value(state: NumberState, least: SequenceNumber) -> Option<SequenceNumber>
     ensures { number_words result ≡ number_good least.0 state }
 {
     match state {
-        NumberState::Blank => Number::Bad,
-        NumberState::Digits { value } => {
-            if value < least.0 {
-                return Number::Bad;
-            }
-            Number::Value {
-                number: SequenceNumber(value),
-            }
-        }
-        NumberState::Bad => Number::Bad,
+        NumberState::Digits { value } if least.0 <= value => Some(SequenceNumber(value)),
+        _ => None,
     }
 }
 
-// The number in the bytes of a field, where it has to be at least another.
-pub fn read(field: &[u8], least: SequenceNumber) -> Number
+// The number in the bytes of a field, where it has to be at least another; none where the field is bad.
+pub fn read(field: &[u8], least: SequenceNumber) -> Option<SequenceNumber>
     ensures result_value { number_words result ≡ read_number least.0 field.now }
     ensures laws { NumberLaws }
 {
     let mut state = NumberState::Blank;
-    let mut i: usize = 0;
-    while i < field.len() {
-        state = step(state, field[i]);
-        i += 1;
+    for &b in field {
+        state = step(state, b);
     }
     value(state, least)
 }

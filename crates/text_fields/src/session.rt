@@ -6,7 +6,7 @@ ghost use Rattle.text_fields.specs.Session.{session_step, session_good, good_ses
 use crate::letters;
 
 // What the bytes of a field so far are: spaces alone, a name after them, or no session.
-#[derive(Clone, Copy)]
+#[derive(Clone, Copy, Debug, PartialEq, Eq)]
 pub enum SessionState {
     Blank,
     Named,
@@ -19,24 +19,10 @@ pub fn step(state: SessionState, b: u8) -> SessionState
     ensures fold { SessionFold }
 {
     match state {
-        SessionState::Blank => {
-            if b == letters::SPACE {
-                return SessionState::Blank;
-            }
-            if letters::is_letter_or_digit(b) {
-                SessionState::Named
-            } else {
-                SessionState::Bad
-            }
-        }
-        SessionState::Named => {
-            if letters::is_letter_or_digit(b) {
-                SessionState::Named
-            } else {
-                SessionState::Bad
-            }
-        }
         SessionState::Bad => SessionState::Bad,
+        SessionState::Blank if b == letters::SPACE => SessionState::Blank,
+        _ if letters::is_letter_or_digit(b) => SessionState::Named,
+        _ => SessionState::Bad,
     }
 }
 
@@ -56,10 +42,8 @@ pub fn is_session(field: &[u8], blank: bool) -> bool
     ensures { result ≡ good_session blank field.now }
 {
     let mut state = SessionState::Blank;
-    let mut i: usize = 0;
-    while i < field.len() {
-        state = step(state, field[i]);
-        i += 1;
+    for &b in field {
+        state = step(state, b);
     }
     is_good(state, blank)
 }

@@ -1,4 +1,5 @@
 // Username and password: letters or digits from the left end on, then spaces.
+#![tactic(auto, using(crate::proofs::Rules::logins))]
 ghost use Rattle.std.specs.Prelude.{◌≡◌};
 ghost use Rattle.text_fields.specs.Sound.{sound, SoundExactlyWhen, sound_username, sound_password};
 
@@ -22,13 +23,10 @@ fn is_sound(field: &[u8], least: usize) -> bool
     let mut size: usize = 0;
     let mut in_word = true;
     let mut good = true;
-    let mut i: usize = 0;
-    while i < field.len() {
-        let b = field[i];
-        in_word = in_word & letters::is_letter_or_digit(b);
-        good = good & (in_word | (b == letters::SPACE));
+    for &b in field {
+        in_word &= letters::is_letter_or_digit(b);
+        good &= in_word | (b == letters::SPACE);
         size += in_word as usize;
-        i += 1;
     }
     good & (least <= size)
 }

@@ -1,4 +1,3 @@
--- Each way through the tests is one case of the definition.
 use Rattle.text_fields.proofs.Rules.{numbers}
 use Rattle.text_fields.proofs.number.step.Goals as goal
 
