@@ -9,15 +9,11 @@ use lib.Dec.{eqb}
 use mir.Val.{Fits}
 use mir.Syntax.{w64}
 use borrow.Author.Tests.{ne_eqb, not-true, not-false}
-use Rattle.std.specs.Prelude.{if◌then◌else◌}
+use Rattle.std.specs.Prelude.{if◌then◌else◌, Option, Some, None}
 use Rattle.wire.specs.declared.kinds.SequenceNumber.{SequenceNumber}
 use Rattle.text_fields.specs.Number.{number_words}
-use Rattle.text_fields.specs.declared.number.Number.{Number}
-use Rattle.text_fields.specs.declared.number.Number.TheVariants as number
 use Rattle.soupbintcp.specs.declared.packet.Packet.{Packet}
 use Rattle.soupbintcp.specs.declared.packet.Packet.TheVariants.{Debug, Accepted, Rejected, Sequenced, ServerHeartbeat, EndOfSession, Login, Unsequenced, ClientHeartbeat, Logout}
-use Rattle.soupbintcp.specs.declared.fields.Fields.{Fields}
-use Rattle.soupbintcp.specs.declared.fields.Fields.TheVariants.{Good, Bad}
 use Rattle.soupbintcp.specs.Letters.{packet_kind, packet_values, plain_of}
 use Rattle.soupbintcp.specs.Head.{letter_of}
 use Rattle.soupbintcp.specs.Fields.{has_fields, session_at, session_bytes, number_bytes, blank_allowed, least_number_of, numbered_of, number_fields, with_number, good_reason, reason_fields, fields_words, fields_at}
@@ -165,26 +161,26 @@ values-login n = refl
 
 -- ---- what the fields make: x is the number field as it was read, ok whether the session is good, p the packet
 
-module _ (c : ℕ) (ok : Bool) (x : Number) where
-  pub number-no-session : not ok ≡ true → fields_words Bad ≡ with_number c ok (number_words x)
+module _ (c : ℕ) (ok : Bool) (x : Option SequenceNumber) where
+  pub number-no-session : not ok ≡ true → fields_words None ≡ with_number c ok (number_words x)
   unfolding fields_words with_number
   number-no-session e = simp (not-true ok e)
 
-  pub number-good : (n : SequenceNumber) (p : Packet) → not ok ≡ false → x ≡ number.Value n → packet_kind p ≡ numbered_of c
-      → packet_values p ≡ n.0 ∷ [] → fields_words (Good p) ≡ with_number c ok (number_words x)
+  pub number-good : (n : SequenceNumber) (p : Packet) → not ok ≡ false → x ≡ Some n → packet_kind p ≡ numbered_of c
+      → packet_values p ≡ n.0 ∷ [] → fields_words (Some p) ≡ with_number c ok (number_words x)
   unfolding fields_words with_number number_words number_fields
   number-good n p e f g h = simp (not-false ok e, f, g, h)
 
-  pub number-bad : not ok ≡ false → x ≡ number.Bad → fields_words Bad ≡ with_number c ok (number_words x)
+  pub number-bad : not ok ≡ false → x ≡ None → fields_words None ≡ with_number c ok (number_words x)
   unfolding fields_words with_number number_words number_fields
   number-bad e f = simp (not-false ok e, f)
 
 module _ (b : ℕ) where
-  pub reason-bad : (t : Bool) → t ≡ good_reason b → not t ≡ true → fields_words Bad ≡ reason_fields b
+  pub reason-bad : (t : Bool) → t ≡ good_reason b → not t ≡ true → fields_words None ≡ reason_fields b
   unfolding fields_words reason_fields
   reason-bad t e f = simp (← e, not-true t f)
 
-  pub reason-good : (t : Bool) → t ≡ good_reason b → not t ≡ false → fields_words (Good (Rejected b)) ≡ reason_fields b
+  pub reason-good : (t : Bool) → t ≡ good_reason b → not t ≡ false → fields_words (Some (Rejected b)) ≡ reason_fields b
   unfolding fields_words reason_fields packet_kind packet_values
   reason-good t e f = simp (← e, not-false t f)
 
@@ -196,18 +192,18 @@ module _ (b : ℕ) where
   unfolding good_reason
   reason-other e = simp (ne_eqb _ _ e)
 
-module _ (l : List ℕ) (c : ℕ) (ok t : Bool) (x : Number) where
-  pub fields-number : (r : Fields) → t ≡ has_fields c → t ≡ true → fields_words r ≡ with_number c ok (number_words x)
+module _ (l : List ℕ) (c : ℕ) (ok t : Bool) (x : Option SequenceNumber) where
+  pub fields-number : (r : Option Packet) → t ≡ has_fields c → t ≡ true → fields_words r ≡ with_number c ok (number_words x)
       → fields_words r ≡ fields_at c (get_or l 3 0) ok (number_words x)
   unfolding fields_at
   fields-number r e f g = simp (← e, f) g
 
-  pub fields-reason : (r : Fields) (b : ℕ) → t ≡ has_fields c → t ≡ false → c ≡ 74 → b ≡ get_or l 3 0 → fields_words r ≡ reason_fields b
+  pub fields-reason : (r : Option Packet) (b : ℕ) → t ≡ has_fields c → t ≡ false → c ≡ 74 → b ≡ get_or l 3 0 → fields_words r ≡ reason_fields b
       → fields_words r ≡ fields_at c (get_or l 3 0) ok (number_words x)
   unfolding fields_at
   fields-reason r b e f g h i = rw (← e, f, g, ← h) i
 
   pub fields-plain : (p : Packet) → t ≡ has_fields c → t ≡ false → (c ≡ 74 → ⊥) → packet_kind p ≡ plain_of c → packet_values p ≡ []
-      → fields_words (Good p) ≡ fields_at c (get_or l 3 0) ok (number_words x)
+      → fields_words (Some p) ≡ fields_at c (get_or l 3 0) ok (number_words x)
   unfolding fields_at fields_words
   fields-plain p e f g h i = simp (← e, f, ne_eqb _ _ g, h, i)

@@ -6,6 +6,7 @@ use Prim.Native.Nat.{ℕ, ◌+◌, ◌-◌, ◌≤◌}
 use native.Mathlib.Omega.{arith}
 use lib.ListN.{get_or, take, drop}
 use borrow.Author.Tests.{ne_eqb, not-true}
+use Rattle.std.specs.Prelude.{Option, Some, None}
 use Rattle.wire.specs.Words.{Words, Case, answer, refused, says, refuses, Injective}
 use Rattle.wire.specs.declared.refusal.Refusal.{Refusal}
 use Rattle.wire.specs.declared.kinds.SequenceNumber.{SequenceNumber}
@@ -13,14 +14,11 @@ use Rattle.wire.proofs.PartLaws.{drop-take}
 use Rattle.wire.proofs.Words.{which-of, values-of, read_back}
 use Rattle.text_fields.specs.Session.{good_session}
 use Rattle.text_fields.specs.Number.{number_words, read_number}
-use Rattle.text_fields.specs.declared.number.Number.{Number}
 use Rattle.soupbintcp.specs.declared.packet.Sender.{Sender}
 use Rattle.soupbintcp.specs.declared.packet.Packet.{Packet}
 use Rattle.soupbintcp.specs.declared.packet.Packet.TheVariants.{Debug, Accepted, Rejected, Sequenced, ServerHeartbeat, EndOfSession, Login, Unsequenced, ClientHeartbeat, Logout}
 use Rattle.soupbintcp.specs.declared.head.Head.{Head}
 use Rattle.soupbintcp.specs.declared.head.Head.TheVariants as head
-use Rattle.soupbintcp.specs.declared.fields.Fields.{Fields}
-use Rattle.soupbintcp.specs.declared.fields.Fields.TheVariants.{Good, Bad}
 use Rattle.soupbintcp.specs.declared.front.Front.{Front}
 use Rattle.soupbintcp.specs.declared.front.Front.TheVariants.{Whole, NeedMore, Refused}
 use Rattle.soupbintcp.specs.Letters.{PacketKind, debug, accepted, rejected, sequenced, server_heartbeat, end_of_session, login, unsequenced, client_heartbeat, logout, packet_kind, packet_values}
@@ -31,7 +29,7 @@ use Rattle.soupbintcp.proofs.HeadLaws.{IsWhole, whole-so, head-cases, head-in-wh
 
 -- ---- the fields, as they are read
 
-pub fields_read : (l y z : List ℕ) (c : ℕ) (blank ok : Bool) (n : Number) (least : SequenceNumber) (r : Fields) → c ≡ letter_of l
+pub fields_read : (l y z : List ℕ) (c : ℕ) (blank ok : Bool) (n : Option SequenceNumber) (least : SequenceNumber) (r : Option Packet) → c ≡ letter_of l
     → y ≡ session_bytes c l → blank ≡ blank_allowed c → ok ≡ good_session blank y
     → z ≡ number_bytes c l → least.0 ≡ least_number_of c → number_words n ≡ read_number least.0 z
     → fields_words r ≡ fields_at c (get_or l 3 0) ok (number_words n) → fields_words r ≡ fields_of l
@@ -39,7 +37,7 @@ unfolding fields_of
 fields_read l y z c blank ok n least r e f g h i j k m = rw (← e, ← f, ← g, ← h, ← i, ← j, ← k) m
 
 -- a letter without them: t is what the test of the letter gave, and neither ok nor n counts
-pub fields-none : (l : List ℕ) (c : ℕ) (t ok : Bool) (n : Number) (r : Fields) → c ≡ letter_of l → t ≡ has_fields c → not t ≡ true
+pub fields-none : (l : List ℕ) (c : ℕ) (t ok : Bool) (n : Option SequenceNumber) (r : Option Packet) → c ≡ letter_of l → t ≡ has_fields c → not t ≡ true
     → fields_words r ≡ fields_at c (get_or l 3 0) ok (number_words n) → fields_words r ≡ fields_of l
 unfolding fields_of fields_at
 fields-none l c t ok n r e f g m =
@@ -57,12 +55,12 @@ module _ (s : Sender) (l : List ℕ) (h : Head) where
   unfolding front_words front_of head_words front_at
   front-refused r e f = rw (← e, f)
 
-  pub front-packet : (k : ℕ) (f : Fields) (p : Packet) → head_words h ≡ head_of s l → h ≡ head.Whole k → fields_words f ≡ fields_of l → f ≡ Good p
+  pub front-packet : (k : ℕ) (f : Option Packet) (p : Packet) → head_words h ≡ head_of s l → h ≡ head.Whole k → fields_words f ≡ fields_of l → f ≡ Some p
       → front_words (Whole p k) ≡ front_of s l
   unfolding front_words front_of head_words front_at fields_words front_packet
   front-packet k f p e g i j = rw (← e, g, ← i, j)
 
-  pub front-bad : (k : ℕ) (f : Fields) → head_words h ≡ head_of s l → h ≡ head.Whole k → fields_words f ≡ fields_of l → f ≡ Bad
+  pub front-bad : (k : ℕ) (f : Option Packet) → head_words h ≡ head_of s l → h ≡ head.Whole k → fields_words f ≡ fields_of l → f ≡ None
       → front_words (Refused (record { number = 25 })) ≡ front_of s l
   unfolding front_words front_of head_words front_at fields_words front_packet
   front-bad k f e g i j = rw (← e, g, ← i, j)
@@ -178,37 +176,29 @@ module _ (s : Sender) (l : List ℕ) (x : Front) where
   unfolding packet_bytes front_words packet_at
   packet-bytes p k e f = rw (← e, f)
 
-  pub more_bytes : front_words x ≡ front_of s l → x ≡ NeedMore → packet_bytes s l ≡ []
+  -- where it is no packet there are none
+  pub bytes-none : front_words x ≡ front_of s l → ((p : Packet) (k : ℕ) → x ≡ Whole p k → ⊥) → [] ≡ packet_bytes s l
   unfolding packet_bytes front_words packet_at
-  more_bytes e f = rw (← e, f)
-
-  pub refused-bytes : (r : Refusal) → front_words x ≡ front_of s l → x ≡ Refused r → packet_bytes s l ≡ []
-  unfolding packet_bytes front_words packet_at
-  refused-bytes r e f = rw (← e, f)
+  bytes-none e n = go x refl
+    where
+      go : (y : Front) → x ≡ y → [] ≡ packet_bytes s l
+      go (Whole p k) f = absurd (n p k f)
+      go NeedMore f = rw (← e, f) refl
+      go (Refused r) f = rw (← e, f) refl
 
   pub packet-payload : (p : Packet) (k : ℕ) (y : List ℕ) → front_words x ≡ front_of s l → x ≡ Whole p k → y ≡ take (k - 3) (drop 3 l)
       → y ≡ payload_of s l
   unfolding payload_of
   packet-payload p k y e f g = g ∙ rw (packet-bytes p k e f) (sym (drop-take 3 k l))
 
-  pub more-payload : (y : List ℕ) → front_words x ≡ front_of s l → x ≡ NeedMore → y ≡ take 0 (drop 0 l) → y ≡ payload_of s l
+  pub payload-none : front_words x ≡ front_of s l → ((p : Packet) (k : ℕ) → x ≡ Whole p k → ⊥) → [] ≡ payload_of s l
   unfolding payload_of
-  more-payload y e f g = g ∙ rw (more_bytes e f) refl
-
-  pub refused-payload : (r : Refusal) (y : List ℕ) → front_words x ≡ front_of s l → x ≡ Refused r → y ≡ take 0 (drop 0 l) → y ≡ payload_of s l
-  unfolding payload_of
-  refused-payload r y e f g = g ∙ rw (refused-bytes r e f) refl
+  payload-none e n = rw (← bytes-none e n) refl
 
   -- the packet's bytes, as the code has them
   pub bytes-packet : (p : Packet) (k : ℕ) (y : List ℕ) → front_words x ≡ front_of s l → x ≡ Whole p k → y ≡ take k (drop 0 l)
       → y ≡ packet_bytes s l
   bytes-packet p k y e f g = g ∙ sym (packet-bytes p k e f)
-
-  pub bytes-more : (y : List ℕ) → front_words x ≡ front_of s l → x ≡ NeedMore → y ≡ take 0 (drop 0 l) → y ≡ packet_bytes s l
-  bytes-more y e f g = g ∙ sym (more_bytes e f)
-
-  pub bytes-refused : (r : Refusal) (y : List ℕ) → front_words x ≡ front_of s l → x ≡ Refused r → y ≡ take 0 (drop 0 l) → y ≡ packet_bytes s l
-  bytes-refused r y e f g = g ∙ sym (refused-bytes r e f)
 
 -- ---- its other parts: b is the packet's bytes, y the part that was read
 

@@ -11,7 +11,7 @@ use lib.Dec.{ltb, eqb}
 use mir.Val.{Fits}
 use mir.Syntax.{w64}
 use borrow.Author.Tests.{ltb-false, eqb-false, lt-ltb, not-true, not-false}
-use Rattle.std.specs.Prelude.{if◌then◌else◌}
+use Rattle.std.specs.Prelude.{if◌then◌else◌, Option, Some, None, is_some}
 use Rattle.wire.specs.Refusals.{length_zero, payload_long, letter_not_sent, length_wrong, field_bad}
 use Rattle.wire.specs.Words.{Words, Case, answer, refused, says, refuses}
 use Rattle.wire.specs.declared.refusal.Refusal.{Refusal}
@@ -21,7 +21,7 @@ use Rattle.text_fields.specs.declared.session.SessionState.{SessionState}
 use Rattle.text_fields.specs.declared.session.SessionState.TheVariants.{Blank, Bad}
 use Rattle.text_fields.specs.declared.number.NumberState.{NumberState}
 use Rattle.text_fields.specs.declared.number.NumberState.TheVariants as counting
-use Rattle.text_fields.specs.declared.number.Number.{Number}
+use Rattle.wire.specs.declared.kinds.SequenceNumber.{SequenceNumber}
 use Rattle.text_fields.specs.Letters.{are_letters_or_digits, leading_spaces}
 use Rattle.text_fields.specs.Session.{session_step, session_from, session_good, good_session}
 use Rattle.text_fields.specs.Number.{bad, number_step, number_from, number_good, number_words, read_number}
@@ -30,11 +30,6 @@ use Rattle.soupbintcp.specs.declared.packet.Sender.{Sender}
 use Rattle.soupbintcp.specs.declared.packet.Packet.{Packet}
 use Rattle.soupbintcp.specs.declared.head.Head.{Head}
 use Rattle.soupbintcp.specs.declared.head.Head.TheVariants.{Whole, NeedMore, Refused}
-use Rattle.soupbintcp.specs.declared.fields.Fields.{Fields}
-use Rattle.soupbintcp.specs.declared.fields.Fields.TheVariants.{Good}
-use Rattle.soupbintcp.specs.declared.fields.Fields.TheVariants as made
-use Rattle.soupbintcp.specs.declared.scan.Stop.{Stop}
-use Rattle.soupbintcp.specs.declared.scan.Stop.TheVariants as stopped
 use Rattle.soupbintcp.specs.Letters.{PacketKind, packet_kind, packet_values, most_payload, sends, allows}
 use Rattle.soupbintcp.specs.Head.{packet_length, letter_of, whole, need_more, head_words, head_of}
 use Rattle.soupbintcp.specs.Fields.{has_fields, session_bytes, number_bytes, blank_allowed, least_number_of, FieldsKind, good, bad_field, fields_words, number_fields, with_number, fields_at, fields_of}
@@ -209,7 +204,7 @@ pub record Going (s : Sender) (l₀ l : List ℕ) (p b : ℕ) : Type 0 where
 pub going_start : (s : Sender) (l₀ : List ℕ) → Going s l₀ l₀ 0 0
 going_start s l₀ = record { bound = omega arith; few = omega arith; packets = omega arith; bytes = omega arith; stop = refl }
 
-stop-so : {s : Sender} {l₀ l : List ℕ} {p b : ℕ} (x : Stop) (w : Words StopKind) → Going s l₀ l p b → scan_of s l ≡ stops w → stop_words x ≡ w
+stop-so : {s : Sender} {l₀ l : List ℕ} {p b : ℕ} (x : Option Refusal) (w : Words StopKind) → Going s l₀ l p b → scan_of s l ≡ stops w → stop_words x ≡ w
     → Scans (record { packets = p; bytes = b; stop = x }) s l₀
 stop-so {s} {l₀} {l} {p} {b} x w g e f =
     let a : (scan_of s l).packets ≡ 0 = ap (λ (y : Scan). y.packets) e in
@@ -220,14 +215,14 @@ stop-so {s} {l₀} {l} {p} {b} x w g e f =
     record { packets = omega arith; bytes = omega arith; stop = f ∙ sym d ∙ g.stop }
 
 stop-short : {s : Sender} {l₀ l : List ℕ} {p b : ℕ} → Going s l₀ l p b → front_of s l ≡ says wants_more []
-    → Scans (record { packets = p; bytes = b; stop = stopped.NeedMore }) s l₀
+    → Scans (record { packets = p; bytes = b; stop = None }) s l₀
 unfolding stop_words
-stop-short {s} {l = l} g e = stop-so stopped.NeedMore (says stopped_short []) g (scan-short s l e) refl
+stop-short {s} {l = l} g e = stop-so None (says stopped_short []) g (scan-short s l e) refl
 
 stop-at : {s : Sender} {l₀ l : List ℕ} {p b : ℕ} (r : Refusal) → Going s l₀ l p b → front_of s l ≡ refuses r.number
-    → Scans (record { packets = p; bytes = b; stop = stopped.Refused r }) s l₀
+    → Scans (record { packets = p; bytes = b; stop = Some r }) s l₀
 unfolding stop_words
-stop-at {s} {l = l} r g e = stop-so (stopped.Refused r) (refuses r.number) g (scan-at s l r.number e) refl
+stop-at {s} {l = l} r g e = stop-so (Some r) (refuses r.number) g (scan-at s l r.number e) refl
 
 go_on : {s : Sender} {l₀ l : List ℕ} {p b : ℕ} (n : PacketKind) (k : ℕ) (vs : List ℕ) → Going s l₀ l p b → front_of s l ≡ says (packet n) (k ∷ vs)
     → 3 ≤ k → k ≤ length l → Going s l₀ (drop k l) (p + 1) (b + k)
@@ -322,28 +317,38 @@ module _ (l : List ℕ) where
   unfolding number_bytes
   has-number i h = by-fields _ (letter_of l) (λ e. e) (λ e. absurd (omega (arith, rw e at h)))
 
+-- ---- what the fields make, as the test for none tells
+
+made-none : (r : Option Packet) → is_some r ≡ false → r ≡ None
+made-none None d = refl
+made-none (Some p) d = cc
+
+made-some : (r : Option Packet) → is_some r ≡ true → (p : Packet) × (r ≡ Some p)
+made-some None d = let k : ◌≡◌ {A = ℕ} 0 1 = cc in absurd (omega arith)
+made-some (Some p) d = (p, refl)
+
 -- ---- as the code of `scan` has it: h is what the head was read as, c the letter, n and m the bytes of its session and number
 
 module _ {s : Sender} {l₀ l : List ℕ} {p b : ℕ} where
   pub scan-needs-more : (h : Head) → Going s l₀ l p b → head_words h ≡ head_of s l → h ≡ NeedMore
-      → Scans (record { packets = p; bytes = b; stop = stopped.NeedMore }) s l₀
+      → Scans (record { packets = p; bytes = b; stop = None }) s l₀
   unfolding head_words
   scan-needs-more h g e f = stop-short g (front-short s l (sym (rw f at e)))
 
   pub scan-refused : (h : Head) (r : Refusal) → Going s l₀ l p b → head_words h ≡ head_of s l → h ≡ Refused r
-      → Scans (record { packets = p; bytes = b; stop = stopped.Refused r }) s l₀
+      → Scans (record { packets = p; bytes = b; stop = Some r }) s l₀
   unfolding head_words
   scan-refused h r g e f = stop-at r g (front-fault s l r.number (sym (rw f at e)))
 
   stop-bad : (h : Head) (k : ℕ) → Going s l₀ l p b → head_words h ≡ head_of s l → h ≡ Whole k → fields_of l ≡ says bad_field []
-      → Scans (record { packets = p; bytes = b; stop = stopped.Refused (record { number = field_bad }) }) s l₀
+      → Scans (record { packets = p; bytes = b; stop = Some (record { number = field_bad }) }) s l₀
   unfolding head_words
   stop-bad h k g e f w = stop-at (record { number = field_bad }) g (front-bad s l k (sym (rw f at e)) w)
 
   -- a byte makes the session bad
   pub scan-bad-session : (h : Head) (k c i : ℕ) (n : List ℕ) (x y : SessionState) → Going s l₀ l p b → head_words h ≡ head_of s l → h ≡ Whole k
       → c ≡ letter_of l → n ≡ session_bytes c l → (i ≤ length n) × (session_from x (drop i n) ≡ session_from Blank n) → i < length n → y ≡ session_step x (get_or n i 0)
-      → y ≡ Bad → Scans (record { packets = p; bytes = b; stop = stopped.Refused (record { number = field_bad }) }) s l₀
+      → y ≡ Bad → Scans (record { packets = p; bytes = b; stop = Some (record { number = field_bad }) }) s l₀
   unfolding session_good
   scan-bad-session h k c i n x y g e f j q v w t u =
       let z : session_from Blank n ≡ Bad = session-bad n i x y v.1 w t u in
@@ -355,7 +360,7 @@ module _ {s : Sender} {l₀ l : List ℕ} {p b : ℕ} where
   pub scan-no-session : (h : Head) (k c i : ℕ) (n : List ℕ) (x : SessionState) (o v : Bool) → Going s l₀ l p b → head_words h ≡ head_of s l → h ≡ Whole k
       → c ≡ letter_of l → n ≡ session_bytes c l → (i ≤ length n) × (session_from x (drop i n) ≡ session_from Blank n) → length n ≤ i
       → v ≡ blank_allowed c → o ≡ session_good v x → not o ≡ true
-      → Scans (record { packets = p; bytes = b; stop = stopped.Refused (record { number = field_bad }) }) s l₀
+      → Scans (record { packets = p; bytes = b; stop = Some (record { number = field_bad }) }) s l₀
   scan-no-session h k c i n x o v g e f j q w t a d u =
       let z : x ≡ session_from Blank n = session-end n i x w.1 t in
       let m : n ≡ session_bytes (letter_of l) l = q ∙ ap (λ (y : ℕ). session_bytes y l) j in
@@ -366,7 +371,7 @@ module _ {s : Sender} {l₀ l : List ℕ} {p b : ℕ} where
   pub scan-bad-number : (h : Head) (k c i : ℕ) (n : List ℕ) (x y : NumberState) → Going s l₀ l p b → head_words h ≡ head_of s l → h ≡ Whole k
       → c ≡ letter_of l → n ≡ number_bytes c l → (i ≤ length n) × (number_from x (drop i n) ≡ number_from counting.Blank n) → i < length n
       → y ≡ number_step x (get_or n i 0) → y ≡ counting.Bad
-      → Scans (record { packets = p; bytes = b; stop = stopped.Refused (record { number = field_bad }) }) s l₀
+      → Scans (record { packets = p; bytes = b; stop = Some (record { number = field_bad }) }) s l₀
   unfolding number_good
   scan-bad-number h k c i n x y g e f j q v w t u =
       let z : number_from counting.Blank n ≡ counting.Bad = number-bad n i x y v.1 w t u in
@@ -375,7 +380,7 @@ module _ {s : Sender} {l₀ l : List ℕ} {p b : ℕ} where
       stop-bad h k g e f (bad-number l (has-number l i (rw a at w)) (rw a at d))
 
   -- all bytes of both were looked at: r is what they make
-  module _ (h : Head) (k c i j : ℕ) (n m : List ℕ) (x : SessionState) (y : NumberState) (o v : Bool) (a : ℕ) (w : Number) (r : Fields) (g : Going s l₀ l p b)
+  module _ (h : Head) (k c i j : ℕ) (n m : List ℕ) (x : SessionState) (y : NumberState) (o v : Bool) (a : ℕ) (w : Option SequenceNumber) (r : Option Packet) (g : Going s l₀ l p b)
       (e : head_words h ≡ head_of s l) (f : h ≡ Whole k) (f₁ : c ≡ letter_of l) (f₂ : n ≡ session_bytes c l)
       (f₃ : (i ≤ length n) × (session_from x (drop i n) ≡ session_from Blank n)) (f₄ : length n ≤ i) (f₅ : v ≡ blank_allowed c) (f₆ : o ≡ session_good v x)
       (f₇ : not o ≡ false) (e₂ : m ≡ number_bytes c l) (e₃ : (j ≤ length m) × (number_from y (drop j m) ≡ number_from counting.Blank m)) (e₄ : length m ≤ j)
@@ -389,16 +394,22 @@ module _ {s : Sender} {l₀ l : List ℕ} {p b : ℕ} where
         let q : number_words w ≡ read_number (least_number_of c) m = e₆ ∙ rw (e₅, u) (number-fold.same (least_number_of c) m) in
         e₇ ∙ rw (← f₁, ← f₂, ← e₂, d, q)
 
-    pub scan-bad-packet : r ≡ made.Bad → Scans (record { packets = p; bytes = b; stop = stopped.Refused (record { number = field_bad }) }) s l₀
+    bad-packet : r ≡ None → Scans (record { packets = p; bytes = b; stop = Some (record { number = field_bad }) }) s l₀
     unfolding fields_words
-    scan-bad-packet t = stop-bad h k g e f (sym (rw t at made_so))
+    bad-packet t = stop-bad h k g e f (sym (rw t at made_so))
 
-    pub scan-next : (q : Packet) → r ≡ Good q → Going s l₀ (take (length l - k) (drop k l)) (p + 1) (b + k)
+    next : (q : Packet) → r ≡ Some q → Going s l₀ (take (length l - k) (drop k l)) (p + 1) (b + k)
     unfolding fields_words head_words
-    scan-next q t =
+    next q t =
         let u = sym (rw f at e) in
         let d = front-packet s l k (packet_kind q) (packet_values q) u (sym (rw t at made_so)) in
         rw (part_to_end k l) (go_on (packet_kind q) k (packet_values q) g d (whole-size s l k u).0 (whole-size s l k u).1)
+
+    pub scan-bad-packet : is_some r ≡ false → Scans (record { packets = p; bytes = b; stop = Some (record { number = field_bad }) }) s l₀
+    scan-bad-packet d = bad-packet (made-none r d)
+
+    pub scan-next : is_some r ≡ true → Going s l₀ (take (length l - k) (drop k l)) (p + 1) (b + k)
+    scan-next d = let m = made-some r d in next m.0 m.1
 
 -- ---- the sizes of a packet whose head is whole
 
@@ -431,17 +442,17 @@ module _ (s : Sender) (l : List ℕ) (h : Head) (k : ℕ) (e : head_words h ≡ 
 
 -- ---- the words tell all stops apart
 
-stopped_by : Case StopKind → ℕ → Stop
-stopped_by (answer stopped_short) r = stopped.NeedMore
-stopped_by refused r = stopped.Refused (record { number = r })
+stopped_by : Case StopKind → ℕ → Option Refusal
+stopped_by (answer stopped_short) r = None
+stopped_by refused r = Some (record { number = r })
 
 stops-apart : StopsApart
 unfolding StopsApart stop_words stopped_by
 stops-apart = read_back stop_words (λ w. stopped_by w.which w.refusal) back
   where
-    back : (a : Stop) → stopped_by (stop_words a).which (stop_words a).refusal ≡ a
-    back stopped.NeedMore = refl
-    back (stopped.Refused r) = refl
+    back : (a : Option Refusal) → stopped_by (stop_words a).which (stop_words a).refusal ≡ a
+    back None = refl
+    back (Some r) = refl
 
 -- ---- what is left of the stream where a scan stops: its front stops it
 

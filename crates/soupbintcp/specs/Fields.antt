@@ -1,13 +1,12 @@
 -- The fields of a packet that is there whole, by its letter.
-use Rattle.std.specs.Prelude.{ℕ, ◌+◌, List, [], ◌∷◌, Bool, true, not, get_or, take, drop, eqb, if◌then◌else◌}
+use Rattle.std.specs.Prelude.{ℕ, ◌+◌, List, [], ◌∷◌, Bool, true, not, get_or, take, drop, eqb, if◌then◌else◌, Option, Some, None}
 use Rattle.wire.specs.Text.{letter}
 use Rattle.wire.specs.Bounds.{least_number, session_size}
 use Rattle.wire.specs.Words.{Words, Case, answer, refused, says}
 use Rattle.text_fields.specs.Session.{good_session}
 use Rattle.text_fields.specs.Sound.{username_size, password_size}
 use Rattle.text_fields.specs.Number.{NumberKind, value, bad, number_field_size, read_number}
-use Rattle.soupbintcp.specs.declared.fields.Fields.{Fields}
-use Rattle.soupbintcp.specs.declared.fields.Fields.TheVariants.{Good, Bad}
+use Rattle.soupbintcp.specs.declared.packet.Packet.{Packet}
 use Rattle.soupbintcp.specs.Letters.{PacketKind, accepted, rejected, login, packet_kind, packet_values}
 use Rattle.soupbintcp.specs.Letters.{letter_accepted, letter_rejected, letter_login, plain_of}
 use Rattle.soupbintcp.specs.Head.{head_size, letter_of}
@@ -44,9 +43,9 @@ pub data FieldsKind : Type 0 where
   good : PacketKind → FieldsKind
   bad_field : FieldsKind
 
-unfoldable pub fields_words : Fields → Words FieldsKind
-fields_words (Good p) = says (good (packet_kind p)) (packet_values p)
-fields_words Bad = says bad_field []
+unfoldable pub fields_words : Option Packet → Words FieldsKind
+fields_words (Some p) = says (good (packet_kind p)) (packet_values p)
+fields_words None = says bad_field []
 
 unfoldable pub numbered_of : ℕ → PacketKind
 numbered_of c = if eqb c letter_accepted then accepted else login

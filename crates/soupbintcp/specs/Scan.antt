@@ -1,9 +1,8 @@
 -- The scan: the front read again and again, until it gives no packet.
-use Rattle.std.specs.Prelude.{ℕ, zero, suc, ◌+◌, ◌≤◌, List, [], ◌≡◌, length, get_or, drop}
+use Rattle.std.specs.Prelude.{ℕ, zero, suc, ◌+◌, ◌≤◌, List, [], ◌≡◌, length, get_or, drop, Option, Some, None}
 use Rattle.wire.specs.Words.{Words, Case, answer, refused, says, refuses, refused_words, Injective}
 use Rattle.soupbintcp.specs.declared.packet.Sender.{Sender}
-use Rattle.soupbintcp.specs.declared.scan.Stop.{Stop}
-use Rattle.soupbintcp.specs.declared.scan.Stop.TheVariants.{NeedMore, Refused}
+use Rattle.wire.specs.declared.refusal.Refusal.{Refusal}
 use Rattle.soupbintcp.specs.declared.scan.Scanned.{Scanned}
 use Rattle.soupbintcp.specs.Front.{FrontKind, packet, wants_more, front_of}
 
@@ -11,9 +10,9 @@ use Rattle.soupbintcp.specs.Front.{FrontKind, packet, wants_more, front_of}
 pub data StopKind : Type 0 where
   stopped_short : StopKind
 
-unfoldable pub stop_words : Stop → Words StopKind
-stop_words NeedMore = says stopped_short []
-stop_words (Refused r) = refused_words r
+unfoldable pub stop_words : Option Refusal → Words StopKind
+stop_words None = says stopped_short []
+stop_words (Some r) = refused_words r
 
 -- the words tell all stops apart
 unfoldable pub StopsApart : Type 0

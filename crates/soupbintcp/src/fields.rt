@@ -1,5 +1,5 @@
 // The fields of a packet that is there whole, by its letter.
-#![tactic(auto, using(crate::proofs::Rules::packets, crate::proofs::Rules::parts))]
+#![tactic(auto, using(crate::proofs::Rules::parts, crate::proofs::Rules::packets))]
 ghost use Rattle.std.specs.Prelude.{◌≡◌, [], ◌∷◌, ◌+◌, get_or};
 ghost use Rattle.text_fields.specs.Number.{number_words};
 ghost use Rattle.soupbintcp.specs.Letters.{plain_of, packet_kind, packet_values};
@@ -10,16 +10,9 @@ ghost use Rattle.soupbintcp.specs.Fields.{fields_at};
 
 use crate::packet;
 use crate::packet::{HEAD_SIZE, LOGIN_SESSION_AT, Packet};
-use text_fields::number::{NUMBER_FIELD_SIZE, Number};
+use text_fields::number::NUMBER_FIELD_SIZE;
 use wire::kinds::{ByteOffset, LEAST_NUMBER, LENGTH_SIZE, SESSION_SIZE, SequenceNumber};
 use wire::parts;
-
-// What the fields make: a packet, or one of them is bad.
-#[derive(Clone, Copy)]
-pub enum Fields {
-    Good { packet: Packet },
-    Bad,
-}
 
 // The letter of the packet in front, 0 where it is not there.
 pub(crate) fn letter(stream: &[u8]) -> u8
@@ -43,7 +36,7 @@ fn session_at(letter: u8) -> ByteOffset
 pub(crate) fn has_fields(letter: u8) -> bool
     ensures { result ≡ has_fields letter }
 {
-    if letter == b'A' { true } else { letter == b'L' }
+    letter == b'A' || letter == b'L'
 }
 
 // The bytes of the session field: none but in A and L.
@@ -53,7 +46,7 @@ pub(crate) fn session_field(stream: &[u8], letter: u8) -> &[u8]
     if has_fields(letter) {
         return parts::part(stream, session_at(letter), SESSION_SIZE);
     }
-    parts::part(stream, ByteOffset(0), 0)
+    &[]
 }
 
 // The bytes of the number field: none but in A and L.
@@ -64,7 +57,7 @@ pub(crate) fn number_field(stream: &[u8], letter: u8) -> &[u8]
         let at = session_at(letter);
         return parts::part(stream, ByteOffset(at.0 + SESSION_SIZE), NUMBER_FIELD_SIZE);
     }
-    parts::part(stream, ByteOffset(0), 0)
+    &[]
 }
 
 // Whether the session may be blank: not in A.
@@ -79,9 +72,10 @@ pub(crate) fn least(letter: u8) -> SequenceNumber
     ensures { result.0 ≡ least_number_of letter }
 {
     if letter == b'A' {
-        return LEAST_NUMBER;
+        LEAST_NUMBER
+    } else {
+        SequenceNumber(0)
     }
-    SequenceNumber(0)
 }
 
 // The packets whose letter says all.
@@ -104,50 +98,46 @@ fn numbered(letter: u8, number: SequenceNumber) -> Packet
     ensures { (packet_kind result ≡ numbered_of letter) × (packet_values result ≡ number.0 ∷ []) }
 {
     if letter == b'A' {
-        return Packet::Accepted { number };
+        Packet::Accepted { number }
+    } else {
+        Packet::Login { number }
     }
-    Packet::Login { number }
 }
 
-// A and L: the session is good, and so is the number.
-fn with_number(letter: u8, good: bool, number: Number) -> Fields
+// A and L: the session is good, and so is the number; else no packet.
+fn with_number(letter: u8, good: bool, number: Option<SequenceNumber>) -> Option<Packet>
     ensures { fields_words result ≡ with_number letter good (number_words number) }
 {
-    if !good {
-        return Fields::Bad;
-    }
-    match number {
-        Number::Value { number: n } => Fields::Good {
-            packet: numbered(letter, n),
-        },
-        Number::Bad => Fields::Bad,
+    if good {
+        Some(numbered(letter, number?))
+    } else {
+        None
     }
 }
 
-// J: the reason is `A` or `S`.
-fn with_reason(reason: u8) -> Fields
+// J: the reason is `A` or `S`; else no packet.
+fn with_reason(reason: u8) -> Option<Packet>
     ensures { fields_words result ≡ reason_fields reason }
 {
-    if !packet::is_reason(reason) {
-        return Fields::Bad;
-    }
-    Fields::Good {
-        packet: Packet::Rejected { reason },
-    }
+    packet::is_reason(reason).then_some(Packet::Rejected { reason })
 }
 
-// What the fields of a packet that is there whole make, where its session and number were looked at.
-pub(crate) fn packet(stream: &[u8], letter: u8, good: bool, number: Number) -> Fields
+// What the fields of a packet that is there whole make, where its session and number were looked at: a packet, none
+// where a field is bad.
+pub(crate) fn packet(
+    stream: &[u8],
+    letter: u8,
+    good: bool,
+    number: Option<SequenceNumber>,
+) -> Option<Packet>
     ensures { fields_words result ≡ fields_at letter (get_or stream.now head_size 0) good
         (number_words number) }
 {
     if has_fields(letter) {
-        return with_number(letter, good, number);
-    }
-    if letter == b'J' {
-        return with_reason(parts::byte(stream, ByteOffset(HEAD_SIZE)));
-    }
-    Fields::Good {
-        packet: plain(letter),
+        with_number(letter, good, number)
+    } else if letter == b'J' {
+        with_reason(parts::byte(stream, ByteOffset(HEAD_SIZE)))
+    } else {
+        Some(plain(letter))
     }
 }

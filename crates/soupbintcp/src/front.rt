@@ -5,11 +5,9 @@ ghost use Rattle.soupbintcp.specs.Fields.{fields_words, fields_of};
 ghost use Rattle.soupbintcp.specs.Front.{front_words, front_of, FrontPromises, packet_bytes, login_part, payload_of};
 ghost use Rattle.soupbintcp.specs.Front.{session_of, username_of, password_of};
 
-use crate::fields::Fields;
 use crate::head::Head;
 use crate::packet::{HEAD_SIZE, LOGIN_PASSWORD_AT, Packet, Sender};
 use crate::{fields, head};
-use text_fields::number::Number;
 use text_fields::sound::{PASSWORD_SIZE, USERNAME_SIZE};
 use text_fields::{number, session};
 use wire::kinds::ByteOffset;
@@ -27,12 +25,12 @@ pub enum Front {
 
 // The fields of the packet in front, which is there whole. They are looked for in A and L alone: no other letter has a
 // session and a number, so what is said of them there doesn't count.
-fn read_fields(stream: &[u8]) -> Fields
+fn read_fields(stream: &[u8]) -> Option<Packet>
     ensures { fields_words result ≡ fields_of stream.now }
 {
     let letter = fields::letter(stream);
     if !fields::has_fields(letter) {
-        return fields::packet(stream, letter, false, Number::Bad);
+        return fields::packet(stream, letter, false, None);
     }
     let good = session::is_session(
         fields::session_field(stream, letter),
@@ -53,8 +51,8 @@ pub fn read(stream: &[u8], sender: Sender) -> Front
         Head::Whole { size } => size,
     };
     match read_fields(stream) {
-        Fields::Good { packet } => Front::Whole { packet, size },
-        Fields::Bad => Front::Refused(refusal::FIELD_BAD),
+        Some(packet) => Front::Whole { packet, size },
+        None => Front::Refused(refusal::FIELD_BAD),
     }
 }
 
@@ -63,13 +61,10 @@ pub fn payload(stream: &[u8], sender: Sender) -> &[u8]
     ensures { result.now ≡ payload_of sender stream.now }
 {
     match read(stream, sender) {
-        Front::Whole { packet: _, size } => parts::part(
-            stream,
-            ByteOffset(HEAD_SIZE),
-            size - HEAD_SIZE,
-        ),
-        Front::NeedMore => parts::part(stream, ByteOffset(0), 0),
-        Front::Refused(_) => parts::part(stream, ByteOffset(0), 0),
+        Front::Whole { size, .. } => {
+            parts::part(stream, ByteOffset(HEAD_SIZE), size - HEAD_SIZE)
+        }
+        _ => &[],
     }
 }
 
@@ -78,9 +73,8 @@ fn packet_bytes(stream: &[u8], sender: Sender) -> &[u8]
     ensures { result.now ≡ packet_bytes sender stream.now }
 {
     match read(stream, sender) {
-        Front::Whole { packet: _, size } => parts::part(stream, ByteOffset(0), size),
-        Front::NeedMore => parts::part(stream, ByteOffset(0), 0),
-        Front::Refused(_) => parts::part(stream, ByteOffset(0), 0),
+        Front::Whole { size, .. } => parts::part(stream, ByteOffset(0), size),
+        _ => &[],
     }
 }
 
@@ -97,9 +91,10 @@ fn login_part(packet: &[u8], at: ByteOffset, size: usize) -> &[u8]
     ensures { result.now ≡ login_part packet.now at.0 size }
 {
     if fields::letter(packet) == b'L' {
-        return parts::part(packet, at, size);
+        parts::part(packet, at, size)
+    } else {
+        &[]
     }
-    parts::part(packet, ByteOffset(0), 0)
 }
 
 // The username of the login request in front, no bytes where there is none.

@@ -24,7 +24,7 @@ pub(crate) fn read(stream: &[u8], sender: Sender) -> Head
     if stream.len() < LENGTH_SIZE {
         return Head::NeedMore;
     }
-    let length = number::be16(stream, ByteOffset(0)) as usize;
+    let length = usize::from(number::be16(stream, ByteOffset(0)));
     if length == 0 {
         return Head::Refused(refusal::LENGTH_ZERO);
     }
@@ -35,8 +35,7 @@ pub(crate) fn read(stream: &[u8], sender: Sender) -> Head
     if stream.len() < HEAD_SIZE {
         return Head::NeedMore;
     }
-    let letter = stream[LENGTH_SIZE];
-    let row = letters::row_of(letter);
+    let row = letters::row_of(stream[LENGTH_SIZE]);
     if !letters::is_sent(row, sender) {
         return Head::Refused(refusal::LETTER_NOT_SENT);
     }

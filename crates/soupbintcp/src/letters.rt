@@ -6,7 +6,7 @@ ghost use Rattle.soupbintcp.specs.Letters.{row, letter_row, sent_in, allowed_in}
 use crate::packet::{ACCEPTED_PAYLOAD, LOGIN_PAYLOAD, MOST_PAYLOAD, REJECTED_PAYLOAD, Sender};
 
 // A row: who sends the letter, and the fewest and most bytes of its payload.
-#[derive(Clone, Copy)]
+#[derive(Clone, Copy, Debug, PartialEq, Eq)]
 pub struct Row {
     pub server: bool,
     pub client: bool,
@@ -59,8 +59,5 @@ pub(crate) fn is_sent(found: Row, sender: Sender) -> bool
 pub(crate) fn is_allowed(found: Row, payload: usize) -> bool
     ensures { result ≡ allowed_in found payload }
 {
-    if payload < found.least {
-        return false;
-    }
-    payload <= found.most
+    found.least <= payload && payload <= found.most
 }

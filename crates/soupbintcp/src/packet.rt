@@ -8,7 +8,7 @@ use text_fields::sound::{PASSWORD_SIZE, USERNAME_SIZE};
 use wire::kinds::{ByteOffset, LENGTH_SIZE, SESSION_SIZE, SequenceNumber};
 
 // Who sends a stream.
-#[derive(Clone, Copy)]
+#[derive(Clone, Copy, Debug, PartialEq, Eq)]
 pub enum Sender {
     Server,
     Client,
@@ -57,9 +57,5 @@ pub const SESSION_NOT_AVAILABLE: u8 = b'S';
 pub fn is_reason(b: u8) -> bool
     ensures { result ≡ good_reason b }
 {
-    if b == NOT_AUTHORIZED {
-        true
-    } else {
-        b == SESSION_NOT_AVAILABLE
-    }
+    b == NOT_AUTHORIZED || b == SESSION_NOT_AVAILABLE
 }
