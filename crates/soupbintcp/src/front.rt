@@ -15,7 +15,7 @@ use wire::refusal::Refusal;
 use wire::{parts, refusal};
 
 // What stands at the front of a stream.
-#[derive(Clone, Copy)]
+#[derive(Clone, Copy, Debug, PartialEq, Eq)]
 pub enum Front {
     // A packet, and how many bytes it takes.
     Whole { packet: Packet, size: usize },

@@ -10,7 +10,7 @@ use wire::refusal::Refusal;
 use wire::{number, refusal};
 
 // A whole packet of so many bytes, need more, or a refusal.
-#[derive(Clone, Copy)]
+#[derive(Clone, Copy, Debug, PartialEq, Eq)]
 pub enum Head {
     Whole { size: usize },
     NeedMore,

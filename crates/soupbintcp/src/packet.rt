@@ -15,7 +15,7 @@ pub enum Sender {
 }
 
 // A packet. Its payload, its session and what else it holds as bytes are had as parts of the stream.
-#[derive(Clone, Copy)]
+#[derive(Clone, Copy, Debug, PartialEq, Eq)]
 pub enum Packet {
     Debug,
     Accepted { number: SequenceNumber },

@@ -12,7 +12,7 @@ use wire::refusal;
 use wire::refusal::Refusal;
 
 // How many good packets a scan passed, their bytes, and the refusal that stopped it: none where there were too few bytes.
-#[derive(Clone, Copy)]
+#[derive(Clone, Copy, Debug, PartialEq, Eq)]
 pub struct Scanned {
     pub packets: usize,
     pub bytes: usize,

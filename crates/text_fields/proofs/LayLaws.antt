@@ -4,7 +4,7 @@ use mathlib.Core.List.{List, [], ◌∷◌, ◌++◌, append-nil}
 use Prim.Native.Nat.{ℕ, ◌+◌, ◌-◌, ◌≤◌}
 use native.Mathlib.Omega.{arith}
 use lib.ListN.{length, take, drop, replicate, length-replicate, replicate-append-replicate, drop_of_length-le}
-use lib.Seq.{take_at, length-take-le}
+use lib.Seq.{take_at}
 use borrow.Author.Tests.{le-leb}
 use Rattle.wire.specs.Words.{says, refused_words}
 use Rattle.wire.specs.Output.{wrote, written_words, put, write_refusal, write_answer, Writes}
@@ -12,7 +12,8 @@ use Rattle.wire.specs.declared.refusal.Refusal.{Refusal}
 use Rattle.wire.specs.Output.{Written}
 use Rattle.std.specs.Prelude.{Ok, Err}
 use Rattle.wire.proofs.Words.{which-of}
-use Rattle.wire.proofs.Outputs.{put-room, length-put, wrote_so, wrote-front}
+use borrow.Rule.Slice.PartMut.{put_mid}
+use Rattle.wire.proofs.Outputs.{put-room, length-put, wrote_so, wrote-front, laid-bytes}
 use Rattle.decimal.specs.Decimal.{digits}
 use Rattle.decimal.proofs.SpellLaws.{length_digits}
 use Rattle.text_fields.specs.Letters.{space}
@@ -38,19 +39,19 @@ abbrev zeros : List ℕ
 zeros = replicate number_field_size 0
 
 -- the digits of every number have room in 20 bytes
-pub never-refused : (r : Written) (m f : List ℕ) (n : ℕ) (x : Refusal) → Writes r zeros m 0 0 (digits n) → r ≡ Err x → f ≡ number_field n
+pub never-refused : (x : Refusal) (m f : List ℕ) (n : ℕ) → Writes (Err x) zeros m 0 0 (digits n) → f ≡ number_field n
 unfolding written_words write_answer write_refusal
-never-refused r m f n x w e =
+never-refused x m f n w =
     let h : 0 + length (digits n) ≤ length zeros = omega (arith, length_digits n) in
-    let a : refused_words x ≡ says wrote (length (digits n) ∷ []) = sym (ap written_words e) ∙ w.answers ∙ rw (le-leb _ _ h) in
+    let a : refused_words x ≡ says wrote (length (digits n) ∷ []) = w.answers ∙ rw (le-leb _ _ h) in
     let c = which-of a in
     let z : ◌≡◌ {A = ℕ} 0 1 = cc in
     absurd (omega arith)
 
-module _ (r : Written) (l m : List ℕ) (n k : ℕ) (w : Writes r l m 0 0 (digits n)) (e : r ≡ Ok k) where
+module _ (l m : List ℕ) (n k : ℕ) (w : Writes (Ok k) l m 0 0 (digits n)) where
   laid : write_answer 0 l 0 (digits n) ≡ says wrote (k ∷ [])
   unfolding written_words
-  laid = sym w.answers ∙ ap written_words e
+  laid = sym w.answers
 
   pub laid-small : k ≤ number_field_size
   laid-small = omega (arith, length_digits n, (wrote_so 0 l 0 (digits n) k laid).size)
@@ -58,15 +59,17 @@ module _ (r : Written) (l m : List ℕ) (n k : ℕ) (w : Writes r l m 0 0 (digit
   pub laid-within : k ≤ length m
   laid-within = let s = wrote_so 0 l 0 (digits n) k laid in omega (arith, s.size, s.room, ap length w.leaves, length-put l 0 (digits n))
 
-  pub laid-part : k ≡ length (take k m)
-  laid-part = sym (length-take-le k m laid-within)
-
   laid-digits : take k m ≡ digits n
   laid-digits = rw w.leaves (wrote-front 0 l (digits n) k laid)
 
-  -- behind the spaces that are left of 20
-  pub justified : (q : Written) (f g : List ℕ) → f ≡ replicate number_field_size space → Writes q f g 0 (number_field_size - k) (take k m) → g ≡ number_field n
-  justified q f g s p = p.leaves ∙ rw (s, laid-digits, (wrote_so 0 l 0 (digits n) k laid).size) (field_put n)
+  -- behind the spaces that are left of 20: y is the end of the field, f, after them
+  pub justified : (f y : List ℕ) → f ≡ replicate number_field_size space → y ≡ take k m
+      → put_mid (number_field_size - k) (length f - (number_field_size - k)) f y ≡ number_field n
+  justified f y s e =
+      let z = (wrote_so 0 l 0 (digits n) k laid).size in
+      let b : length f ≡ number_field_size = ap length s ∙ length-replicate number_field_size space in
+      let h = laid-small in
+      laid-bytes _ _ _ _ _ (e ∙ laid-digits) (omega arith) (omega arith) ∙ rw (s, z) (field_put n)
 
 pub field-laid : (r : Written) (l m : List ℕ) (at n : ℕ) (f : List ℕ) → f ≡ number_field n → Writes r l m 0 at f → Writes r l m 0 at (number_field n)
 field-laid r l m at n f e w = rw e at w

@@ -11,7 +11,7 @@ use lib.Dec.{ltb, leb, eqb, lit<}
 use mir.Val.{bool_byte, Fits}
 use mir.Syntax.{w8, w64}
 use borrow.Author.Tests.{lt-ltb, le-ltb, le-leb, lt-leb, ltb-true, ltb-false, leb-true, eq-eqb, ne_eqb}
-use Rattle.std.specs.Prelude.{if◌then◌else◌, Option, Some, None, Result, Ok, Err}
+use Rattle.std.specs.Prelude.{if◌then◌else◌, Option, Some, None, Ok, Err}
 use Rattle.wire.specs.Bounds.{largest_number}
 use Rattle.wire.specs.Words.{Case, Words, answer, refused, says}
 use Rattle.wire.proofs.Cases.{below_or_not}

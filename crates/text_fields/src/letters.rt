@@ -1,5 +1,6 @@
 // Letters and digits, in ASCII.
 #![tactic(auto, using(crate::proofs::Rules::ascii))]
+
 ghost use Rattle.std.specs.Prelude.{◌≡◌};
 ghost use Rattle.text_fields.specs.Letters.{is_letter_or_digit, lower};
 

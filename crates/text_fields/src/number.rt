@@ -1,9 +1,9 @@
 // A number field: spaces, then decimal digits. Leading zeros are read, and never written.
 #![tactic(auto, using(crate::proofs::Rules::laying, crate::proofs::Rules::numbers))]
-ghost use Rattle.std.specs.Prelude.{◌≡◌, replicate};
-ghost use Rattle.text_fields.specs.Letters.{space};
+
+ghost use Rattle.std.specs.Prelude.{◌≡◌};
 ghost use Rattle.wire.specs.Output.{Writes};
-ghost use Rattle.text_fields.specs.Number.{number_field_size, digit_step, number_step, number_words, number_good};
+ghost use Rattle.text_fields.specs.Number.{digit_step, number_step, number_words, number_good};
 ghost use Rattle.text_fields.specs.Number.{read_number, number_field, NumberFold, NumberLaws};
 
 use crate::letters;
@@ -68,26 +68,22 @@ pub fn read(field: &[u8], least: SequenceNumber) -> Option<SequenceNumber>
     value(state, least)
 }
 
-// Lays a number field: spaces, then digits without leading zeros.
+// The bytes of a number field: spaces, then digits without leading zeros.
+pub fn field(number: SequenceNumber) -> [u8; NUMBER_FIELD_SIZE]
+    ensures { result ≡ number_field number.0 }
+{
+    let mut field = [letters::SPACE; NUMBER_FIELD_SIZE];
+    let mut text = [0u8; NUMBER_FIELD_SIZE];
+    if let Ok(size) = writing::put(&mut text, ByteOffset(0), number.0) {
+        field[NUMBER_FIELD_SIZE - size..].copy_from_slice(&text[..size]);
+    }
+    field
+}
+
+// Lays a number field.
 pub fn put(out: &mut [u8], at: ByteOffset, number: SequenceNumber) -> Result<usize, Refusal>
     ensures writes { Writes result out.old out.new 0 at.0 (number_field number.0) }
     ensures laws { NumberLaws }
 {
-    let mut field = [letters::SPACE; NUMBER_FIELD_SIZE];
-    right_justify(&mut field, number);
-    output::put_bytes(out, at, &field)
-}
-
-// Lays the digits of a number at the end of a field of spaces.
-fn right_justify(field: &mut [u8], number: SequenceNumber)
-    requires { field.old ≡ replicate number_field_size space }
-    ensures { field.new ≡ number_field number.0 }
-{
-    let mut text = [0u8; NUMBER_FIELD_SIZE];
-    match writing::put(&mut text, ByteOffset(0), number.0) {
-        Ok(size) => {
-            output::lay(field, ByteOffset(NUMBER_FIELD_SIZE - size), &text[..size]);
-        }
-        Err(_) => {}
-    }
+    output::put_bytes(out, at, &field(number))
 }

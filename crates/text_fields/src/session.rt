@@ -1,5 +1,6 @@
 // A session field: spaces, then letters or digits.
 #![tactic(auto, using(crate::proofs::Rules::sessions))]
+
 ghost use Rattle.std.specs.Prelude.{◌≡◌};
 ghost use Rattle.text_fields.specs.Session.{session_step, session_good, good_session, SessionFold};
 

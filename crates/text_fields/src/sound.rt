@@ -1,5 +1,6 @@
 // Username and password: letters or digits from the left end on, then spaces.
 #![tactic(auto, using(crate::proofs::Rules::logins))]
+
 ghost use Rattle.std.specs.Prelude.{◌≡◌};
 ghost use Rattle.text_fields.specs.Sound.{sound, SoundExactlyWhen, sound_username, sound_password};
 

@@ -1,9 +1,0 @@
--- The test is the rule, with its own least length.
-use borrow.Author.Rules.{rules}
-use Rattle.text_fields.proofs.SoundLaws.{sound-exactly-when}
-use Rattle.text_fields.proofs.sound.is_password.Statement.{statement}
-use Rattle.text_fields.proofs.sound.is_password.Tie as tie
-
-pub is_password_spec : {M : Type 1} → statement M
-is_password_spec =
-    tie.close (tie.spec (λ c κs. search rules) (λ c. (search rules, sound-exactly-when)))
