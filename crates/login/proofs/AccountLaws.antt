@@ -2,47 +2,35 @@
 use mathlib.Core.Path.{◌≡◌, refl, ap, sym, ◌∙◌}
 use mathlib.Core.List.{List, [], ◌∷◌}
 use mathlib.Core.Bool.{Bool, true, false, ◌&&◌, not}
-use Prim.Native.Nat.{ℕ, suc, ◌+◌, ◌≤◌, ◌<◌}
+use Prim.Native.Nat.{ℕ, zero, suc, ◌+◌, ◌≤◌, ◌<◌}
 use native.Mathlib.Omega.{arith}
-use native.Mathlib.Numerals.{add-one, unary_clauses}
+use native.Mathlib.Numerals.{unary_clauses}
 use mir.Val.{bool_byte, Fits}
 use mir.Syntax.{w64}
-use lib.ListN.{length, drop, get_or, drop_of_length-le}
-use lib.Seq.{drop-cons}
+use lib.ListN.{length}
 use lib.Dec.{eqb}
 use borrow.Author.Tests.{eq-eqb, ne_eqb}
-use Rattle.std.specs.Prelude.{if◌then◌else◌}
+use Rattle.std.specs.Prelude.{if◌then◌else◌, ◌≢◌, MatchBool}
+use Rattle.std.specs.List.{zip, AllWithin, HoldsAt}
 use Rattle.wire.specs.Bytes.{same_bytes}
 use Rattle.wire.proofs.Same.{same_length, false-or-true}
 use Rattle.text_fields.specs.Sound.{sound_username, sound_password}
 use Rattle.text_fields.specs.Letters.{lower}
 use Rattle.login.specs.declared.account.Account.{Account}
-use Rattle.login.specs.declared.account.Found.{Found}
 use Rattle.login.specs.Account.{lowered, same_text, sound_account, is_of, has_password, is_known}
 
--- ---- what is found, made of a blank record
-
-abbrev found : Account → Bool → Found
-found a t = record { account = a; too_many = t }
-
-pub found_as : (a b : Account) (t : Bool) → a ≡ b → found a t ≡ found b t
-found_as a b t e = ap (λ (x : Account). found x t) e
-
--- ---- two fields: of i bytes same tells whether they agree, and the bytes from i on decide the rest
+-- ---- two fields
 
 lowered-length : (l : List ℕ) → length (lowered l) ≡ length l
 unfolding lowered
 lowered-length [] = refl
 lowered-length (b ∷ l) = ap suc (lowered-length l)
 
-pub record SameOn (a b : List ℕ) (same : Bool) (i : ℕ) : Type 0 where
-  pub lengths : length a ≡ length b
-  pub rest : (same && same_text (drop i a) (drop i b)) ≡ same_text a b
-
--- the same by a count of the bytes that differ
-pub record DifferOn (a b : List ℕ) (differ i : ℕ) : Type 0 where
-  pub within : differ ≤ i
-  pub same : SameOn a b (eqb differ 0) i
+-- by a count of the bytes that differ, where x and y are left of them: those left decide the rest
+pub record DifferOn (a b x y : List ℕ) (differ : ℕ) : Type 0 where
+  pub lengths : length x ≡ length y
+  pub within : differ + length x ≤ length a
+  pub same : (eqb differ 0 && same_text x y) ≡ same_text a b
 
 and-true : (x : Bool) → (x && true) ≡ x
 and-true true = refl
@@ -62,76 +50,80 @@ and_first true true s w e = e
 and_first true false s w e = e
 and_first false t s w e = e
 
--- the byte in front of what is left after i bytes
-front : (l : List ℕ) (i : ℕ) → i < length l → drop i l ≡ get_or l i 0 ∷ drop (i + 1) l
-front l i h = rw (add-one, drop-cons l i 0)
+pub same-unlike : (a b : List ℕ) → (length a ≡ length b → ⊥) → false ≡ same_text a b
+unfolding same_text
+same-unlike a b h =
+    false-or-true (same_bytes (lowered a) (lowered b))
+    (λ e. let k = same_length (lowered a) (lowered b) e in h (omega (arith, lowered-length a, lowered-length b)))
+
+-- ---- by the first pair that differs
+
+abbrev pub Alike : ℕ × ℕ → Type 0
+Alike p = lower p.0 ≡ lower p.1
+
+abbrev pub Unlike : ℕ × ℕ → Type 0
+Unlike p = lower p.0 ≢ lower p.1
+
+all-alike : (a b : List ℕ) → length a ≡ length b → AllWithin Alike (zip a b) 0 (length (zip a b)) → same_text a b ≡ true
+unfolding same_text lowered same_bytes
+all-alike [] [] n h = refl
+all-alike [] (y ∷ b) n h = absurd (omega arith)
+all-alike (x ∷ a) [] n h = absurd (omega arith)
+all-alike (x ∷ a) (y ∷ b) n h =
+    let e : lower x ≡ lower y = h 0 (x, y) (omega arith) (omega arith) in
+    rw (eq-eqb _ _ e) (all-alike a b (omega arith) (λ k d p q. h (suc k) d (omega arith) (omega arith)))
+
+one-unlike : (a b : List ℕ) (k : ℕ) → k < length (zip a b) → HoldsAt Unlike (zip a b) k → same_text a b ≡ false
+unfolding same_text lowered same_bytes
+one-unlike [] b k l h = absurd (omega arith)
+one-unlike (x ∷ a) [] k l h = absurd (omega arith)
+one-unlike (x ∷ a) (y ∷ b) zero l h = rw (ne_eqb _ _ (h (x, y))) refl
+one-unlike (x ∷ a) (y ∷ b) (suc k) l h = go (eqb (lower x) (lower y)) (one-unlike a b k (omega arith) h)
+  where
+    go : (t : Bool) → same_text a b ≡ false → (if t then same_text a b else false) ≡ false
+    go true e = e
+    go false e = refl
+
+-- what the search over the pairs answers
+pub alike-so : (a b : List ℕ) (r : Bool) → length a ≡ length b
+    → MatchBool r (AllWithin Alike (zip a b) 0 (length (zip a b))) ((k : ℕ) × (k < length (zip a b)) × HoldsAt Unlike (zip a b) k)
+    → r ≡ same_text a b
+alike-so a b true n h = sym (all-alike a b n h)
+alike-so a b false n h = sym (one-unlike a b h.0 h.1 h.2)
+
+-- ---- by the count of those that differ
 
 module _ (a b : List ℕ) where
-  pub same-unlike : (length a ≡ length b → ⊥) → false ≡ same_text a b
-  unfolding same_text
-  same-unlike h =
-      false-or-true (same_bytes (lowered a) (lowered b))
-      (λ e. let k = same_length (lowered a) (lowered b) e in h (omega (arith, lowered-length a, lowered-length b)))
+  pub differ-start : length a ≡ length b → DifferOn a b a b 0
+  differ-start h = record { lengths = h; within = omega arith; same = refl }
 
-  pub same_start : length a ≡ length b → SameOn a b true 0
-  same_start h = record { lengths = h; rest = refl }
-
-  pub same_next : (same : Bool) (i p q : ℕ) → SameOn a b same i → i < length a → p ≡ lower (get_or a i 0) → q ≡ lower (get_or b i 0)
-      → SameOn a b (same && eqb p q) (i + 1)
+  pub differ-end : (x y : List ℕ) (differ : ℕ) → DifferOn a b x y differ → x ≡ [] → y ≡ [] → eqb differ 0 ≡ same_text a b
   unfolding same_text lowered same_bytes
-  same_next same i p q s h e f =
-      let n : i < length b = omega (arith, s.lengths) in
-      record {
-        lengths = s.lengths;
-        rest =
-            and_first same (eqb p q) (same_text (drop (i + 1) a) (drop (i + 1) b)) (same_text a b)
-            (rw (e, f) (rw (front a i h, front b i n) at s.rest));
-      }
+  differ-end x y differ d e f = rw (e, f, and-true (eqb differ 0)) at d.same
 
-  -- a difference decides
-  pub same_differs : (i p q : ℕ) → SameOn a b true i → i < length a → p ≡ lower (get_or a i 0) → q ≡ lower (get_or b i 0)
-      → (p ≡ q → ⊥) → false ≡ same_text a b
-  same_differs i p q s h e f n =
-      let d : eqb p q ≡ false = ne_eqb p q n in
-      rw d at (same_next true i p q s h e f).rest
+  -- one pair in front
+  module _ (x y m n : List ℕ) (differ p q : ℕ) (d : DifferOn a b x y differ) (e : x ≡ p ∷ m) (f : y ≡ q ∷ n) where
+    fewer : differ + suc (length m) ≤ length a
+    fewer = rw e at d.within
 
-  -- and where there is none the texts are the same
-  pub same_step : (i p q : ℕ) → SameOn a b true i → i < length a → p ≡ lower (get_or a i 0) → q ≡ lower (get_or b i 0) → p ≡ q
-      → SameOn a b true (i + 1)
-  same_step i p q s h e f n =
-      let d : eqb p q ≡ true = eq-eqb p q n in
-      rw d at (same_next true i p q s h e f)
+    pub differ-fits : (t : Bool) → Fits w64 (length a) → Fits w64 (differ + bool_byte t)
+    differ-fits true h = record { fits = omega (arith, fewer, h.fits) }
+    differ-fits false h = record { fits = omega (arith, fewer, h.fits) }
 
-  pub same_end : (same : Bool) (i : ℕ) → SameOn a b same i → length a ≤ i → same ≡ same_text a b
-  unfolding same_text lowered same_bytes
-  same_end same i s h =
-      let d : drop i a ≡ [] = drop_of_length-le a h in
-      let e : drop i b ≡ [] = drop_of_length-le b {i = i} (omega (arith, s.lengths)) in
-      rw (d, e, and-true same) at s.rest
-
-module _ (a b : List ℕ) where
-  pub differ-start : length a ≡ length b → DifferOn a b 0 0
-  differ-start h = record { within = omega arith; same = same_start a b h }
-
-  module _ (differ i : ℕ) (d : DifferOn a b differ i) where
-    pub differ-fits : (y : Bool) → i < length a → Fits w64 (length a) → Fits w64 (differ + bool_byte y)
-    differ-fits true h f = record { fits = omega (arith, d.within, f.fits) }
-    differ-fits false h f = record { fits = omega (arith, d.within, f.fits) }
-
-    pub differ-next : (p q : ℕ) → i < length a → p ≡ lower (get_or a i 0) → q ≡ lower (get_or b i 0)
-        → DifferOn a b (differ + bool_byte (not (eqb p q))) (i + 1)
-    differ-next p q h e f =
+    pub differ-next : DifferOn a b m n (differ + bool_byte (not (eqb (lower p) (lower q))))
+    unfolding same_text lowered same_bytes
+    differ-next =
         record {
-          within = at_most (not (eqb p q));
-          same = rw (none-differs differ (eqb p q)) (same_next a b (eqb differ 0) i p q d.same h e f);
+          lengths = let l : suc (length m) ≡ suc (length n) = rw (e, f) at d.lengths in omega arith;
+          within = at_most (not (eqb (lower p) (lower q)));
+          same =
+              rw (none-differs differ (eqb (lower p) (lower q)))
+              (and_first (eqb differ 0) (eqb (lower p) (lower q)) (same_text m n) (same_text a b) (rw (e, f) at d.same));
         }
       where
-        at_most : (y : Bool) → differ + bool_byte y ≤ i + 1
-        at_most true = omega (arith, d.within)
-        at_most false = omega (arith, d.within)
-
-    pub differ-end : length a ≤ i → eqb differ 0 ≡ same_text a b
-    differ-end h = same_end a b (eqb differ 0) i d.same h
+        at_most : (t : Bool) → differ + bool_byte t + length m ≤ length a
+        at_most true = omega (arith, fewer)
+        at_most false = omega (arith, fewer)
 
 -- ---- one record: t is what the first test gave, r what the second did
 

@@ -7,7 +7,7 @@ use native.Mathlib.Omega.{arith}
 use lib.ListN.{length, drop, get_or}
 use lib.Dec.{ltb, eqb}
 use borrow.Author.Tests.{le-ltb, lt-ltb, le-leb, leb-true, eqb-true, eqb-false}
-use Rattle.std.specs.Prelude.{if◌then◌else◌}
+use Rattle.std.specs.Prelude.{if◌then◌else◌, Ok, Err}
 use Rattle.wire.specs.Bounds.{least_number, blank}
 use Rattle.wire.specs.Refusals.{bad_setting}
 use Rattle.wire.specs.Bytes.{same_bytes}
@@ -20,10 +20,10 @@ use Rattle.text_fields.specs.Letters.{is_letter_or_digit, space}
 use Rattle.text_fields.specs.Sound.{word_length, are_spaces, sound}
 use Rattle.text_fields.proofs.SoundLaws.{spaces-word}
 use Rattle.login.specs.declared.account.Account.{Account}
-use Rattle.login.specs.Account.{sound_account, most_accounts, is_known, verdict_of, lookup_of, verdict_on}
-use Rattle.login.specs.Decision.{session_holds, number_holds, granted, DecisionKind, accepted, decision_at, decision_of, rejects, Attempt, login_of}
-use Rattle.login.specs.Statements.{AccountRule, SessionRule, asks_blank, asks_ours, NumberRule, NotRefused, Rules, LoginRules, AcceptedExactlyWhen, NoText, has_zero, all_spaces, NeverAccepted, attempt_by, ByItsRecord, OnlyByARecord}
-use Rattle.login.proofs.FoundLaws.{says-19, says-of-one}
+use Rattle.login.specs.Account.{sound_account, most_accounts, is_known, verdict_of, lookup_of, found_records}
+use Rattle.login.specs.Decision.{session_holds, number_holds, granted, DecisionKind, accepted, decision_at, rejects, Attempt, login_of}
+use Rattle.login.specs.Statements.{AccountRule, SessionRule, asks_blank, asks_ours, NumberRule, NotRefused, Rules, LoginRules, AcceptedExactlyWhen, NoText, has_zero, all_spaces, NeverAccepted, attempt_by, OnlyByARecord}
+use Rattle.login.proofs.FoundLaws.{says-refused, says-of-one}
 use Rattle.login.proofs.KnownLaws.{known-found, found-known, unsound-unknown}
 
 -- ---- the rules and their tests
@@ -163,17 +163,14 @@ accepted_exactly_when =
 
 -- ---- whatever is said to be found, the rules hold with its record alone as the table
 
-refused-out : (refuses {K = DecisionKind} bad_setting).which ≡ answer accepted → ⊥
-refused-out e = let z : ◌≡◌ {A = ℕ} 0 1 = cc in omega arith
+refused-out : (r : ℕ) → (refuses {K = DecisionKind} r).which ≡ answer accepted → ⊥
+refused-out r e = let z : ◌≡◌ {A = ℕ} 0 1 = cc in omega arith
 
 pub only_by_a_record : OnlyByARecord
-unfolding OnlyByARecord decision_at
-only_by_a_record f e asked wanted session last = go f.too_many refl
-  where
-    go : (b : Bool) → f.too_many ≡ b → (decision_of (verdict_on f e) asked wanted session last).which ≡ answer accepted
-        → ByItsRecord f (attempt_by f e asked wanted session last)
-    go true h w = absurd (refused-out (rw (says-19 f e h) at w))
-    go false h w = record { not_too_many = h; rules = only_when (attempt_by f e asked wanted session last) (rw (says-of-one f e h) at w) }
+unfolding OnlyByARecord decision_at found_records
+only_by_a_record (Ok a) e asked wanted session last w =
+    record { not_too_many = refl; rules = only_when (attempt_by (Ok a) e asked wanted session last) (rw (says-of-one e a) at w) }
+only_by_a_record (Err r) e asked wanted session last w = absurd (refused-out r.number (rw (says-refused e r) at w))
 
 -- ---- a sound field has a letter or digit in front, and no zero byte
 

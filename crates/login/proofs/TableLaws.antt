@@ -1,18 +1,21 @@
 -- Laws of a table that is lent as bytes: its first record, those behind it, and the lookup.
 use mathlib.Core.Path.{◌≡◌, refl, sym, ◌∙◌}
-use mathlib.Core.List.{List, [], ◌∷◌}
+use mathlib.Core.List.{List, [], ◌∷◌, ◌++◌}
 use mathlib.Core.Bool.{Bool, true, false, not}
 use Prim.Native.Nat.{ℕ, zero, suc, ◌-◌, ◌/◌, ◌≤◌, ◌<◌}
 use native.Mathlib.Omega.{arith}
-use lib.ListN.{length, take, drop, length-take, length-drop}
+use lib.ListN.{length, take, drop, length-take, length-drop, length-append}
+use lib.Seq.{drop_at}
 use lib.Dec.{ltb}
 use borrow.Author.Tests.{ltb-false, not-true, not-false}
 use Rattle.wire.proofs.Numbers.{part_to_end}
 use Rattle.wire.specs.Parts.{first_bytes}
 use Rattle.wire.proofs.PartLaws.{first-there}
 use Rattle.login.specs.declared.account.Account.{Account}
-use Rattle.login.specs.declared.account.Found.{Found}
-use Rattle.login.specs.Account.{same_text, sound_account, is_of, most_accounts, blank_account, deciding, found_in}
+use Rattle.wire.specs.Refusals.{bad_setting}
+use Rattle.std.specs.Prelude.{Option, Some, None, Ok, Err}
+use Rattle.std.proofs.lemmas.List.{take-append-le, drop-append-le}
+use Rattle.login.specs.Account.{same_text, sound_account, is_of, most_accounts, deciding, found_in}
 use Rattle.login.specs.Table.{account_size, account_of, accounts_up_to, accounts_of}
 use Rattle.login.proofs.AccountLaws.{of-both, of-not}
 use Rattle.login.proofs.FoundLaws.{found-unsound, found-sound}
@@ -52,8 +55,15 @@ module _ (l : List ℕ) where
 pub username-there : (l : List ℕ) → 16 ≤ length l → length (take 6 l) ≡ 6
 username-there l h = omega (arith, length-take 6 l)
 
-pub rest-less : (l : List ℕ) → 16 ≤ length l → length (take (length l - 16) (drop 16 l)) < length l
-rest-less l h = rw (part_to_end 16 l, length-drop 16 l) (omega arith)
+-- a record in front of others
+pub record-front : (x m : List ℕ) → length x ≡ 16 → accounts_of (x ++ m) ≡ account_of x ∷ accounts_of m
+unfolding account_of
+record-front x m h =
+    let n : 16 ≤ length (x ++ m) = omega (arith, length-append x m) in
+    let k : 6 ≤ length x = omega arith in
+    let g : 10 ≤ length (drop 6 x) = omega (arith, length-drop 6 x) in
+    records-more (x ++ m) n
+    ∙ rw (drop_at x m 16 h, take-append-le 6 x m k, drop-append-le 6 x m k, take-append-le 10 (drop 6 x) m g) refl
 
 -- the first record: t is what the comparison of its username gave
 module _ (l : List ℕ) (e : Account) (t : Bool) (f : t ≡ same_text (take 6 l) e.username) where
@@ -65,7 +75,7 @@ module _ (l : List ℕ) (e : Account) (t : Bool) (f : t ≡ same_text (take 6 l)
   unfolding account_of
   first-other g = of-not (account_of l) e t f g
 
--- ---- the lookup: l is the table, e the entry, rest what is left of the table, r what is found
+-- ---- the lookup: l is the table, e the entry, rest what is left of the table
 
 pub record LookedIn (l : List ℕ) (e : Account) (rest : List ℕ) : Type 0 where
   pub few : length (accounts_of l) ≤ most_accounts
@@ -77,40 +87,34 @@ pub too_long : (l : List ℕ) → ltb 1024 (length l / 16) ≡ ltb most_accounts
 too_long l = rw (records-length l) refl
 
 module _ (l : List ℕ) (e : Account) (m : Bool) (f : m ≡ ltb most_accounts (length (accounts_of l))) where
-  pub lookup-many : (r : Found) → m ≡ true → r ≡ record { account = blank_account; too_many = true } → r ≡ found_in (accounts_of l) e
+  pub lookup-many : m ≡ true → Err (record { number = bad_setting }) ≡ found_in (accounts_of l) e
   unfolding found_in
-  lookup-many r g h = h ∙ rw (← f, g) refl
+  lookup-many g = rw (← f, g) refl
 
   module _ (t : Bool) (g : m ≡ false) (h : t ≡ sound_account e) where
     few-records : length (accounts_of l) ≤ most_accounts
     few-records = ltb-false _ _ (sym f ∙ g)
 
-    pub lookup-unsound : (r : Found) → not t ≡ true → r ≡ record { account = blank_account; too_many = false } → r ≡ found_in (accounts_of l) e
-    lookup-unsound r i j = j ∙ sym (found-unsound (accounts_of l) e few-records (sym h ∙ not-true t i))
+    pub lookup-unsound : not t ≡ true → Ok None ≡ found_in (accounts_of l) e
+    lookup-unsound i = sym (found-unsound (accounts_of l) e few-records (sym h ∙ not-true t i))
 
     pub lookup-start : not t ≡ false → LookedIn l e l
     lookup-start i = record { few = few-records; entry_sound = sym h ∙ not-false t i; same = refl }
 
-module _ (l : List ℕ) (e : Account) where
-  module _ (rest : List ℕ) (s : LookedIn l e rest) where
-    looked : (a : Account) (r : Found) → deciding (accounts_of rest) e ≡ a → r ≡ record { account = a; too_many = false } → r ≡ found_in (accounts_of l) e
-    looked a r f g = g ∙ rw (← f, s.same) (sym (found-sound (accounts_of l) e s.few s.entry_sound))
+module _ (l : List ℕ) (e : Account) (rest : List ℕ) (s : LookedIn l e rest) where
+  looked : (a : Option Account) → deciding (accounts_of rest) e ≡ a → Ok a ≡ found_in (accounts_of l) e
+  looked a f = rw (← f, s.same) (sym (found-sound (accounts_of l) e s.few s.entry_sound))
 
-    pub lookup-decides : (a : Account) (t : Bool) (r : Found) → 16 ≤ length rest → t ≡ is_of (account_of rest) e → t ≡ true
-        → a ≡ account_of rest → r ≡ record { account = a; too_many = false } → r ≡ found_in (accounts_of l) e
-    unfolding deciding
-    lookup-decides a t r h g i f j = looked a r (rw (records-more rest h, ← g, i) (sym f)) j
+  pub lookup-end : length rest < 16 → Ok None ≡ found_in (accounts_of l) e
+  unfolding deciding
+  lookup-end h = looked None (rw (records-none rest h) refl)
 
-    pub lookup-again : (t : Bool) → 16 ≤ length rest → t ≡ is_of (account_of rest) e → t ≡ false
-        → LookedIn l e (take (length rest - 16) (drop 16 rest))
+  -- one record in front
+  module _ (x m : List ℕ) (f : rest ≡ x ++ m) (h : length x ≡ 16) (t : Bool) (g : t ≡ is_of (account_of x) e) where
+    pub lookup-decides : (a : Account) → t ≡ true → a ≡ account_of x → Ok (Some a) ≡ found_in (accounts_of l) e
     unfolding deciding
-    lookup-again t h g i =
-        record {
-          few = s.few;
-          entry_sound = s.entry_sound;
-          same = rw (part_to_end 16 rest) (rw (records-more rest h, ← g, i) at s.same);
-        }
+    lookup-decides a i j = looked (Some a) (rw (f, record-front x m h, ← g, i, j) refl)
 
-    pub lookup-end : (r : Found) → length rest < 16 → r ≡ record { account = blank_account; too_many = false } → r ≡ found_in (accounts_of l) e
+    pub lookup-again : t ≡ false → LookedIn l e m
     unfolding deciding
-    lookup-end r h f = looked blank_account r (rw (records-none rest h) refl) f
+    lookup-again i = record { few = s.few; entry_sound = s.entry_sound; same = rw (f, record-front x m h, ← g, i) at s.same }

@@ -1,12 +1,12 @@
 -- Account records: an entry has the same two fields, and the first sound record with its username decides.
-use Rattle.std.specs.Prelude.{ℕ, List, [], ◌∷◌, Bool, true, false, length, replicate, ltb, if◌then◌else◌}
+use Rattle.std.specs.Prelude.{ℕ, List, [], ◌∷◌, Bool, true, false, length, ltb, if◌then◌else◌, Option, Some, None, Result, Ok, Err, option_to_list}
 use Rattle.wire.specs.Refusals.{bad_setting}
 use Rattle.wire.specs.Bytes.{same_bytes}
 use Rattle.wire.specs.Words.{Words, says, refuses}
-use Rattle.text_fields.specs.Letters.{lower, space}
-use Rattle.text_fields.specs.Sound.{username_size, password_size, sound_username, sound_password}
+use Rattle.wire.specs.declared.refusal.Refusal.{Refusal}
+use Rattle.text_fields.specs.Letters.{lower}
+use Rattle.text_fields.specs.Sound.{sound_username, sound_password}
 use Rattle.login.specs.declared.account.Account.{Account}
-use Rattle.login.specs.declared.account.Found.{Found}
 
 -- ---- letters compare without case
 
@@ -58,21 +58,27 @@ lookup_of t e = if ltb most_accounts (length t) then refuses bad_setting else ve
 
 -- ---- what a lookup finds
 
--- a record of spaces alone, which is of nobody
-abbrev pub blank_account : Account
-blank_account = record { username = replicate username_size space; password = replicate password_size space }
+-- the record that decides, none where there is none, or the refusal of the table
+abbrev pub Found : Type 0
+Found = Result (Option Account) Refusal
 
--- the record that decides on an entry: the first sound one with its username; a blank one where there is none
-unfoldable pub deciding : List Account → Account → Account
-deciding [] e = blank_account
-deciding (a ∷ t) e = if is_of a e then a else deciding t e
+-- the record that decides on an entry: the first sound one with its username
+unfoldable pub deciding : List Account → Account → Option Account
+deciding [] e = None
+deciding (a ∷ t) e = if is_of a e then Some a else deciding t e
 
 -- nothing in a table of too many records, and for an unsound entry it looks at none
 unfoldable pub found_in : List Account → Account → Found
 found_in t e =
-    if ltb most_accounts (length t) then record { account = blank_account; too_many = true }
-    else record { account = if sound_account e then deciding t e else blank_account; too_many = false }
+    if ltb most_accounts (length t) then Err (record { number = bad_setting })
+    else Ok (if sound_account e then deciding t e else None)
 
--- what a record that was found says of an entry: a made-up one is no more than a table of one
+-- the record that was found, as a table
+unfoldable pub found_records : Found → List Account
+found_records (Ok a) = option_to_list a
+found_records (Err r) = []
+
+-- what was found says of an entry: a made-up record is no more than a table of one
 unfoldable pub verdict_on : Found → Account → Words VerdictKind
-verdict_on f e = if f.too_many then refuses bad_setting else lookup_of (f.account ∷ []) e
+verdict_on (Ok a) e = lookup_of (option_to_list a) e
+verdict_on (Err r) e = refuses r.number

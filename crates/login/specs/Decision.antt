@@ -1,12 +1,13 @@
 -- The decision on a login.
-use Rattle.std.specs.Prelude.{ℕ, ◌+◌, max, List, [], ◌∷◌, Bool, true, leb, eqb, if◌then◌else◌}
+use Rattle.std.specs.Prelude.{ℕ, ◌+◌, max, List, [], ◌∷◌, Bool, true, leb, eqb, if◌then◌else◌, Result, Ok, Err}
 use Rattle.wire.specs.Bounds.{least_number, blank}
 use Rattle.wire.specs.Bytes.{same_bytes}
 use Rattle.wire.specs.Words.{Words, Case, answer, refused, says, refuses, refused_words}
 use Rattle.soupbintcp.specs.Fields.{not_authorized, session_not_available}
+use Rattle.wire.specs.declared.refusal.Refusal.{Refusal}
 use Rattle.login.specs.declared.account.Account.{Account}
 use Rattle.login.specs.declared.decision.Decision.{Decision}
-use Rattle.login.specs.declared.decision.Decision.TheVariants.{Accepted, Rejected, Refused}
+use Rattle.login.specs.declared.decision.Decision.TheVariants.{Accepted, Rejected}
 use Rattle.login.specs.Account.{VerdictKind, known, unknown, lookup_of}
 
 -- the session rule: blank, or exactly the server's
@@ -25,10 +26,10 @@ granted wanted last = if eqb wanted 0 then max least_number last else wanted
 pub data DecisionKind : Type 0 where
   accepted rejected : DecisionKind
 
-unfoldable pub decision_words : Decision → Words DecisionKind
-decision_words (Accepted n) = says accepted (n.0 ∷ [])
-decision_words (Rejected reason) = says rejected (reason ∷ [])
-decision_words (Refused r) = refused_words r
+unfoldable pub decision_words : Result Decision Refusal → Words DecisionKind
+decision_words (Ok (Accepted n)) = says accepted (n.0 ∷ [])
+decision_words (Ok (Rejected reason)) = says rejected (reason ∷ [])
+decision_words (Err r) = refused_words r
 
 -- J with a reason
 abbrev pub rejects : ℕ → Words DecisionKind

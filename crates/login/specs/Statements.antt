@@ -1,5 +1,5 @@
 -- A login is accepted exactly when the account, session and number rules hold.
-use Rattle.std.specs.Prelude.{ℕ, ◌+◌, ◌<◌, ◌≤◌, List, [], ◌∷◌, false, ◌≡◌, length, get_or, replicate}
+use Rattle.std.specs.Prelude.{ℕ, ◌+◌, ◌<◌, ◌≤◌, List, [], ◌∷◌, true, is_ok, ◌≡◌, length, get_or, replicate}
 use Rattle.wire.specs.Bounds.{least_number, blank}
 use Rattle.wire.specs.Refusals.{bad_setting}
 use Rattle.wire.specs.Words.{Words, answer, says, refuses, Injective}
@@ -8,8 +8,7 @@ use Rattle.text_fields.specs.Letters.{space, to_small}
 use Rattle.text_fields.specs.Sound.{Sound, least_username, least_password}
 use Rattle.soupbintcp.specs.Fields.{not_authorized, session_not_available}
 use Rattle.login.specs.declared.account.Account.{Account}
-use Rattle.login.specs.declared.account.Found.{Found}
-use Rattle.login.specs.Account.{most_accounts, lookup_of, found_in, verdict_on}
+use Rattle.login.specs.Account.{most_accounts, lookup_of, Found, found_in, found_records, verdict_on}
 use Rattle.login.specs.Decision.{DecisionKind, accepted, granted, decision_words, decision_of, rejects}
 use Rattle.login.specs.Decision.{Attempt, login_of}
 
@@ -105,14 +104,14 @@ pub record NeverAccepted : Type 0 where
 unfoldable pub FoundDecides : Type 0
 FoundDecides = (t : List Account) (e : Account) → verdict_on (found_in t e) e ≡ lookup_of t e
 
--- the attempt at a table of one record, the one that is said to be found
+-- the attempt at a table of one record, the one that is said to be found; of none where none is
 abbrev pub attempt_by : Found → Account → List ℕ → ℕ → List ℕ → ℕ → Attempt
 attempt_by f e asked wanted session last =
-    record { table = f.account ∷ []; entry = e; asked = asked; wanted = wanted; session = session; last = last }
+    record { table = found_records f; entry = e; asked = asked; wanted = wanted; session = session; last = last }
 
 -- let in by the record that is said to be found: its username, its password, and the other rules
 pub record ByItsRecord (f : Found) (x : Attempt) : Type 0 where
-  pub not_too_many : f.too_many ≡ false
+  pub not_too_many : is_ok f ≡ true
   pub rules : Rules x
 
 -- nobody is let in but so, whatever is said to be found

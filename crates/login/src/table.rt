@@ -1,5 +1,6 @@
 // The lookup in a table that is lent as bytes, 16 to a record: username, then password. Bytes left over are no record.
 #![tactic(auto, using(crate::proofs::Rules::tables))]
+
 ghost use Rattle.std.specs.Prelude.{◌≡◌, ◌≤◌, length, ltb};
 ghost use Rattle.login.specs.Account.{is_of, most_accounts, found_in};
 ghost use Rattle.login.specs.Table.{account_size, account_of, accounts_of};
@@ -8,7 +9,7 @@ ghost use Rattle.login.specs.Statements.{FoundDecides};
 use crate::account;
 use crate::account::{Account, Found, MOST_ACCOUNTS};
 use text_fields::sound::{PASSWORD_SIZE, USERNAME_SIZE};
-use wire::parts;
+use wire::{parts, refusal};
 
 // Bytes of a record.
 pub const RECORD_SIZE: usize = USERNAME_SIZE + PASSWORD_SIZE;
@@ -37,11 +38,7 @@ fn first_is_of(table: &[u8], entry: Account) -> bool
     requires { account_size ≤ length table.now }
     ensures { result ≡ is_of (account_of table.now) entry }
 {
-    if account::has_username(&table[..USERNAME_SIZE], entry) {
-        account::is_sound(first(table))
-    } else {
-        false
-    }
+    account::has_username(&table[..USERNAME_SIZE], entry) && account::is_sound(first(table))
 }
 
 // The record of a table that decides on an entry: the first sound one with its username. An unsound entry is not looked
@@ -51,17 +48,15 @@ pub fn lookup(table: &[u8], entry: Account) -> Found
     ensures decides { FoundDecides }
 {
     if is_too_long(table) {
-        return Found::in_too_many();
+        return Err(refusal::BAD_SETTING);
     }
     if !account::is_sound(entry) {
-        return Found::nobody();
+        return Ok(None);
     }
-    let mut rest = table;
-    while RECORD_SIZE <= rest.len() {
-        if first_is_of(rest, entry) {
-            return Found::decided_by(first(rest));
+    for record in table.chunks_exact(RECORD_SIZE) {
+        if first_is_of(record, entry) {
+            return Ok(Some(first(record)));
         }
-        rest = &rest[RECORD_SIZE..];
     }
-    Found::nobody()
+    Ok(None)
 }
