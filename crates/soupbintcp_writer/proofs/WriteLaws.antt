@@ -1,17 +1,21 @@
 -- Laws of the writers: l is the lent output at entry, l₁ l₂ l₃ after each part laid in it, c a letter, p a payload, s a session, n a number.
 use mathlib.Core.Path.{◌≡◌, refl, sym, ◌∙◌}
-use mathlib.Core.List.{List, [], ◌∷◌, ◌++◌, append_assoc, append-nil}
+use mathlib.Core.List.{List, [], ◌∷◌, ◌++◌, append_assoc}
 use mathlib.Core.Bool.{Bool, true, false, not}
 use Prim.Native.Nat.{ℕ, ◌+◌, ◌-◌, ◌≤◌, ◌<◌}
 use native.Mathlib.Omega.{arith}
 use lib.ListN.{length, replicate, length-append, length-replicate}
-use borrow.Author.Tests.{lt-ltb, le-ltb, ne_eqb, not-true, not-false}
+use borrow.Author.Tests.{lt-ltb, le-ltb, not-true, not-false}
 use Rattle.wire.specs.Bytes.{bytes}
 use Rattle.wire.specs.Output.{Written}
-use Rattle.std.specs.Prelude.{Ok, Err}
+use Rattle.wire.specs.declared.refusal.Refusal.{Refusal}
+use Rattle.wire.specs.Refusals.{output_short}
+use Rattle.wire.specs.Words.{refused_by}
+use Rattle.std.specs.Prelude.{Result, Ok, Err, ⊤, if◌then◌else◌}
+use lib.Dec.{leb, eqb}
 use Rattle.wire.specs.Output.{put, Writes}
 use Rattle.wire.proofs.Numbers.{length-bytes}
-use Rattle.wire.proofs.Outputs.{writes-ground, writes_short, writes-done, put-put}
+use Rattle.wire.proofs.Outputs.{writes-ground, writes-done, put-put, lay-over, room-there}
 use Rattle.decimal.proofs.SpellLaws.{length_digits}
 use Rattle.decimal.specs.Decimal.{digits}
 use Rattle.text_fields.specs.Letters.{space}
@@ -28,11 +32,17 @@ module _ (l bs : List ℕ) (g : ℕ) where
   not_written : (n : ℕ) → g ≡ n → (n ≡ 0 → ⊥) → Writes (Err (record { number = n })) l l g 0 bs
   not_written n e z = rw e (writes-ground l 0 bs n z)
 
-  no_room : (k : ℕ) → g ≡ 0 → length bs ≡ k → length l < k → Writes (Err (record { number = 41 })) l l g 0 bs
-  no_room k e f h = rw e (writes_short l 0 bs (omega arith))
+  -- s is what the check of the room for them answered, w what the writer hands up of it
+  no_room : (k : ℕ) (s : Result ⊤ Refusal) (w : Written) (x : Refusal) → g ≡ 0 → length bs ≡ k → s ≡ refused_by (if leb (0 + k) (length l) then 0 else output_short)
+      → s ≡ Err x → w ≡ Err x → Writes w l l g 0 bs
+  no_room k s w x e f h i j = rw e (lay-over l 0 bs s w x (rw f h) i j)
 
   written : (k : ℕ) (m : List ℕ) → g ≡ 0 → length bs ≡ k → k ≤ length l → m ≡ put l 0 bs → Writes (Ok k) l m g 0 bs
   written k m e f h p = rw (e, ← f) (writes-done l 0 bs m (omega arith) p)
+
+-- what the check of the room tells where it passed
+pub room-for : (l : List ℕ) (k : ℕ) (s : Result ⊤ Refusal) → s ≡ refused_by (if leb (0 + k) (length l) then 0 else output_short) → s ≡ Ok tt → k ≤ length l
+room-for l k s e d = let h = room-there (length l) 0 k s tt e d in omega arith
 
 -- two parts laid one after the other from the front on
 laid_on : (l l₁ l₂ a b : List ℕ) (k : ℕ) → length a ≡ k → k + length b ≤ length l → l₁ ≡ put l 0 a → l₂ ≡ put l₁ k b → l₂ ≡ put l 0 (a ++ b)
@@ -72,26 +82,20 @@ payload-good p h = simp (le-ltb _ _ h)
 pub payload-refused : (l bs p : List ℕ) → most_payload < length p → Writes (Err (record { number = 22 })) l l (payload_ground p) 0 bs
 payload-refused l bs p h = not_written l bs (payload_ground p) 22 (payload-22 p h) (omega arith)
 
-pub payload-short : (l p : List ℕ) (c : ℕ) → length p ≤ most_payload → length l < length p + 3
-    → Writes (Err (record { number = 41 })) l l (payload_ground p) 0 (encoded c p)
-payload-short l p c h i = no_room l (encoded c p) (payload_ground p) (length p + 3) (payload-good p h) (length-packet c p) i
+pub payload-short : (l p : List ℕ) (c : ℕ) (s : Result ⊤ Refusal) (w : Written) (x : Refusal) → length p ≤ most_payload
+    → s ≡ refused_by (if leb (0 + (3 + length p)) (length l) then 0 else output_short) → s ≡ Err x → w ≡ Err x
+    → Writes w l l (payload_ground p) 0 (encoded c p)
+payload-short l p c s w x h = no_room l (encoded c p) (payload_ground p) (3 + length p) s w x (payload-good p h) (omega (arith, length-packet c p))
 
-pub payload-done : (l l₁ l₂ p : List ℕ) (c : ℕ) → length p ≤ most_payload → length p + 3 ≤ length l → l₁ ≡ put l 0 (head_bytes c (length p)) → l₂ ≡ put l₁ 3 p
-    → Writes (Ok (length p + 3)) l l₂ (payload_ground p) 0 (encoded c p)
+pub payload-done : (l l₁ l₂ p : List ℕ) (c : ℕ) → length p ≤ most_payload → 3 + length p ≤ length l → l₁ ≡ put l 0 (head_bytes c (length p)) → l₂ ≡ put l₁ 3 p
+    → Writes (Ok (3 + length p)) l l₂ (payload_ground p) 0 (encoded c p)
 payload-done l l₁ l₂ p c h i e f =
-    written l (encoded c p) (payload_ground p) (length p + 3) l₂ (payload-good p h) (length-packet c p) i (packet-put l l₁ l₂ c p i e f)
+    written l (encoded c p) (payload_ground p) (3 + length p) l₂ (payload-good p h) (omega (arith, length-packet c p)) i (packet-put l l₁ l₂ c p (omega arith) e f)
 
 -- ---- a letter alone
 
-pub letter-short : (l : List ℕ) (c : ℕ) → length l < 3 → Writes (Err (record { number = 41 })) l l 0 0 (encoded c [])
-letter-short l c h = no_room l (encoded c []) 0 3 refl (length-packet c []) h
-
-letter-put : (l m : List ℕ) (c : ℕ) → m ≡ put l 0 (head_bytes c 0) → m ≡ put l 0 (encoded c [])
-unfolding encoded
-letter-put l m c e = rw (append-nil (head_bytes c 0)) e
-
-pub letter-done : (l m : List ℕ) (c : ℕ) → 3 ≤ length l → m ≡ put l 0 (head_bytes c 0) → Writes (Ok 3) l m 0 0 (encoded c [])
-letter-done l m c h e = written l (encoded c []) 0 3 m refl (length-packet c []) h (letter-put l m c e)
+pub letter-done : (r : Written) (l m : List ℕ) (c : ℕ) → Writes r l m (payload_ground []) 0 (encoded c []) → Writes r l m 0 0 (encoded c [])
+letter-done r l m c w = rw (payload-good [] (omega arith)) at w
 
 -- ---- a number field
 
@@ -104,25 +108,28 @@ length-field n =
 -- ---- login accepted: b is whether its session is good
 
 module _ (s : List ℕ) (n : ℕ) (b : Bool) (e : b ≡ good_session false s) where
-  accepted_session : not b ≡ true → accepted_ground s n ≡ 46
+  accepted_session : b ≡ false → accepted_ground s n ≡ 46
   unfolding accepted_ground
-  accepted_session f = rw (← e, not-true b f)
+  accepted_session f = rw (← e, f) refl
 
-  accepted-zero : not b ≡ false → n ≡ 0 → accepted_ground s n ≡ 46
+  accepted-zero : eqb n 0 ≡ true → accepted_ground s n ≡ 46
   unfolding accepted_ground
-  accepted-zero f z = rw (← e, not-false b f, z)
+  accepted-zero z = rw z (go (good_session false s))
+    where
+      go : (t : Bool) → ◌≡◌ {A = ℕ} (if t then 46 else 46) 46
+      go true = refl
+      go false = refl
 
-  accepted-good : not b ≡ false → (n ≡ 0 → ⊥) → accepted_ground s n ≡ 0
+  pub accepted-good : b ≡ true → eqb n 0 ≡ false → accepted_ground s n ≡ 0
   unfolding accepted_ground
-  accepted-good f z = rw (← e, not-false b f, ne_eqb _ _ z)
+  accepted-good f z = rw (← e, f, z) refl
 
-pub accepted-no-session : (l bs s : List ℕ) (n : ℕ) (b : Bool) → b ≡ good_session false s → not b ≡ true
-    → Writes (Err (record { number = 46 })) l l (accepted_ground s n) 0 bs
-accepted-no-session l bs s n b e f = not_written l bs (accepted_ground s n) 46 (accepted_session s n b e f) (omega arith)
+  module _ (l bs : List ℕ) where
+    pub accepted-no-session : b ≡ false → Writes (Err (record { number = 46 })) l l (accepted_ground s n) 0 bs
+    accepted-no-session f = not_written l bs (accepted_ground s n) 46 (accepted_session f) (omega arith)
 
-pub accepted-no-number : (l bs s : List ℕ) (n : ℕ) (b : Bool) → b ≡ good_session false s → not b ≡ false → n ≡ 0
-    → Writes (Err (record { number = 46 })) l l (accepted_ground s n) 0 bs
-accepted-no-number l bs s n b e f z = not_written l bs (accepted_ground s n) 46 (accepted-zero s n b e f z) (omega arith)
+    pub accepted-no-number : (z : Bool) → z ≡ eqb n 0 → z ≡ true → Writes (Err (record { number = 46 })) l l (accepted_ground s n) 0 bs
+    accepted-no-number z d f = not_written l bs (accepted_ground s n) 46 (accepted-zero (sym d ∙ f)) (omega arith)
 
 pub length-accepted : (s : List ℕ) (n : ℕ) → length s ≡ 10 → length (accepted_payload s n) ≡ 30
 unfolding accepted_payload
@@ -131,10 +138,10 @@ length-accepted s n ten = omega (arith, length-append s (number_field n), length
 length-A : (s : List ℕ) (n : ℕ) → length s ≡ 10 → length (encoded 65 (accepted_payload s n)) ≡ 33
 length-A s n ten = omega (arith, length-packet 65 (accepted_payload s n), length-accepted s n ten)
 
-pub accepted-short : (l s : List ℕ) (n : ℕ) (b : Bool) → length s ≡ 10 → b ≡ good_session false s → not b ≡ false → (n ≡ 0 → ⊥) → length l < 33
-    → Writes (Err (record { number = 41 })) l l (accepted_ground s n) 0 (encoded 65 (accepted_payload s n))
-accepted-short l s n b ten e f z h =
-    no_room l (encoded 65 (accepted_payload s n)) (accepted_ground s n) 33 (accepted-good s n b e f z) (length-A s n ten) h
+pub accepted-short : (l t : List ℕ) (n : ℕ) (s : Result ⊤ Refusal) (w : Written) (x : Refusal) → length t ≡ 10 → accepted_ground t n ≡ 0
+    → s ≡ refused_by (if leb (0 + 33) (length l) then 0 else output_short) → s ≡ Err x → w ≡ Err x
+    → Writes w l l (accepted_ground t n) 0 (encoded 65 (accepted_payload t n))
+accepted-short l t n s w x ten g = no_room l (encoded 65 (accepted_payload t n)) (accepted_ground t n) 33 s w x g (length-A t n ten)
 
 accepted-put : (l l₁ l₂ l₃ s : List ℕ) (n : ℕ) → length s ≡ 10 → 33 ≤ length l → l₁ ≡ put l 0 (head_bytes 65 30) → l₂ ≡ put l₁ 3 s
     → l₃ ≡ put l₂ 13 (number_field n) → l₃ ≡ put l 0 (encoded 65 (accepted_payload s n))
@@ -148,11 +155,11 @@ accepted-put l l₁ l₂ l₃ s n ten h e f g =
     laid_on l l₂ l₃ (head_bytes 65 30 ++ s) (number_field n) 13 (omega (arith, length-append (head_bytes 65 30) s)) (omega arith) a g in
     rw (j, ← append_assoc (head_bytes 65 30) s (number_field n)) b
 
-pub accepted-done : (l l₁ l₂ l₃ s : List ℕ) (n : ℕ) (b : Bool) → length s ≡ 10 → b ≡ good_session false s → not b ≡ false → (n ≡ 0 → ⊥) → 33 ≤ length l
+pub accepted-done : (l l₁ l₂ l₃ s : List ℕ) (n : ℕ) → length s ≡ 10 → accepted_ground s n ≡ 0 → 33 ≤ length l
     → l₁ ≡ put l 0 (head_bytes 65 30) → l₂ ≡ put l₁ 3 s → l₃ ≡ put l₂ 13 (number_field n)
     → Writes (Ok 33) l l₃ (accepted_ground s n) 0 (encoded 65 (accepted_payload s n))
-accepted-done l l₁ l₂ l₃ s n b ten e f z h p q r =
-    written l (encoded 65 (accepted_payload s n)) (accepted_ground s n) 33 l₃ (accepted-good s n b e f z) (length-A s n ten) h
+accepted-done l l₁ l₂ l₃ s n ten g h p q r =
+    written l (encoded 65 (accepted_payload s n)) (accepted_ground s n) 33 l₃ g (length-A s n ten) h
     (accepted-put l l₁ l₂ l₃ s n ten h p q r)
 
 -- ---- login rejected: b is its reason, t whether it is one
@@ -165,15 +172,15 @@ reason-good : (b : ℕ) → good_reason b ≡ true → reason_ground b ≡ 0
 unfolding reason_ground
 reason-good b e = rw e
 
-pub reason-refused : (l bs : List ℕ) (b : ℕ) (t : Bool) → t ≡ good_reason b → not t ≡ true
+pub reason-refused : (l bs : List ℕ) (b : ℕ) (t : Bool) → t ≡ good_reason b → t ≡ false
     → Writes (Err (record { number = 46 })) l l (reason_ground b) 0 bs
-reason-refused l bs b t e f = not_written l bs (reason_ground b) 46 (reason-bad b (sym e ∙ not-true t f)) (omega arith)
+reason-refused l bs b t e f = not_written l bs (reason_ground b) 46 (reason-bad b (sym e ∙ f)) (omega arith)
 
-pub reason-done : (r : Written) (l m bs : List ℕ) (b : ℕ) (t : Bool) → t ≡ good_reason b → not t ≡ false
+pub reason-done : (r : Written) (l m bs : List ℕ) (b : ℕ) (t : Bool) → t ≡ good_reason b → t ≡ true
     → Writes r l m (payload_ground (b ∷ [])) 0 bs → Writes r l m (reason_ground b) 0 bs
 reason-done r l m bs b t e f w =
     let y : payload_ground (b ∷ []) ≡ 0 = payload-good (b ∷ []) (omega arith) in
-    rw (reason-good b (sym e ∙ not-false t f)) (rw y at w)
+    rw (reason-good b (sym e ∙ f)) (rw y at w)
 
 -- ---- login request: u is its username, w its password, b whether all three are good
 
@@ -190,15 +197,15 @@ pub login_session : (u w s : List ℕ) (b d r : Bool) → b ≡ sound 1 u → no
 unfolding good_login
 login_session u w s b d r e f g h i = rw (← e, not-false b f, ← g, not-false d h) i
 
-login-bad : (u w s : List ℕ) (b : Bool) → b ≡ good_login u w s → not b ≡ true → login_ground u w s ≡ 46
+login-bad : (u w s : List ℕ) (b : Bool) → b ≡ good_login u w s → b ≡ false → login_ground u w s ≡ 46
 unfolding login_ground
-login-bad u w s b e f = rw (← e, not-true b f)
+login-bad u w s b e f = rw (← e, f) refl
 
-login-good : (u w s : List ℕ) (b : Bool) → b ≡ good_login u w s → not b ≡ false → login_ground u w s ≡ 0
+pub login-good : (u w s : List ℕ) (b : Bool) → b ≡ good_login u w s → b ≡ true → login_ground u w s ≡ 0
 unfolding login_ground
-login-good u w s b e f = rw (← e, not-false b f)
+login-good u w s b e f = rw (← e, f) refl
 
-pub login-refused : (l bs u w s : List ℕ) (b : Bool) → b ≡ good_login u w s → not b ≡ true
+pub login-refused : (l bs u w s : List ℕ) (b : Bool) → b ≡ good_login u w s → b ≡ false
     → Writes (Err (record { number = 46 })) l l (login_ground u w s) 0 bs
 login-refused l bs u w s b e f = not_written l bs (login_ground u w s) 46 (login-bad u w s b e f) (omega arith)
 
@@ -210,10 +217,11 @@ length-login u w s n six ten ten' =
 length-L : (u w s : List ℕ) (n : ℕ) → length u ≡ 6 → length w ≡ 10 → length s ≡ 10 → length (encoded 76 (login_payload u w s n)) ≡ 49
 length-L u w s n six ten ten' = omega (arith, length-packet 76 (login_payload u w s n), length-login u w s n six ten ten')
 
-pub login-short : (l u w s : List ℕ) (n : ℕ) (b : Bool) → length u ≡ 6 → length w ≡ 10 → length s ≡ 10 → b ≡ good_login u w s → not b ≡ false
-    → length l < 49 → Writes (Err (record { number = 41 })) l l (login_ground u w s) 0 (encoded 76 (login_payload u w s n))
-login-short l u w s n b six ten ten' e f h =
-    no_room l (encoded 76 (login_payload u w s n)) (login_ground u w s) 49 (login-good u w s b e f) (length-L u w s n six ten ten') h
+pub login-short : (l u w s : List ℕ) (n : ℕ) (t : Result ⊤ Refusal) (a : Written) (x : Refusal) → length u ≡ 6 → length w ≡ 10 → length s ≡ 10
+    → login_ground u w s ≡ 0 → t ≡ refused_by (if leb (0 + 49) (length l) then 0 else output_short) → t ≡ Err x → a ≡ Err x
+    → Writes a l l (login_ground u w s) 0 (encoded 76 (login_payload u w s n))
+login-short l u w s n t a x six ten ten' g =
+    no_room l (encoded 76 (login_payload u w s n)) (login_ground u w s) 49 t a x g (length-L u w s n six ten ten')
 
 -- the three names laid behind the head
 pub names-put : (l l₁ l₂ l₃ u w s : List ℕ) → length u ≡ 6 → length w ≡ 10 → length s ≡ 10 → 29 ≤ length l
@@ -239,9 +247,9 @@ login-put l l₁ l₂ l₃ u w s n six ten ten' h e f g =
     (omega arith) a g in
     rw (j, ← append_assoc (head_bytes 76 46) (u ++ w ++ s) (number_field n)) b
 
-pub login-done : (l l₁ l₂ l₃ u w s : List ℕ) (n : ℕ) (b : Bool) → length u ≡ 6 → length w ≡ 10 → length s ≡ 10 → b ≡ good_login u w s → not b ≡ false
+pub login-done : (l l₁ l₂ l₃ u w s : List ℕ) (n : ℕ) → length u ≡ 6 → length w ≡ 10 → length s ≡ 10 → login_ground u w s ≡ 0
     → 49 ≤ length l → l₁ ≡ put l 0 (head_bytes 76 46) → l₂ ≡ put l₁ 3 (u ++ w ++ s) → l₃ ≡ put l₂ 29 (number_field n)
     → Writes (Ok 49) l l₃ (login_ground u w s) 0 (encoded 76 (login_payload u w s n))
-login-done l l₁ l₂ l₃ u w s n b six ten ten' e f h p q r =
-    written l (encoded 76 (login_payload u w s n)) (login_ground u w s) 49 l₃ (login-good u w s b e f) (length-L u w s n six ten ten') h
+login-done l l₁ l₂ l₃ u w s n six ten ten' g h p q r =
+    written l (encoded 76 (login_payload u w s n)) (login_ground u w s) 49 l₃ g (length-L u w s n six ten ten') h
     (login-put l l₁ l₂ l₃ u w s n six ten ten' h p q r)

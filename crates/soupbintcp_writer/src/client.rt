@@ -1,5 +1,6 @@
 // What a client sends; debug packets are with the server's.
 #![tactic(auto, using(crate::proofs::Rules::letters, crate::proofs::Rules::logins))]
+
 ghost use Rattle.std.specs.Prelude.{◌≡◌, [], ◌++◌, ◌+◌, ◌≤◌, length};
 ghost use Rattle.wire.specs.Bounds.{session_size};
 ghost use Rattle.wire.specs.Output.{Writes, put};
@@ -48,7 +49,7 @@ pub fn write_logout(out: &mut [u8]) -> Result<usize, Refusal>
     packets::write_letter(out, b'O')
 }
 
-// What a login request asks with.
+// What a login request asks with. It has no Debug, as that would print the password.
 #[derive(Clone, Copy)]
 pub struct Login {
     pub username: [u8; USERNAME_SIZE],
@@ -58,58 +59,22 @@ pub struct Login {
 }
 
 // Whether a login request may be written.
-fn is_good(
-    username: [u8; USERNAME_SIZE],
-    password: [u8; PASSWORD_SIZE],
-    session: [u8; SESSION_SIZE],
-) -> bool
-    ensures { result ≡ good_login username password session }
+fn is_good(login: Login) -> bool
+    ensures { result ≡ good_login login.username login.password login.session }
 {
-    if !sound::is_username(&username) {
-        return false;
-    }
-    if !sound::is_password(&password) {
-        return false;
-    }
-    session::is_session(&session, true)
+    sound::is_username(&login.username)
+        && sound::is_password(&login.password)
+        && session::is_session(&login.session, true)
 }
 
 // Lays the three names of a login request behind its head.
-fn put_names(
-    out: &mut [u8],
-    username: [u8; USERNAME_SIZE],
-    password: [u8; PASSWORD_SIZE],
-    session: [u8; SESSION_SIZE],
-)
+fn put_names(out: &mut [u8], login: Login)
     requires { head_size + username_size + password_size + session_size ≤ length out.old }
-    ensures { out.new ≡ put out.old head_size (username ++ password ++ session) }
+    ensures { out.new ≡ put out.old head_size (login.username ++ login.password ++ login.session) }
 {
-    output::lay(out, ByteOffset(HEAD_SIZE), &username);
-    output::lay(out, LOGIN_PASSWORD_AT, &password);
-    output::lay(out, LOGIN_SESSION_AT, &session);
-}
-
-// Writes a login request from its parts.
-fn write_parts(
-    out: &mut [u8],
-    username: [u8; USERNAME_SIZE],
-    password: [u8; PASSWORD_SIZE],
-    session: [u8; SESSION_SIZE],
-    number: SequenceNumber,
-) -> Result<usize, Refusal>
-    ensures { Writes result out.old out.new (login_ground username password session) 0
-        (encoded letter_login (login_payload username password session number.0)) }
-{
-    if !is_good(username, password, session) {
-        return Err(refusal::FIELD_NOT_WRITTEN);
-    }
-    if out.len() < LOGIN_SIZE {
-        return Err(refusal::OUTPUT_SHORT);
-    }
-    packets::put_head(out, b'L', LOGIN_PAYLOAD);
-    put_names(out, username, password, session);
-    number::put(out, NUMBER_AT, number);
-    Ok(LOGIN_SIZE)
+    output::lay(out, ByteOffset(HEAD_SIZE), &login.username);
+    output::lay(out, LOGIN_PASSWORD_AT, &login.password);
+    output::lay(out, LOGIN_SESSION_AT, &login.session);
 }
 
 // Writes a login request.
@@ -120,8 +85,12 @@ pub fn write_login(out: &mut [u8], login: Login) -> Result<usize, Refusal>
         login.number.0)) }
     ensures round_trip { LoginRoundTrip }
 {
-    let username = login.username;
-    let password = login.password;
-    let session = login.session;
-    write_parts(out, username, password, session, login.number)
+    if !is_good(login) {
+        return Err(refusal::FIELD_NOT_WRITTEN);
+    }
+    output::room(out.len(), ByteOffset(0), LOGIN_SIZE)?;
+    packets::put_head(out, b'L', LOGIN_PAYLOAD);
+    put_names(out, login);
+    output::lay(out, NUMBER_AT, &number::field(login.number));
+    Ok(LOGIN_SIZE)
 }

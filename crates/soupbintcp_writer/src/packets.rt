@@ -1,5 +1,6 @@
 // A packet of a letter, laid at the front of an output.
 #![tactic(auto, using(crate::proofs::Rules::packets))]
+
 ghost use Rattle.std.specs.Prelude.{◌≡◌, ◌+◌, ◌≤◌, [], length};
 ghost use Rattle.wire.specs.Output.{Writes, put};
 ghost use Rattle.soupbintcp.specs.Letters.{most_payload};
@@ -25,25 +26,19 @@ pub(crate) fn write_payload(out: &mut [u8], letter: u8, payload: &[u8]) -> Resul
     ensures { Writes result out.old out.new (payload_ground payload.now) 0
         (encoded letter payload.now) }
 {
-    let size = payload.len();
-    if MOST_PAYLOAD < size {
+    if MOST_PAYLOAD < payload.len() {
         return Err(refusal::PAYLOAD_LONG);
     }
-    if out.len() < size + HEAD_SIZE {
-        return Err(refusal::OUTPUT_SHORT);
-    }
-    put_head(out, letter, size);
+    let size = HEAD_SIZE + payload.len();
+    output::room(out.len(), ByteOffset(0), size)?;
+    put_head(out, letter, payload.len());
     output::lay(out, ByteOffset(HEAD_SIZE), payload);
-    Ok(size + HEAD_SIZE)
+    Ok(size)
 }
 
 // Writes a letter alone.
 pub(crate) fn write_letter(out: &mut [u8], letter: u8) -> Result<usize, Refusal>
     ensures { Writes result out.old out.new 0 0 (encoded letter []) }
 {
-    if out.len() < HEAD_SIZE {
-        return Err(refusal::OUTPUT_SHORT);
-    }
-    put_head(out, letter, 0);
-    Ok(HEAD_SIZE)
+    write_payload(out, letter, &[])
 }

@@ -1,5 +1,6 @@
 // What a server sends; debug packets are sent by both.
 #![tactic(auto, using(crate::proofs::Rules::accepts, crate::proofs::Rules::letters, crate::proofs::Rules::rejects))]
+
 ghost use Rattle.std.specs.Prelude.{[], ◌∷◌};
 ghost use Rattle.wire.specs.Output.{Writes};
 ghost use Rattle.soupbintcp.specs.Letters.{letter_accepted, letter_debug, letter_end, letter_rejected, letter_sequenced};
@@ -68,18 +69,13 @@ pub fn write_accepted(
         (encoded letter_accepted (accepted_payload session number.0)) }
     ensures round_trip { AcceptedRoundTrip }
 {
-    if !session::is_session(&session, false) {
+    if !session::is_session(&session, false) || number.is_zero() {
         return Err(refusal::FIELD_NOT_WRITTEN);
     }
-    if number.0 == 0 {
-        return Err(refusal::FIELD_NOT_WRITTEN);
-    }
-    if out.len() < ACCEPTED_SIZE {
-        return Err(refusal::OUTPUT_SHORT);
-    }
+    output::room(out.len(), ByteOffset(0), ACCEPTED_SIZE)?;
     packets::put_head(out, b'A', ACCEPTED_PAYLOAD);
     output::lay(out, ByteOffset(HEAD_SIZE), &session);
-    number::put(out, NUMBER_AT, number);
+    output::lay(out, NUMBER_AT, &number::field(number));
     Ok(ACCEPTED_SIZE)
 }
 

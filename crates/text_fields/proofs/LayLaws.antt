@@ -4,7 +4,7 @@ use mathlib.Core.List.{List, [], ◌∷◌, ◌++◌, append-nil}
 use Prim.Native.Nat.{ℕ, ◌+◌, ◌-◌, ◌≤◌}
 use native.Mathlib.Omega.{arith}
 use lib.ListN.{length, take, drop, replicate, length-replicate, replicate-append-replicate, drop_of_length-le}
-use lib.Seq.{take_at}
+use lib.Seq.{length-take-le, take_at}
 use borrow.Author.Tests.{le-leb}
 use Rattle.wire.specs.Words.{says, refused_words}
 use Rattle.wire.specs.Output.{wrote, written_words, put, write_refusal, write_answer, Writes}
@@ -58,6 +58,9 @@ module _ (l m : List ℕ) (n k : ℕ) (w : Writes (Ok k) l m 0 0 (digits n)) whe
 
   pub laid-within : k ≤ length m
   laid-within = let s = wrote_so 0 l 0 (digits n) k laid in omega (arith, s.size, s.room, ap length w.leaves, length-put l 0 (digits n))
+
+  pub laid-part : k ≡ length (take k m)
+  laid-part = sym (length-take-le k m laid-within)
 
   laid-digits : take k m ≡ digits n
   laid-digits = rw w.leaves (wrote-front 0 l (digits n) k laid)

@@ -1,5 +1,5 @@
 // A number field: spaces, then decimal digits. Leading zeros are read, and never written.
-#![tactic(auto, using(crate::proofs::Rules::laying, crate::proofs::Rules::numbers))]
+#![tactic(auto, using(crate::proofs::Rules::numbers))]
 
 ghost use Rattle.std.specs.Prelude.{◌≡◌};
 ghost use Rattle.wire.specs.Output.{Writes};

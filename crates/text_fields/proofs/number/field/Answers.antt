@@ -1,6 +1,6 @@
 -- A number has at most 20 digits, so they are laid, behind as many spaces as are left of 20.
 use mathlib.Core.Path.{refl}
-use Rattle.text_fields.proofs.LayLaws.{never-refused, laid-small, laid-within, justified}
+use Rattle.text_fields.proofs.LayLaws.{never-refused, laid-small, laid-within, laid-part, justified}
 use Rattle.text_fields.proofs.number.field.Goals as goal
 
 pub overflow_sub-field : goal.overflow_sub-field
@@ -8,6 +8,9 @@ overflow_sub-field c = laid-small _ _ _ _ c.in-Ok.ensures.writes
 
 pub slice_bounds-text-end : goal.slice_bounds-text-end
 slice_bounds-text-end c = laid-within _ _ _ _ c.in-Ok.ensures.writes
+
+pub slice_bounds-copy_from_slice-end : goal.slice_bounds-copy_from_slice-end
+slice_bounds-copy_from_slice-end c = laid-part _ _ _ _ c.in-Ok.ensures.writes
 
 pub returns-in-Ok : goal.returns-in-Ok
 returns-in-Ok c = justified _ _ _ _ c.in-Ok.ensures.writes _ _ refl c.copy_from_slice.ensures.after
