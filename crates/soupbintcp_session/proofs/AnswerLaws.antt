@@ -1,10 +1,8 @@
 -- Laws of the answers: a is an answer, l the stream that was answered, y the part of it that is handed up.
 use mathlib.Core.Path.{◌≡◌, refl, ◌∙◌}
-use mathlib.Core.List.{List, [], ◌∷◌}
+use mathlib.Core.List.{List, []}
 use Prim.Native.Nat.{ℕ}
 use lib.ListN.{get_or, take, drop}
-use types.Run.{OneOf, miss}
-use denote.Enum.Declared.{tag_of}
 use Rattle.wire.specs.Words.{Case, answer, refused}
 use Rattle.wire.specs.declared.kinds.SequenceNumber.{SequenceNumber}
 use Rattle.wire.specs.declared.kinds.ByteOffset.{ByteOffset}
@@ -12,7 +10,6 @@ use Rattle.wire.proofs.Words.{read_back}
 use Rattle.soupbintcp_session.specs.declared.answer.Answer.{Answer}
 use Rattle.soupbintcp_session.specs.declared.answer.Answer.TheVariants.{NeedMore, Accepted, Rejected, Sequenced, Unsequenced, Heartbeat, Debug, LoggedOut, EndOfSession, Refused}
 use Rattle.soupbintcp_session.specs.Answer.{SessionAnswerKind, wants_more, accepted, rejected, sequenced, unsequenced, heartbeat, debug, logged_out, end_of_session, session_answer_words, SessionAnswersApart, answer_message_at, answer_message}
-use Rattle.soupbintcp_session.specs.contracts.answer.Answer.{the_type}
 
 -- ---- the message
 
@@ -26,19 +23,19 @@ module _ (a : Answer) (at : ByteOffset) (k : ℕ) (l y : List ℕ) where
   message-unsequenced e f = f ∙ rw e refl
 
 -- every other answer hands up none
-pub message-none : (a : Answer) (l y : List ℕ) → OneOf (0 ∷ 1 ∷ 2 ∷ 5 ∷ 6 ∷ 7 ∷ 8 ∷ 9 ∷ []) (tag_of the_type a) → y ≡ take 0 (drop 0 l)
-    → y ≡ answer_message (session_answer_words a) l
+pub message-none : (a : Answer) (l : List ℕ) → ((n : SequenceNumber) (at : ByteOffset) (k : ℕ) → a ≡ Sequenced n at k → ⊥)
+    → ((at : ByteOffset) (k : ℕ) → a ≡ Unsequenced at k → ⊥) → [] ≡ answer_message (session_answer_words a) l
 unfolding session_answer_words answer_message_at
-message-none NeedMore l y k e = e
-message-none (Accepted n) l y k e = e
-message-none (Rejected reason) l y k e = e
-message-none (Sequenced n at size) l y k e = absurd (miss (0 ∷ 1 ∷ 2 ∷ 5 ∷ 6 ∷ 7 ∷ 8 ∷ 9 ∷ []) 3 tt k)
-message-none (Unsequenced at size) l y k e = absurd (miss (0 ∷ 1 ∷ 2 ∷ 5 ∷ 6 ∷ 7 ∷ 8 ∷ 9 ∷ []) 4 tt k)
-message-none Heartbeat l y k e = e
-message-none Debug l y k e = e
-message-none LoggedOut l y k e = e
-message-none EndOfSession l y k e = e
-message-none (Refused r) l y k e = e
+message-none NeedMore l e f = refl
+message-none (Accepted n) l e f = refl
+message-none (Rejected reason) l e f = refl
+message-none (Sequenced n at size) l e f = absurd (e n at size refl)
+message-none (Unsequenced at size) l e f = absurd (f at size refl)
+message-none Heartbeat l e f = refl
+message-none Debug l e f = refl
+message-none LoggedOut l e f = refl
+message-none EndOfSession l e f = refl
+message-none (Refused r) l e f = refl
 
 -- ---- the words of an answer read back
 

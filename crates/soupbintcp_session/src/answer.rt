@@ -1,4 +1,6 @@
 // What a session answers to the front of a stream.
+#![tactic(auto, using(crate::proofs::Rules::messages))]
+
 ghost use Rattle.std.specs.Prelude.{◌≡◌};
 ghost use Rattle.soupbintcp_session.specs.Answer.{session_answer_words, answer_message, SessionAnswersApart};
 
@@ -6,7 +8,7 @@ use wire::kinds::{ByteOffset, SequenceNumber};
 use wire::parts;
 use wire::refusal::Refusal;
 
-#[derive(Clone, Copy)]
+#[derive(Clone, Copy, Debug, PartialEq, Eq)]
 pub enum Answer {
     NeedMore,
     // A login is accepted, from this number on. The session's name stands in the session that is handed back.
@@ -40,12 +42,9 @@ pub fn message(stream: &[u8], answer: Answer) -> &[u8]
     ensures tells_apart { SessionAnswersApart }
 {
     match answer {
-        Answer::Sequenced {
-            number: _,
-            at,
-            length,
-        } => parts::part(stream, at, length),
-        Answer::Unsequenced { at, length } => parts::part(stream, at, length),
-        _ => parts::part(stream, ByteOffset(0), 0),
+        Answer::Sequenced { at, length, .. } | Answer::Unsequenced { at, length } => {
+            parts::part(stream, at, length)
+        }
+        _ => &[],
     }
 }
