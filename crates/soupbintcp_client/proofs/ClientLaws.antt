@@ -1,13 +1,11 @@
 -- Laws of the client's functions: c is the client, p the packet in front, size its bytes, given its session, r what is answered.
 use mathlib.Core.Path.{◌≡◌, refl, sym, ◌∙◌}
-use mathlib.Core.List.{List, [], ◌∷◌}
+use mathlib.Core.List.{List}
 use mathlib.Core.Bool.{Bool, true, false, not}
 use Prim.Native.Nat.{ℕ, ◌+◌, ◌-◌, ◌≤◌, ◌<◌}
 use lib.Dec.{eqb}
 use lib.ListN.{take, drop}
-use borrow.Author.Tests.{lt-ltb, le-ltb, eq-eqb, ne_eqb, not-true, not-false}
-use types.Run.{OneOf}
-use denote.Enum.Declared.{tag_of}
+use borrow.Author.Tests.{lt-ltb, le-ltb, ne_eqb, not-true, not-false}
 use Rattle.wire.specs.Bounds.{blank}
 use Rattle.wire.specs.Bytes.{same_bytes}
 use Rattle.wire.specs.declared.kinds.SequenceNumber.{SequenceNumber}
@@ -19,19 +17,16 @@ use Rattle.soupbintcp.specs.declared.packet.Packet.{Packet}
 use Rattle.soupbintcp.specs.declared.packet.Packet.TheVariants as packet
 use Rattle.soupbintcp.specs.declared.front.Front.{Front}
 use Rattle.soupbintcp.specs.declared.front.Front.TheVariants as front
-use Rattle.soupbintcp.specs.Letters.{debug, accepted, rejected, sequenced, server_heartbeat, end_of_session, packet_kind, packet_values, letter_for}
+use Rattle.soupbintcp.specs.Letters.{accepted, packet_kind, packet_values, letter_for}
 use Rattle.soupbintcp.specs.Front.{front_words, front_of, session_of, IsInFront}
 use Rattle.soupbintcp.proofs.InFrontLaws.{accepted_session}
-use Rattle.soupbintcp.specs.contracts.packet.Packet.{the_type}
 use Rattle.soupbintcp_session.specs.declared.answer.Answer.{Answer}
-use Rattle.soupbintcp_session.specs.declared.answer.Answer.TheVariants.{NeedMore, Accepted, Rejected, Sequenced, Heartbeat, Debug, EndOfSession, Refused}
+use Rattle.soupbintcp_session.specs.declared.answer.Answer.TheVariants.{NeedMore, Accepted, Sequenced, Refused}
 use Rattle.soupbintcp_session.specs.Answer.{incoming, session_answer_words}
-use Rattle.soupbintcp_session.proofs.TagLaws.{tag_for, other-letter}
-use Rattle.soupbintcp_client.specs.declared.client.ClientState.{ClientState}
-use Rattle.soupbintcp_client.specs.declared.client.ClientState.TheVariants.{Asked, In, Ended, Closed}
+use Rattle.soupbintcp_client.specs.declared.client.ClientState.TheVariants.{Asked, In}
 use Rattle.soupbintcp_client.specs.declared.client.Client.{Client}
 use Rattle.soupbintcp_client.specs.declared.client.Stepped.{Stepped}
-use Rattle.soupbintcp_client.specs.Client.{client, becomes, client_start_refusal, refused_client, start_client, session_asked, number_asked, accepted_row, sequenced_row, asked_row, in_row, row_at, front_row_at, client_step, ClientSteps}
+use Rattle.soupbintcp_client.specs.Client.{client, client_start_refusal, refused_client, start_client, session_asked, number_asked, accepted_row, sequenced_row, asked_row, row_at, front_row_at, client_step, ClientSteps}
 
 -- what the code answers: a refusal, or a packet that is taken
 abbrev refuses-with : Client → ℕ → Stepped
@@ -98,20 +93,20 @@ module _ (asked given : ℕ) where
 -- ---- A
 
 module _ (c : Client) (size : ℕ) (given : List ℕ) (t : Bool) where
-  pub other-session : (n : ℕ) (r : Stepped) → t ≡ session_asked c.session given → not t ≡ true → r ≡ refuses-with c 33 → ClientSteps r (accepted_row c size given n)
+  pub other-session : (n : ℕ) (r : Stepped) → t ≡ session_asked c.session given → t ≡ false → r ≡ refuses-with c 33 → ClientSteps r (accepted_row c size given n)
   unfolding accepted_row session_answer_words
-  other-session n r e f g = rw (← e, not-true t f, g) (exactly _)
+  other-session n r e f g = rw (← e, f, g) (exactly _)
 
-  pub other-number : (n : ℕ) (u : Bool) (r : Stepped) → t ≡ session_asked c.session given → not t ≡ false → u ≡ number_asked c.number.0 n → not u ≡ true
+  pub other-number : (n : ℕ) (u : Bool) (r : Stepped) → t ≡ session_asked c.session given → t ≡ true → u ≡ number_asked c.number.0 n → u ≡ false
       → r ≡ refuses-with c 33 → ClientSteps r (accepted_row c size given n)
   unfolding accepted_row session_answer_words
-  other-number n u r e f g h i = rw (← e, not-false t f, ← g, not-true u h, i) (exactly _)
+  other-number n u r e f g h i = rw (← e, f, ← g, h, i) (exactly _)
 
-  pub logged-in : (n : SequenceNumber) (u : Bool) (name : List ℕ) → t ≡ session_asked c.session given → not t ≡ false → u ≡ number_asked c.number.0 n.0
-      → not u ≡ false → name ≡ first_bytes 10 given
+  pub logged-in : (n : SequenceNumber) (u : Bool) (name : List ℕ) → t ≡ session_asked c.session given → t ≡ true → u ≡ number_asked c.number.0 n.0
+      → u ≡ true → name ≡ first_bytes 10 given
       → ClientSteps (goes_to (Accepted n) size (record { session = name; number = n; state = In })) (accepted_row c size given n.0)
   unfolding accepted_row session_answer_words
-  logged-in n u name e f g h i = rw (← e, not-false t f, ← g, not-false u h, i) (exactly _)
+  logged-in n u name e f g h i = rw (← e, f, ← g, h, i) (exactly _)
 
 -- ---- a login was asked for
 
@@ -127,83 +122,17 @@ asked-A c p size l r n y e i f g =
     let h : y ≡ session_of Server l = f ∙ accepted_session Server l (is-accepted l p n i e) in
     rw (e, ← h) g
 
-module _ (c : Client) (p : Packet) (size : ℕ) (given : List ℕ) (r : Stepped) where
-  pub asked-J : (reason : ℕ) → p ≡ packet.Rejected reason → r ≡ goes_to (Rejected reason) size (becomes c Closed)
-      → ClientSteps r (asked_row c (incoming size (letter_for (packet_kind p)) (packet_values p) given))
-  unfolding asked_row letter_for packet_kind packet_values session_answer_words
-  asked-J reason e f = rw (e, f) (exactly _)
-
-  pub asked-plus : p ≡ packet.Debug → r ≡ goes_to Debug size (becomes c Asked)
-      → ClientSteps r (asked_row c (incoming size (letter_for (packet_kind p)) (packet_values p) given))
-  unfolding asked_row letter_for packet_kind packet_values session_answer_words
-  asked-plus e f = rw (e, f) (exactly _)
-
-abbrev not-asked : List ℕ
-not-asked = 3 ∷ 4 ∷ 5 ∷ 6 ∷ 7 ∷ 8 ∷ 9 ∷ []
-
-pub asked-other : (c : Client) (p : Packet) (size : ℕ) (given : List ℕ) (r : Stepped) → OneOf not-asked (tag_of the_type p) → r ≡ refuses-with c 31
-    → ClientSteps r (asked_row c (incoming size (letter_for (packet_kind p)) (packet_values p) given))
-unfolding asked_row letter_for tag_for session_answer_words
-asked-other c p size given r k e =
-    rw (other-letter not-asked accepted p tt k, other-letter not-asked rejected p tt k, other-letter not-asked debug p tt k, e) (exactly _)
-
 -- ---- logged in
 
 module _ (c : Client) (size : ℕ) (r : Stepped) where
-  pub used-up : c.number.0 ≡ 18446744073709551615 → r ≡ refuses-with c 34 → ClientSteps r (sequenced_row c size)
+  pub used-up : eqb c.number.0 18446744073709551615 ≡ true → r ≡ refuses-with c 34 → ClientSteps r (sequenced_row c size)
   unfolding sequenced_row session_answer_words
-  used-up e f = rw (eq-eqb _ _ e, f) (exactly _)
+  used-up e f = rw (e, f) (exactly _)
 
-  pub hands_up : (c.number.0 ≡ 18446744073709551615 → ⊥)
+  pub hands_up : eqb c.number.0 18446744073709551615 ≡ false
       → r ≡ goes_to (Sequenced c.number (record { 0 = 3 }) (size - 3)) size (client c.session (c.number.0 + 1) In) → ClientSteps r (sequenced_row c size)
   unfolding sequenced_row session_answer_words
-  hands_up e f = rw (ne_eqb _ _ e, f) (exactly _)
-
-module _ (c : Client) (p : Packet) (size : ℕ) (r : Stepped) where
-  pub in-S : p ≡ packet.Sequenced → ClientSteps r (sequenced_row c size) → ClientSteps r (in_row c size (letter_for (packet_kind p)))
-  unfolding in_row letter_for packet_kind
-  in-S e f = rw e f
-
-  pub in-H : p ≡ packet.ServerHeartbeat → r ≡ goes_to Heartbeat size (becomes c In) → ClientSteps r (in_row c size (letter_for (packet_kind p)))
-  unfolding in_row letter_for packet_kind session_answer_words
-  in-H e f = rw (e, f) (exactly _)
-
-  pub in-plus : p ≡ packet.Debug → r ≡ goes_to Debug size (becomes c In) → ClientSteps r (in_row c size (letter_for (packet_kind p)))
-  unfolding in_row letter_for packet_kind session_answer_words
-  in-plus e f = rw (e, f) (exactly _)
-
-  pub in-Z : p ≡ packet.EndOfSession → r ≡ goes_to EndOfSession size (becomes c Ended) → ClientSteps r (in_row c size (letter_for (packet_kind p)))
-  unfolding in_row letter_for packet_kind session_answer_words
-  in-Z e f = rw (e, f) (exactly _)
-
-abbrev not_in : List ℕ
-not_in = 1 ∷ 2 ∷ 6 ∷ 7 ∷ 8 ∷ 9 ∷ []
-
-pub in-other : (c : Client) (p : Packet) (size : ℕ) (r : Stepped) → OneOf not_in (tag_of the_type p) → r ≡ refuses-with c 31
-    → ClientSteps r (in_row c size (letter_for (packet_kind p)))
-unfolding in_row letter_for tag_for session_answer_words
-in-other c p size r k e =
-    rw (other-letter not_in sequenced p tt k, other-letter not_in server_heartbeat p tt k, other-letter not_in debug p tt k, other-letter not_in end_of_session p tt k, e)
-    (exactly _)
-
--- ---- the row of a state s: k is the packet's letter, vs its values
-
-module _ (s : ClientState) (c : Client) (size k : ℕ) (vs given : List ℕ) (r : Stepped) where
-  pub row-asked : s ≡ Asked → ClientSteps r (asked_row c (incoming size k vs given)) → ClientSteps r (row_at s c (incoming size k vs given))
-  unfolding row_at
-  row-asked e f = rw e f
-
-  pub row_in : s ≡ In → ClientSteps r (in_row c size k) → ClientSteps r (row_at s c (incoming size k vs given))
-  unfolding row_at
-  row_in e f = rw e f
-
-  pub row-ended : s ≡ Ended → r ≡ refuses-with c 32 → ClientSteps r (row_at s c (incoming size k vs given))
-  unfolding row_at session_answer_words
-  row-ended e f = rw (e, f) (exactly _)
-
-  pub row-closed : s ≡ Closed → r ≡ refuses-with c 32 → ClientSteps r (row_at s c (incoming size k vs given))
-  unfolding row_at session_answer_words
-  row-closed e f = rw (e, f) (exactly _)
+  hands_up e f = rw (e, f) (exactly _)
 
 -- ---- a step: x is the front of the stream l
 

@@ -1,5 +1,6 @@
 // The session at the client.
-#![tactic(auto, using(crate::proofs::Rules::asked_rows, crate::proofs::Rules::asks, crate::proofs::Rules::client_starts, crate::proofs::Rules::client_states, crate::proofs::Rules::hand_ups, crate::proofs::Rules::in_rows))]
+#![tactic(auto, using(crate::proofs::Rules::asks, crate::proofs::Rules::client_fronts, crate::proofs::Rules::client_starts, crate::proofs::Rules::hand_ups))]
+
 ghost use Rattle.std.specs.Prelude.{◌≡◌, ◌≤◌};
 ghost use Rattle.wire.specs.Refusals.{bad_setting};
 ghost use Rattle.soupbintcp.specs.Letters.{packet_kind, packet_values, letter_for};
@@ -21,7 +22,7 @@ use wire::kinds::{ByteOffset, SESSION_SIZE, SequenceNumber};
 use wire::refusal::Refusal;
 use wire::{compare, kinds, parts, refusal};
 
-#[derive(Clone, Copy)]
+#[derive(Clone, Copy, Debug, PartialEq, Eq)]
 pub enum ClientState {
     // A login was asked for.
     Asked,
@@ -30,7 +31,7 @@ pub enum ClientState {
     Closed,
 }
 
-#[derive(Clone, Copy)]
+#[derive(Clone, Copy, Debug, PartialEq, Eq)]
 pub struct Client {
     // Until A comes: the session and number that are asked for, blank for any session and 0 for any number. From A
     // on: the session's name, and the number of the next message.
@@ -40,14 +41,14 @@ pub struct Client {
 }
 
 // The refusal of a start, its number 0 where there is none, and the client.
-#[derive(Clone, Copy)]
+#[derive(Clone, Copy, Debug, PartialEq, Eq)]
 pub struct Started {
     pub refusal: Refusal,
     pub client: Client,
 }
 
 // The answer to the front of a stream, how many bytes it took, and the client to use next.
-#[derive(Clone, Copy)]
+#[derive(Clone, Copy, Debug, PartialEq, Eq)]
 pub struct Stepped {
     pub answer: Answer,
     pub size: usize,
@@ -79,13 +80,10 @@ impl Client {
         ensures { (result.refusal.number ≡ client_start_refusal session number.0)
             × (result.client ≡ start_client session number.0) }
     {
-        if !session::is_session(&session, true) {
-            return refused_start();
-        }
-        if number.0 < Client::LEAST_NUMBER.0 {
-            return refused_start();
-        }
-        if Client::LARGEST_NUMBER.0 < number.0 {
+        if !session::is_session(&session, true)
+            || number < Client::LEAST_NUMBER
+            || Client::LARGEST_NUMBER < number
+        {
             return refused_start();
         }
         Started {
@@ -131,34 +129,35 @@ impl Client {
     ) -> Stepped
         ensures { result ≡ record { answer = answer; size = size; client = client self.session number.0 state } }
     {
-        let session = self.session;
         Stepped {
             answer,
             size,
             client: Client {
-                session,
                 number,
                 state,
+                ..self
             },
         }
     }
 
     // The row of the table for the packet that was read in front.
+    #[tactic(auto, unfolding(crate::specs::Client::row_at, soupbintcp_session::specs::Answer::session_answer_words))]
     fn take(self, packet: Packet, size: usize, stream: &[u8]) -> Stepped
         requires { (head_size ≤ size) × IsInFront Server (packet_kind packet) stream.now }
         ensures { ClientSteps result (client_row self (incoming size (letter_for (packet_kind packet))
             (packet_values packet) (session_of Server stream.now))) }
     {
-        let state = self.state;
-        match state {
+        match self.state {
             ClientState::Asked => self.take_asked(packet, size, stream),
             ClientState::In => self.take_in(packet, size),
-            ClientState::Ended => self.stay(Answer::Refused(refusal::STATE_CLOSED)),
-            ClientState::Closed => self.stay(Answer::Refused(refusal::STATE_CLOSED)),
+            ClientState::Ended | ClientState::Closed => {
+                self.stay(Answer::Refused(refusal::STATE_CLOSED))
+            }
         }
     }
 
     // A login was asked for.
+    #[tactic(auto, using(crate::proofs::Rules::asked_rows), unfolding(crate::specs::Client::asked_row, soupbintcp::specs::Letters::letter_for, soupbintcp::specs::Letters::packet_kind, soupbintcp::specs::Letters::packet_values, soupbintcp_session::specs::Answer::session_answer_words))]
     fn take_asked(self, packet: Packet, size: usize, stream: &[u8]) -> Stepped
         requires { IsInFront Server (packet_kind packet) stream.now }
         ensures { ClientSteps result (asked_row self (incoming size (letter_for (packet_kind packet))
@@ -184,30 +183,21 @@ impl Client {
     fn asked_session(self, given: &[u8]) -> bool
         ensures { result ≡ session_asked self.session given.now }
     {
-        let asked = self.session;
-        if compare::is_name(&asked, kinds::BLANK) {
-            true
-        } else {
-            compare::is_name(given, asked)
-        }
+        compare::is_name(&self.session, kinds::BLANK) || compare::is_name(given, self.session)
     }
 
     // Whether A carries the number that was asked for: any, where that was 0.
     fn asked_number(self, given: SequenceNumber) -> bool
         ensures { result ≡ number_asked self.number.0 given.0 }
     {
-        let asked = self.number.0;
-        if asked == 0 { true } else { given.0 == asked }
+        self.number.is_zero() || given == self.number
     }
 
     // A: the session and the number are taken from it.
     fn log_in(self, size: usize, given: &[u8], number: SequenceNumber) -> Stepped
         ensures { ClientSteps result (accepted_row self size given.now number.0) }
     {
-        if !self.asked_session(given) {
-            return self.stay(Answer::Refused(refusal::LOGIN_NOT_ASKED));
-        }
-        if !self.asked_number(number) {
+        if !self.asked_session(given) || !self.asked_number(number) {
             return self.stay(Answer::Refused(refusal::LOGIN_NOT_ASKED));
         }
         Stepped {
@@ -222,6 +212,7 @@ impl Client {
     }
 
     // Logged in.
+    #[tactic(auto, unfolding(crate::specs::Client::in_row, soupbintcp::specs::Letters::letter_for, soupbintcp::specs::Letters::packet_kind, soupbintcp_session::specs::Answer::session_answer_words))]
     fn take_in(self, packet: Packet, size: usize) -> Stepped
         requires { head_size ≤ size }
         ensures { ClientSteps result (in_row self size (letter_for (packet_kind packet))) }
@@ -245,7 +236,7 @@ impl Client {
         ensures { ClientSteps result (sequenced_row self size) }
     {
         let number = self.number;
-        if number.0 == Client::LARGEST_NUMBER.0 {
+        if number == Client::LARGEST_NUMBER {
             return self.stay(Answer::Refused(refusal::NUMBERS_USED_UP));
         }
         let handed = Answer::Sequenced {
