@@ -1,11 +1,10 @@
 -- Laws of a table of account records: how many records of a table by value are used, and that the records laid as bytes are read as the same records.
-use Prim.Native.Nat.{ℕ, zero, suc, ◌*◌, ◌/◌, ◌≤◌, ◌<◌}
+use Prim.Native.Nat.{ℕ, zero, suc, ◌*◌, ◌/◌, ◌≤◌, ◌<◌, min}
 use mathlib.Core.Path.{◌≡◌, refl}
 use mathlib.Core.List.{List, [], ◌∷◌, ◌++◌, append_assoc}
 use native.Mathlib.Omega.{arith}
 use lib.ListN.{length, drop, length-append, length-drop}
 use lib.Seq.{take_at, drop_at, length-take-le}
-use lib.Dec.{lit≤}
 use borrow.Author.Tests.{le-ltb, lt-ltb}
 use Rattle.wire.proofs.Cases.{below_or_not}
 use Rattle.login.specs.declared.account.Account.{Account}
@@ -14,16 +13,12 @@ use Rattle.accounts.specs.Accounts.{used_of, Sized, AllSized, none, one_more, fl
 
 -- ---- a table by value
 
-pub used_all : (used : ℕ) → 4 < used → 4 ≡ used_of used
+pub used-least : (used : ℕ) → min used 4 ≡ used_of used
 unfolding used_of
-used_all used h = simp (lt-ltb _ _ h)
-
-pub used-some : (used : ℕ) → used ≤ 4 → used ≡ used_of used
-unfolding used_of
-used-some used h = simp (le-ltb _ _ h)
+used-least used = below_or_not (min used 4 ≡ used_of used) 4 used (λ h. rw (lt-ltb _ _ h) (omega arith)) (λ h. rw (le-ltb _ _ h) (omega arith))
 
 pub used-most : (used : ℕ) → used_of used ≤ 4
-used-most used = below_or_not (used_of used ≤ 4) 4 used (λ h. rw (← used_all used h) (lit≤ tt)) (λ h. rw (← used-some used h) h)
+used-most used = rw (← used-least used) (omega arith)
 
 -- ---- the records as bytes
 

@@ -2,6 +2,6 @@
 use borrow.Author.Rules.{rules}
 use Rattle.soupbintcp_server.proofs.ServerLaws.{server-step}
 use Rattle.soupbintcp_server.proofs.StatementLaws.{only-by-the-rules}
-use Rattle.accounts.proofs.AccountsLaws.{used_all, used-some}
+use Rattle.accounts.proofs.AccountsLaws.{used-least}
 
-pub ruleset accounts = (used_all, used-some, server-step, only-by-the-rules, rules)
+pub ruleset accounts = (used-least, server-step, only-by-the-rules, rules)

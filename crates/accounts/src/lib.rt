@@ -1,5 +1,5 @@
 // Accounts that are kept in a lent table of account records: the login lookup, and the server's step over such a table.
-#![tactic(auto)]
+#![tactic(auto, using(crate::proofs::Rules::accounts))]
 
 ghost use Rattle.std.specs.Prelude.{◌≡◌, take};
 ghost use Rattle.login.specs.Account.{found_in};
@@ -12,6 +12,7 @@ use login::account;
 use login::account::{Account, Found, MOST_ACCOUNTS};
 use soupbintcp_server::server;
 use soupbintcp_server::server::{Server, Stepped};
+use wire::refusal;
 
 // How many records a table by value has.
 pub const RECORDS: usize = 4;
@@ -21,22 +22,18 @@ pub const RECORDS: usize = 4;
 pub fn lookup(table: &[Account], entry: Account) -> Found
     ensures { (result ≡ found_in table.now entry) × FoundDecides × FlatIsTheSame }
 {
-    let records = table.len();
-    if MOST_ACCOUNTS < records {
-        return Found::in_too_many();
+    if MOST_ACCOUNTS < table.len() {
+        return Err(refusal::BAD_SETTING);
     }
     if !account::is_sound(entry) {
-        return Found::nobody();
+        return Ok(None);
     }
-    let mut i = 0;
-    while i < records {
-        let account = table[i];
+    for &account in table {
         if account::is_of(account, entry) {
-            return Found::decided_by(account);
+            return Ok(Some(account));
         }
-        i += 1;
     }
-    Found::nobody()
+    Ok(None)
 }
 
 // Takes the front of a client's stream, as the server's own step does with a table that is lent as bytes.
@@ -51,7 +48,7 @@ pub fn step(server: Server, table: &[Account], stream: &[u8]) -> Stepped
 fn used_of(used: usize) -> usize
     ensures { result ≡ used_of used }
 {
-    if RECORDS < used { RECORDS } else { used }
+    used.min(RECORDS)
 }
 
 // The lookup in the first records of a table by value, for a caller that lends no slice of records.

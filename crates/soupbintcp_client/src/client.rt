@@ -40,7 +40,8 @@ pub struct Client {
     pub state: ClientState,
 }
 
-// The refusal of a start, its number 0 where there is none, and the client.
+// The refusal of a start, its number 0 where there is none, and the client. It is no Result: a refused start hands back
+// a client too, and `Client::new` promises which.
 #[derive(Clone, Copy, Debug, PartialEq, Eq)]
 pub struct Started {
     pub refusal: Refusal,

@@ -5,11 +5,8 @@ use Prim.Native.Nat.{ℕ}
 use native.Mathlib.Omega.{arith}
 use lib.ListN.{length}
 use borrow.Author.Tests.{eq-eqb, ne_eqb}
-use types.Run.{OneOf, miss}
-use denote.Enum.Declared.{tag_of}
 use Rattle.wire.specs.Words.{refused, refuses}
 use Rattle.wire.specs.declared.kinds.SequenceNumber.{SequenceNumber}
-use Rattle.wire.specs.declared.refusal.Refusal.{Refusal}
 use Rattle.wire.specs.Output.{Written}
 use Rattle.std.specs.Prelude.{Ok, Err}
 use Rattle.wire.specs.Output.{written_words, write_refusal, write_answer, write_output, Writes}
@@ -21,7 +18,6 @@ use Rattle.soupbintcp_writer.specs.Packets.{encoded, accepted_ground, accepted_p
 use Rattle.soupbintcp_session.specs.declared.answer.Answer.{Answer}
 use Rattle.soupbintcp_session.specs.declared.answer.Answer.TheVariants as case
 use Rattle.soupbintcp_session.specs.Answer.{session_answer_words, StepOutcome, stays}
-use Rattle.soupbintcp_session.specs.contracts.answer.Answer.{the_type}
 use Rattle.soupbintcp_server.specs.declared.server.Server.{Server}
 use Rattle.soupbintcp_server.specs.declared.server.Stepped.{Stepped}
 use Rattle.soupbintcp_server.specs.Server.{ServerSteps}
@@ -55,19 +51,6 @@ output-kept g l bs z =
     below_or_not _ (length l) (length bs) (λ h. rw (eq-eqb _ _ e) (put-none l 0 bs (omega arith)))
     (λ h. absurd (z (no-write-refusal g l 0 bs e (omega arith)))))
     (λ e. rw (ne_eqb _ _ e) refl)
-
--- ---- a reply that was written or refused
-
-module _ (s : Server) (k : Stepped) (w : Written) where
-  pub with-wrote : (size : ℕ) (r : Replied) → w ≡ Ok size
-      → r ≡ record { answer = k.answer; size = k.size; written = size; server = k.server } → r ≡ with_reply s k w
-  unfolding with_reply
-  with-wrote size r e f = rw e f
-
-  pub with-refused : (x : Refusal) (r : Replied) → w ≡ Err x
-      → r ≡ record { answer = case.Refused x; size = 0; written = 0; server = s } → r ≡ with_reply s k w
-  unfolding with_reply
-  with-refused x r e f = rw e f
 
 -- a writer that refused has a refusal
 refused-so : (g : ℕ) (l bs : List ℕ) → refused ≡ (write_answer g l 0 bs).which → write_refusal g l 0 bs ≡ 0 → ⊥
@@ -115,42 +98,39 @@ module _ (s : Server) (k : Stepped) (o : StepOutcome Server) (h : ServerSteps k 
 
 -- ---- no reply
 
--- the places of the answers that have none, among all
-abbrev silent : List ℕ
-silent = 0 ∷ 3 ∷ 4 ∷ 5 ∷ 6 ∷ 7 ∷ 8 ∷ 9 ∷ []
-
-no_bytes : (session : List ℕ) (x : Answer) → OneOf silent (tag_of the_type x) → reply_of session (session_answer_words x) ≡ []
+no_bytes : (session : List ℕ) (x : Answer) → ((n : SequenceNumber) → x ≡ case.Accepted n → ⊥) → ((r : ℕ) → x ≡ case.Rejected r → ⊥) → reply_of session (session_answer_words x) ≡ []
 unfolding reply_at session_answer_words
-no_bytes session case.NeedMore k = refl
-no_bytes session (case.Accepted n) k = absurd (miss silent 1 tt k)
-no_bytes session (case.Rejected r) k = absurd (miss silent 2 tt k)
-no_bytes session (case.Sequenced n at size) k = refl
-no_bytes session (case.Unsequenced at size) k = refl
-no_bytes session case.Heartbeat k = refl
-no_bytes session case.Debug k = refl
-no_bytes session case.LoggedOut k = refl
-no_bytes session case.EndOfSession k = refl
-no_bytes session (case.Refused r) k = refl
+no_bytes session case.NeedMore k j = refl
+no_bytes session (case.Accepted n) k j = absurd (k n refl)
+no_bytes session (case.Rejected r) k j = absurd (j r refl)
+no_bytes session (case.Sequenced n at size) k j = refl
+no_bytes session (case.Unsequenced at size) k j = refl
+no_bytes session case.Heartbeat k j = refl
+no_bytes session case.Debug k j = refl
+no_bytes session case.LoggedOut k j = refl
+no_bytes session case.EndOfSession k j = refl
+no_bytes session (case.Refused r) k j = refl
 
-no_ground : (session : List ℕ) (x : Answer) → OneOf silent (tag_of the_type x) → reply_ground session (session_answer_words x) ≡ 0
+no_ground : (session : List ℕ) (x : Answer) → ((n : SequenceNumber) → x ≡ case.Accepted n → ⊥) → ((r : ℕ) → x ≡ case.Rejected r → ⊥) → reply_ground session (session_answer_words x) ≡ 0
 unfolding reply_ground_at session_answer_words
-no_ground session case.NeedMore k = refl
-no_ground session (case.Accepted n) k = absurd (miss silent 1 tt k)
-no_ground session (case.Rejected r) k = absurd (miss silent 2 tt k)
-no_ground session (case.Sequenced n at size) k = refl
-no_ground session (case.Unsequenced at size) k = refl
-no_ground session case.Heartbeat k = refl
-no_ground session case.Debug k = refl
-no_ground session case.LoggedOut k = refl
-no_ground session case.EndOfSession k = refl
-no_ground session (case.Refused r) k = refl
+no_ground session case.NeedMore k j = refl
+no_ground session (case.Accepted n) k j = absurd (k n refl)
+no_ground session (case.Rejected r) k j = absurd (j r refl)
+no_ground session (case.Sequenced n at size) k j = refl
+no_ground session (case.Unsequenced at size) k j = refl
+no_ground session case.Heartbeat k j = refl
+no_ground session case.Debug k j = refl
+no_ground session case.LoggedOut k j = refl
+no_ground session case.EndOfSession k j = refl
+no_ground session (case.Refused r) k j = refl
 
 module _ (s : Server) (k : Stepped) (o : StepOutcome Server) (h : ServerSteps k o) (l : List ℕ) where
-  pub reply-none : (r : Replied) → OneOf silent (tag_of the_type k.answer)
-      → r ≡ record { answer = k.answer; size = k.size; written = 0; server = k.server } → Replies r s o l l
-  reply-none r t q =
-      let bs : reply_of s.session o.reply ≡ [] = rw (← h.answers) (no_bytes s.session k.answer t) in
-      let g : reply_ground s.session o.reply ≡ 0 = rw (← h.answers) (no_ground s.session k.answer t) in
+  pub reply-none : (r : Replied) → ((n : SequenceNumber) → k.answer ≡ case.Accepted n → ⊥) → ((x : ℕ) → k.answer ≡ case.Rejected x → ⊥)
+      → r ≡ with_reply s k (Ok 0) → Replies r s o l l
+  unfolding with_reply
+  reply-none r t u q =
+      let bs : reply_of s.session o.reply ≡ [] = rw (← h.answers) (no_bytes s.session k.answer t u) in
+      let g : reply_ground s.session o.reply ≡ 0 = rw (← h.answers) (no_ground s.session k.answer t u) in
       let z : reply_refusal s o l ≡ 0 = no-write-refusal _ l 0 _ g (rw bs (omega arith)) in
       let same = sym (outcome-written s o l z) in
       rw q

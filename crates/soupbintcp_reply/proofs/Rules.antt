@@ -2,6 +2,6 @@
 use borrow.Author.Rules.{rules}
 use mathlib.Core.Path.{refl}
 use Rattle.soupbintcp_reply.proofs.StatementLaws.{reply-promises}
-use Rattle.soupbintcp_reply.proofs.ReplyLaws.{with-wrote, with-refused, reply-A, reply-J, reply-none}
+use Rattle.soupbintcp_reply.proofs.ReplyLaws.{reply-A, reply-J, reply-none}
 
-pub ruleset replies = (with-wrote, with-refused, reply-A, reply-J, reply-none, reply-promises, refl, rules)
+pub ruleset replies = (reply-A, reply-J, reply-none, reply-promises, refl, rules)

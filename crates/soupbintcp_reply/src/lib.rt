@@ -4,7 +4,6 @@
 
 ghost use Rattle.std.specs.Prelude.{◌≡◌};
 ghost use Rattle.login.specs.Table.{accounts_of};
-ghost use Rattle.soupbintcp_session.specs.declared.answer.Answer.TheVariants.{Refused};
 ghost use Rattle.soupbintcp_server.specs.Server.{server_step};
 ghost use Rattle.soupbintcp_reply.specs.Reply.{Replies, with_reply};
 ghost use Rattle.soupbintcp_reply.specs.Statements.{ReplyPromises};
@@ -16,7 +15,7 @@ use wire::refusal::Refusal;
 
 // The answer to the front of a stream, how many bytes it took, how many bytes of the output the reply has, and the
 // server to use next.
-#[derive(Clone, Copy)]
+#[derive(Clone, Copy, Debug, PartialEq, Eq)]
 pub struct Replied {
     pub answer: Answer,
     pub size: usize,
@@ -24,44 +23,25 @@ pub struct Replied {
     pub server: Server,
 }
 
-// A step whose reply was written; or, where that was refused, the server as it was.
+// A step whose reply was written; or, where that was refused, the server as it was, with nothing taken and nothing
+// written.
+#[tactic(auto, unfolding(crate::specs::Reply::with_reply))]
 fn with_reply(server: Server, stepped: Stepped, written: Result<usize, Refusal>) -> Replied
     ensures { result ≡ with_reply server stepped written }
 {
     match written {
-        Ok(size) => stepped_with(stepped, size),
-        Err(r) => refused(server, r),
-    }
-}
-
-// Nothing was taken and nothing written, and the server is as it was.
-fn refused(server: Server, refusal: Refusal) -> Replied
-    ensures { result ≡ record { answer = Refused refusal; size = 0; written = 0; server = server } }
-{
-    Replied {
-        answer: Answer::Refused(refusal),
-        size: 0,
-        written: 0,
-        server,
-    }
-}
-
-// A step as it is, and how many bytes its reply has.
-fn stepped_with(stepped: Stepped, written: usize) -> Replied
-    ensures { result ≡ record {
-      answer = stepped.answer;
-      size = stepped.size;
-      written = written;
-      server = stepped.server;
-    } }
-{
-    let answer = stepped.answer;
-    let server = stepped.server;
-    Replied {
-        answer,
-        size: stepped.size,
-        written,
-        server,
+        Ok(written) => Replied {
+            answer: stepped.answer,
+            size: stepped.size,
+            written,
+            server: stepped.server,
+        },
+        Err(r) => Replied {
+            answer: Answer::Refused(r),
+            size: 0,
+            written: 0,
+            server,
+        },
     }
 }
 
@@ -73,20 +53,15 @@ pub fn step(server: Server, table: &[u8], stream: &[u8], out: &mut [u8]) -> Repl
         out.old out.new }
     ensures promises { ReplyPromises }
 {
-    let session = server.session;
     let stepped = server.step(table, stream);
-    let answer = stepped.answer;
-    match answer {
+    match stepped.answer {
         Answer::Accepted { number } => {
-            with_reply(
-                server,
-                stepped,
-                server::write_accepted(out, session, number),
-            )
+            let written = server::write_accepted(out, server.session, number);
+            with_reply(server, stepped, written)
         }
         Answer::Rejected { reason } => {
             with_reply(server, stepped, server::write_rejected(out, reason))
         }
-        _ => stepped_with(stepped, 0),
+        _ => with_reply(server, stepped, Ok(0)),
     }
 }

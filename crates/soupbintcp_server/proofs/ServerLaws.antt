@@ -1,13 +1,13 @@
 -- Laws of the server's functions: s is the server, p the packet in front, size its bytes, asked its session, r what is answered.
 use mathlib.Core.Path.{◌≡◌, refl, sym, ◌∙◌}
-use mathlib.Core.List.{List, [], ◌∷◌}
+use mathlib.Core.List.{List, []}
 use mathlib.Core.Bool.{Bool, false, true, not}
-use Prim.Native.Nat.{ℕ, ◌-◌, ◌≤◌, ◌<◌}
+use Prim.Native.Nat.{ℕ, ◌≤◌, ◌<◌}
 use lib.ListN.{length, take, drop}
-use lib.Dec.{ltb}
+use lib.Dec.{ltb, eqb}
+use mathlib.Core.Path.{ap}
+use native.Mathlib.Omega.{arith}
 use borrow.Author.Tests.{lt-ltb, le-ltb, ltb-false, not-true, not-false}
-use types.Run.{OneOf}
-use denote.Enum.Declared.{tag_of}
 use Rattle.wire.specs.Words.{Words}
 use Rattle.wire.specs.declared.kinds.SequenceNumber.{SequenceNumber}
 use Rattle.wire.specs.declared.refusal.Refusal.{Refusal}
@@ -21,27 +21,23 @@ use Rattle.soupbintcp.specs.declared.packet.Packet.{Packet}
 use Rattle.soupbintcp.specs.declared.packet.Packet.TheVariants as packet
 use Rattle.soupbintcp.specs.declared.front.Front.{Front}
 use Rattle.soupbintcp.specs.declared.front.Front.TheVariants as front
-use Rattle.soupbintcp.specs.Letters.{debug, login, unsequenced, client_heartbeat, logout, packet_kind, packet_values, letter_for}
+use Rattle.soupbintcp.specs.Letters.{login, packet_kind, packet_values, letter_for}
 use Rattle.soupbintcp.specs.Front.{front_words, front_of, session_of, username_of, password_of, IsInFront}
 use Rattle.soupbintcp.proofs.InFrontLaws.{login_username, login_password, login_session, no_username}
-use Rattle.soupbintcp.specs.contracts.packet.Packet.{the_type}
 use Rattle.login.specs.declared.account.Account.{Account}
-use Rattle.login.specs.declared.account.Found.{Found}
 use Rattle.login.specs.declared.decision.Decision.{Decision}
-use Rattle.login.specs.declared.decision.Decision.TheVariants as decision
-use Rattle.login.specs.Account.{VerdictKind, sound_account, most_accounts, is_known, lookup_of, verdict_of, blank_account, found_in, verdict_on}
+use Rattle.login.specs.Account.{VerdictKind, sound_account, most_accounts, is_known, lookup_of, verdict_of, Found, deciding, found_in, verdict_on}
 use Rattle.login.specs.Decision.{decision_words, decision_of}
 use Rattle.login.specs.Statements.{FoundDecides}
-use Rattle.login.proofs.FoundLaws.{found-unsound, found-decides, says-19, says-known}
+use Rattle.login.proofs.FoundLaws.{found-unsound, found-decides, says-refused, says-known}
 use Rattle.soupbintcp_session.specs.declared.answer.Answer.{Answer}
-use Rattle.soupbintcp_session.specs.declared.answer.Answer.TheVariants.{NeedMore, Accepted, Rejected, Unsequenced, Heartbeat, Debug, LoggedOut, Refused}
+use Rattle.soupbintcp_session.specs.declared.answer.Answer.TheVariants.{NeedMore, Refused}
 use Rattle.soupbintcp_session.specs.Answer.{incoming, session_answer_words}
-use Rattle.soupbintcp_session.proofs.TagLaws.{tag_for, other-letter}
-use Rattle.soupbintcp_server.specs.declared.server.ServerState.{ServerState}
-use Rattle.soupbintcp_server.specs.declared.server.ServerState.TheVariants.{Waiting, In, Closed}
+use Rattle.std.specs.Prelude.{None, Result, Ok, Err, option_to_list, if◌then◌else◌}
+use Rattle.soupbintcp_server.specs.declared.server.ServerState.TheVariants.{Waiting}
 use Rattle.soupbintcp_server.specs.declared.server.Server.{Server}
 use Rattle.soupbintcp_server.specs.declared.server.Stepped.{Stepped}
-use Rattle.soupbintcp_server.specs.Server.{server, becomes, server_start_refusal, refused_server, start_server, last_refusal, with_last, login_at, login_row, waiting_row, in_row, row_at, front_row, front_row_at, step_at, step_with, entry_of, server_step, ServerSteps}
+use Rattle.soupbintcp_server.specs.Server.{server, server_start_refusal, refused_server, start_server, last_refusal, with_last, login_row, waiting_row, row_at, front_row, front_row_at, step_at, step_with, entry_of, server_step, ServerSteps}
 
 -- what the code answers: a refusal, or a packet that is taken
 abbrev refuses-with : Server → ℕ → Stepped
@@ -131,50 +127,37 @@ is-login l p n f e = rw e at f
 pub found-login : (t : List Account) (l : List ℕ) (e : Account) (r : Found) → e ≡ entry_of l → r ≡ found_in t e → r ≡ found_in t (entry_of l)
 found-login t l e r g h = rw g at h
 
-abbrev not-login : List ℕ
-not-login = 0 ∷ 1 ∷ 2 ∷ 3 ∷ 4 ∷ 5 ∷ 7 ∷ 8 ∷ 9 ∷ []
-
 no-entry : (l : List ℕ) → username_of Client l ≡ [] → sound_account (entry_of l) ≡ false
 unfolding entry_of sound_account first_bytes sound word_length is_letter_or_digit is_digit
 no-entry l e = rw e refl
 
-pub found-other : (t : List Account) (l : List ℕ) (p : Packet) (r : Found) → length t ≤ most_accounts → IsInFront Client (packet_kind p) l
-    → OneOf not-login (tag_of the_type p) → r ≡ record { account = blank_account; too_many = false } → r ≡ found_in t (entry_of l)
-unfolding tag_for
-found-other t l p r h f k e =
-    e ∙ sym (found-unsound t (entry_of l) h (no-entry l (no_username Client l (packet_kind p) f (other-letter not-login login p tt k))))
+other-letter : (p : Packet) → ((n : SequenceNumber) → p ≡ packet.Login n → ⊥) → eqb (letter_for (packet_kind p)) (letter_for login) ≡ false
+unfolding letter_for packet_kind
+other-letter packet.Debug h = refl
+other-letter (packet.Accepted n) h = refl
+other-letter (packet.Rejected reason) h = refl
+other-letter packet.Sequenced h = refl
+other-letter packet.ServerHeartbeat h = refl
+other-letter packet.EndOfSession h = refl
+other-letter (packet.Login n) h = absurd (h n refl)
+other-letter packet.Unsequenced h = refl
+other-letter packet.ClientHeartbeat h = refl
+other-letter packet.Logout h = refl
 
--- ---- a login that was decided on: d is the decision
-
-module _ (s : Server) (d : Decision) (size : ℕ) (r : Stepped) where
-  pub login-accepted : (n : SequenceNumber) → d ≡ decision.Accepted n → r ≡ goes_to (Accepted n) size (becomes s In) → ServerSteps r (login_row s size (decision_words d))
-  unfolding decision_words login_at session_answer_words
-  login-accepted n e f = rw (e, f) (exactly _)
-
-  pub login-rejected : (reason : ℕ) → d ≡ decision.Rejected reason → r ≡ goes_to (Rejected reason) size (becomes s Closed)
-      → ServerSteps r (login_row s size (decision_words d))
-  unfolding decision_words login_at session_answer_words
-  login-rejected reason e f = rw (e, f) (exactly _)
-
-  pub login-refused : (x : Refusal) → d ≡ decision.Refused x → r ≡ goes_to (Refused x) 0 s → ServerSteps r (login_row s size (decision_words d))
-  unfolding decision_words login_at session_answer_words
-  login-refused x e f = rw (e, f) (exactly _)
+pub found-other : (t : List Account) (l : List ℕ) (p : Packet) → length t ≤ most_accounts → IsInFront Client (packet_kind p) l
+    → ((n : SequenceNumber) → p ≡ packet.Login n → ⊥) → Ok None ≡ found_in t (entry_of l)
+found-other t l p h f k = sym (found-unsound t (entry_of l) h (no-entry l (no_username Client l (packet_kind p) f (other-letter p k))))
 
 -- ---- waiting: w is what was found says of the entry
 
 module _ (s : Server) (p : Packet) (size : ℕ) (w : Words VerdictKind) (asked : List ℕ) (r : Stepped) where
-  login-row : (n : SequenceNumber) (d : Decision) → p ≡ packet.Login n → decision_words d ≡ decision_of w asked n.0 s.session s.last.0
+  login-row : (n : SequenceNumber) (d : Result Decision Refusal) → p ≡ packet.Login n → decision_words d ≡ decision_of w asked n.0 s.session s.last.0
       → ServerSteps r (login_row s size (decision_words d)) → ServerSteps r (waiting_row s w (incoming size (letter_for (packet_kind p)) (packet_values p) asked))
   unfolding waiting_row letter_for packet_kind packet_values
   login-row n d e g h = rw (e, ← g) h
 
-  pub waiting-plus : p ≡ packet.Debug → r ≡ goes_to Debug size (becomes s Waiting)
-      → ServerSteps r (waiting_row s w (incoming size (letter_for (packet_kind p)) (packet_values p) asked))
-  unfolding waiting_row letter_for packet_kind packet_values session_answer_words
-  waiting-plus e f = rw (e, f) (exactly _)
-
 -- the entry of the packet in front is compared with the record that was found
-pub waiting-L : (s : Server) (p : Packet) (size : ℕ) (f : Found) (l : List ℕ) (r : Stepped) (n : SequenceNumber) (y : List ℕ) (e : Account) (d : Decision)
+pub waiting-L : (s : Server) (p : Packet) (size : ℕ) (f : Found) (l : List ℕ) (r : Stepped) (n : SequenceNumber) (y : List ℕ) (e : Account) (d : Result Decision Refusal)
     → p ≡ packet.Login n → IsInFront Client (packet_kind p) l → y ≡ take 10 (drop 19 l) → e ≡ entry_of l → decision_words d ≡ decision_of (verdict_on f e) y n.0 s.session s.last.0
     → ServerSteps r (login_row s size (decision_words d))
     → ServerSteps r (waiting_row s (verdict_on f (entry_of l)) (incoming size (letter_for (packet_kind p)) (packet_values p) (session_of Client l)))
@@ -182,65 +165,12 @@ waiting-L s p size f l r n y e d g o h i j k =
     let a : y ≡ session_of Client l = h ∙ login_session Client l (is-login l p n o g) in
     login-row s p size (verdict_on f (entry_of l)) (session_of Client l) r n d g (rw (a, i) at j) k
 
-abbrev not-waiting : List ℕ
-not-waiting = 1 ∷ 2 ∷ 3 ∷ 4 ∷ 5 ∷ 7 ∷ 8 ∷ 9 ∷ []
-
-pub waiting-other : (s : Server) (p : Packet) (size : ℕ) (w : Words VerdictKind) (asked : List ℕ) (r : Stepped) → OneOf not-waiting (tag_of the_type p)
-    → r ≡ refuses-with s 31 → ServerSteps r (waiting_row s w (incoming size (letter_for (packet_kind p)) (packet_values p) asked))
-unfolding waiting_row letter_for tag_for session_answer_words
-waiting-other s p size w asked r k e = rw (other-letter not-waiting login p tt k, other-letter not-waiting debug p tt k, e) (exactly _)
-
--- ---- logged in
-
-module _ (s : Server) (p : Packet) (size : ℕ) (r : Stepped) where
-  pub in-U : p ≡ packet.Unsequenced → r ≡ goes_to (Unsequenced (record { 0 = 3 }) (size - 3)) size (becomes s In)
-      → ServerSteps r (in_row s size (letter_for (packet_kind p)))
-  unfolding in_row letter_for packet_kind session_answer_words
-  in-U e f = rw (e, f) (exactly _)
-
-  pub in-R : p ≡ packet.ClientHeartbeat → r ≡ goes_to Heartbeat size (becomes s In) → ServerSteps r (in_row s size (letter_for (packet_kind p)))
-  unfolding in_row letter_for packet_kind session_answer_words
-  in-R e f = rw (e, f) (exactly _)
-
-  pub server-in-plus : p ≡ packet.Debug → r ≡ goes_to Debug size (becomes s In) → ServerSteps r (in_row s size (letter_for (packet_kind p)))
-  unfolding in_row letter_for packet_kind session_answer_words
-  server-in-plus e f = rw (e, f) (exactly _)
-
-  pub in-O : p ≡ packet.Logout → r ≡ goes_to LoggedOut size (becomes s Closed) → ServerSteps r (in_row s size (letter_for (packet_kind p)))
-  unfolding in_row letter_for packet_kind session_answer_words
-  in-O e f = rw (e, f) (exactly _)
-
-abbrev not_in : List ℕ
-not_in = 1 ∷ 2 ∷ 3 ∷ 4 ∷ 5 ∷ 6 ∷ []
-
-pub server-in-other : (s : Server) (p : Packet) (size : ℕ) (r : Stepped) → OneOf not_in (tag_of the_type p) → r ≡ refuses-with s 31
-    → ServerSteps r (in_row s size (letter_for (packet_kind p)))
-unfolding in_row letter_for tag_for session_answer_words
-server-in-other s p size r k e =
-    rw (other-letter not_in unsequenced p tt k, other-letter not_in client_heartbeat p tt k, other-letter not_in debug p tt k, other-letter not_in logout p tt k, e)
-    (exactly _)
-
--- ---- the row of a state t: k is the packet's letter, vs its values
-
-module _ (t : ServerState) (s : Server) (size k : ℕ) (vs : List ℕ) (w : Words VerdictKind) (asked : List ℕ) (r : Stepped) where
-  pub row-waiting : t ≡ Waiting → ServerSteps r (waiting_row s w (incoming size k vs asked)) → ServerSteps r (row_at t s w (incoming size k vs asked))
-  unfolding row_at
-  row-waiting e f = rw e f
-
-  pub server-row-in : t ≡ In → ServerSteps r (in_row s size k) → ServerSteps r (row_at t s w (incoming size k vs asked))
-  unfolding row_at
-  server-row-in e f = rw e f
-
-  pub server-row-closed : t ≡ Closed → r ≡ refuses-with s 32 → ServerSteps r (row_at t s w (incoming size k vs asked))
-  unfolding row_at session_answer_words
-  server-row-closed e f = rw (e, f) (exactly _)
-
 -- ---- a step: f is what was found, e the entry in front, x the front of the stream l
 
-pub table-refused : (s : Server) (l : List ℕ) (f : Found) (r : Stepped) → f.too_many ≡ true → r ≡ refuses-with s 19
+pub table-refused : (s : Server) (l : List ℕ) (f : Found) (y : Refusal) (r : Stepped) → f ≡ Err y → r ≡ goes_to (Refused y) 0 s
     → ServerSteps r (step_with s (verdict_on f (entry_of l)) l)
 unfolding step_at session_answer_words
-table-refused s l f r h g = rw (says-19 f (entry_of l) h, g) (exactly _)
+table-refused s l f y r h g = rw (h, says-refused (entry_of l) y, g) (exactly _)
 
 -- a table that isn't too long leaves it to the front
 pub said-front : (s : Server) (l : List ℕ) (v : Words VerdictKind) (b : Bool) → v ≡ verdict_of b → front_row s v (session_of Client l) (front_of Client l) ≡ step_with s v l
@@ -248,9 +178,15 @@ unfolding step_at verdict_of
 said-front s l v true h = rw h refl
 said-front s l v false h = rw h refl
 
-module _ (s : Server) (l : List ℕ) (f : Found) (few : f.too_many ≡ false) (x : Front) (r : Stepped) where
+module _ (s : Server) (l : List ℕ) (f : Found) (few : (y : Refusal) → f ≡ Err y → ⊥) (x : Front) (r : Stepped) where
   by_front : front_row s (verdict_on f (entry_of l)) (session_of Client l) (front_of Client l) ≡ step_with s (verdict_on f (entry_of l)) l
-  by_front = said-front s l (verdict_on f (entry_of l)) (is_known (f.account ∷ []) (entry_of l)) (says-known f (entry_of l) few)
+  by_front = go f refl
+    where
+      go : (g : Found) → f ≡ g → front_row s (verdict_on f (entry_of l)) (session_of Client l) (front_of Client l) ≡ step_with s (verdict_on f (entry_of l)) l
+      go (Ok a) e =
+          said-front s l (verdict_on f (entry_of l)) (is_known (option_to_list a) (entry_of l))
+          (ap (λ (h : Found). verdict_on h (entry_of l)) e ∙ says-known (entry_of l) a)
+      go (Err y) e = absurd (few y e)
 
   pub server-step-more : front_words x ≡ front_of Client l → x ≡ front.NeedMore → r ≡ goes_to NeedMore 0 s
       → ServerSteps r (step_with s (verdict_on f (entry_of l)) l)
@@ -284,9 +220,12 @@ module _ (s : Server) (l : List ℕ) (t : List Account) (m : Bool) (is : m ≡ l
     abbrev f : Found
     f = found_in t (entry_of l)
 
-    f-few : f.too_many ≡ false
+    f-few : (y : Refusal) → f ≡ Err y → ⊥
     unfolding found_in
-    f-few = rw (← is, few) refl
+    f-few y e =
+        let z : Ok (if sound_account (entry_of l) then deciding t (entry_of l) else None) ≡ Err y = rw (← is, few) at e in
+        let k : ◌≡◌ {A = ℕ} 0 1 = cc in
+        omega arith
 
     from_found : (r : Stepped) → ServerSteps r (step_with s (verdict_on f (entry_of l)) l) → ServerSteps r (server_step t s l)
     from_found r k = server-step s l t f (entry_of l) r refl refl found-decides k

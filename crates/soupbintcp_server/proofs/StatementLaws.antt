@@ -6,7 +6,6 @@ use Prim.Native.Nat.{ℕ, ◌≤◌}
 use native.Mathlib.Omega.{arith}
 use lib.ListN.{length, drop, get_or}
 use borrow.Author.Tests.{le-ltb}
-use Rattle.wire.specs.Refusals.{bad_setting}
 use Rattle.std.specs.Prelude.{if◌then◌else◌}
 use Rattle.wire.specs.Words.{Words, Case, answer, refused, says, refuses}
 use Rattle.soupbintcp.specs.declared.packet.Sender.TheVariants.{Client}
@@ -14,12 +13,13 @@ use Rattle.soupbintcp.specs.Letters.{PacketKind, login, unsequenced, client_hear
 use Rattle.soupbintcp.specs.Fields.{has_fields, not_authorized, session_not_available, good_reason}
 use Rattle.soupbintcp.specs.Front.{FrontKind, packet, wants_more, front_of, session_of}
 use Rattle.login.specs.declared.account.Account.{Account}
-use Rattle.login.specs.declared.account.Found.{Found}
-use Rattle.login.specs.Account.{VerdictKind, known, unknown, most_accounts, verdict_of, is_known, lookup_of, verdict_on}
+use Rattle.wire.specs.declared.refusal.Refusal.{Refusal}
+use Rattle.std.specs.Prelude.{is_ok, Ok, Err}
+use Rattle.login.specs.Account.{VerdictKind, known, unknown, most_accounts, verdict_of, is_known, lookup_of, Found, found_records, verdict_on}
 use Rattle.login.specs.Decision.{login_of}
 use Rattle.login.specs.Decision as decided
 use Rattle.login.specs.Statements.{NotRefused}
-use Rattle.login.proofs.FoundLaws.{says-19, says-of-one}
+use Rattle.login.proofs.FoundLaws.{says-refused, says-of-one}
 use Rattle.login.proofs.StatementLaws.{accepted_exactly_when, never_accepted}
 use Rattle.soupbintcp_session.specs.Answer.{Incoming, incoming, StepOutcome, takes}
 use Rattle.soupbintcp_session.specs.Statements.{StaysOver}
@@ -246,24 +246,22 @@ login_exactly_when =
 
 -- ---- what is said to be found, whoever says so
 
-module _ (f : Found) (s : Server) (l : List ℕ) where
-  table-of-one : f.too_many ≡ false → step_with s (verdict_on f (entry_of l)) l ≡ server_step (f.account ∷ []) s l
-  unfolding server_step
-  table-of-one h = rw (says-of-one f (entry_of l) h) refl
+table-of-one : (f : Found) (s : Server) (l : List ℕ) → is_ok f ≡ true → step_with s (verdict_on f (entry_of l)) l ≡ server_step (found_records f) s l
+unfolding server_step found_records
+table-of-one (Ok a) s l h = rw (says-of-one (entry_of l) a) refl
+table-of-one (Err r) s l h = let z : ◌≡◌ {A = ℕ} 0 1 = cc in absurd (omega arith)
 
-  too-many-out : f.too_many ≡ true → (step_with s (verdict_on f (entry_of l)) l).reply.which ≡ answer reply.accepted → ⊥
-  unfolding step_at
-  too-many-out h w =
-      let r : (refuses {K = reply.SessionAnswerKind} bad_setting).which ≡ answer reply.accepted = rw (says-19 f (entry_of l) h) at w in
-      let z : ◌≡◌ {A = ℕ} 0 1 = cc in
-      omega arith
+refused-out : (r : Refusal) (s : Server) (l : List ℕ) → (step_with s (verdict_on (Err r) (entry_of l)) l).reply.which ≡ answer reply.accepted → ⊥
+unfolding step_at
+refused-out r s l w =
+    let x : (refuses {K = reply.SessionAnswerKind} r.number).which ≡ answer reply.accepted = rw (says-refused (entry_of l) r) at w in
+    let z : ◌≡◌ {A = ℕ} 0 1 = cc in
+    omega arith
 
-  only_by_its_record : (step_with s (verdict_on f (entry_of l)) l).reply.which ≡ answer reply.accepted → Accepts (f.account ∷ []) s l
-  only_by_its_record w = go f.too_many refl
-    where
-      go : (b : Bool) → f.too_many ≡ b → Accepts (f.account ∷ []) s l
-      go true h = absurd (too-many-out h w)
-      go false h = login_exactly_when.only_when (f.account ∷ []) s l (ap (λ (o : StepOutcome Server). o.reply.which) (sym (table-of-one h)) ∙ w)
+only_by_its_record : (f : Found) (s : Server) (l : List ℕ) → (step_with s (verdict_on f (entry_of l)) l).reply.which ≡ answer reply.accepted → Accepts (found_records f) s l
+only_by_its_record (Ok a) s l w =
+    login_exactly_when.only_when (found_records (Ok a)) s l (ap (λ (o : StepOutcome Server). o.reply.which) (sym (table-of-one (Ok a) s l refl)) ∙ w)
+only_by_its_record (Err r) s l w = absurd (refused-out r s l w)
 
 pub only-by-the-rules : (r : Stepped) (t : List Account) (s : Server) (l : List ℕ) → ServerSteps r (server_step t s l) → OnlyByTheRules r t s l
 unfolding OnlyByTheRules
@@ -271,7 +269,7 @@ only-by-the-rules r t s l o e =
     login_exactly_when.only_when t s l (ap (λ (w : Words reply.SessionAnswerKind). w.which) (sym o.answers) ∙ e)
 
 -- the same of a step from what was found
-pub by-a-record : (r : Stepped) (f : Found) (s : Server) (l : List ℕ) → ServerSteps r (step_with s (verdict_on f (entry_of l)) l) → OnlyByTheRules r (f.account ∷ []) s l
+pub by-a-record : (r : Stepped) (f : Found) (s : Server) (l : List ℕ) → ServerSteps r (step_with s (verdict_on f (entry_of l)) l) → OnlyByTheRules r (found_records f) s l
 unfolding OnlyByTheRules
 by-a-record r f s l o e = only_by_its_record f s l (ap (λ (w : Words reply.SessionAnswerKind). w.which) (sym o.answers) ∙ e)
 

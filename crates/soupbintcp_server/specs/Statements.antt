@@ -1,5 +1,5 @@
 -- What is promised of the session at the server.
-use Rattle.std.specs.Prelude.{ℕ, ◌-◌, ◌<◌, ◌≤◌, List, [], ◌∷◌, true, false, ◌≡◌, length}
+use Rattle.std.specs.Prelude.{ℕ, ◌-◌, ◌<◌, ◌≤◌, List, [], ◌∷◌, true, is_ok, ◌≡◌, length}
 use Rattle.wire.specs.Refusals.{bad_setting, packet_not_taken, state_closed}
 use Rattle.wire.specs.Words.{Words, answer, says, refuses}
 use Rattle.soupbintcp.specs.declared.packet.Sender.TheVariants.{Client}
@@ -9,8 +9,7 @@ use Rattle.soupbintcp.specs.Head.{head_size}
 use Rattle.soupbintcp.specs.Fields.{not_authorized, session_not_available, good_reason}
 use Rattle.soupbintcp.specs.Front.{packet, front_of, session_of, username_of, password_of}
 use Rattle.login.specs.declared.account.Account.{Account}
-use Rattle.login.specs.declared.account.Found.{Found}
-use Rattle.login.specs.Account.{VerdictKind, most_accounts, verdict_on}
+use Rattle.login.specs.Account.{VerdictKind, most_accounts, Found, found_records, verdict_on}
 use Rattle.login.specs.Decision.{granted, Attempt}
 use Rattle.login.specs.Statements.{AccountRule, NotRefused, Rules, NoText}
 use Rattle.soupbintcp_session.specs.Answer.{accepted, rejected, unsequenced, heartbeat, debug, logged_out, stays, takes}
@@ -164,9 +163,9 @@ pub record ServerPromises : Type 0 where
       → (server_step t s l).reply.which ≡ answer unsequenced → s.state ≡ In
   -- whatever is said to be found, who is let in meets the rules with its record alone as the table
   pub only_by_its_record : (f : Found) (s : Server) (l : List ℕ)
-      → (step_with s (verdict_on f (entry_of l)) l).reply.which ≡ answer accepted → Accepts (f.account ∷ []) s l
-  pub made_up_is_a_table_of_one : (f : Found) (s : Server) (l : List ℕ) → f.too_many ≡ false
-      → step_with s (verdict_on f (entry_of l)) l ≡ server_step (f.account ∷ []) s l
+      → (step_with s (verdict_on f (entry_of l)) l).reply.which ≡ answer accepted → Accepts (found_records f) s l
+  pub made_up_is_a_table_of_one : (f : Found) (s : Server) (l : List ℕ) → is_ok f ≡ true
+      → step_with s (verdict_on f (entry_of l)) l ≡ server_step (found_records f) s l
   -- nothing but a login request is rejected
   pub only_rejects : (t : List Account) (s : Server) (l : List ℕ)
       → (server_step t s l).reply.which ≡ answer rejected → Rejects t s l

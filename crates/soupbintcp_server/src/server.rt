@@ -1,8 +1,9 @@
 // The session at the server.
-#![tactic(auto, using(crate::proofs::Rules::decisions, crate::proofs::Rules::entries, crate::proofs::Rules::last_numbers, crate::proofs::Rules::server_in_rows, crate::proofs::Rules::server_starts, crate::proofs::Rules::server_states, crate::proofs::Rules::waiting_rows))]
-ghost use Rattle.std.specs.Prelude.{◌≡◌, [], ◌∷◌, ◌≤◌, length};
+#![tactic(auto, using(crate::proofs::Rules::entries, crate::proofs::Rules::last_numbers, crate::proofs::Rules::recorded, crate::proofs::Rules::ruled, crate::proofs::Rules::server_starts))]
+
+ghost use Rattle.std.specs.Prelude.{◌≡◌, ◌≤◌, length};
 ghost use Rattle.wire.specs.Refusals.{bad_setting};
-ghost use Rattle.login.specs.Account.{most_accounts, found_in, verdict_on};
+ghost use Rattle.login.specs.Account.{most_accounts, found_in, found_records, verdict_on};
 ghost use Rattle.login.specs.Table.{accounts_of};
 ghost use Rattle.login.specs.Decision.{decision_words};
 ghost use Rattle.soupbintcp.specs.Letters.{login, packet_kind, packet_values, letter_for};
@@ -30,7 +31,7 @@ use wire::kinds::{ByteOffset, SESSION_SIZE, SequenceNumber};
 use wire::refusal::Refusal;
 use wire::{kinds, parts, refusal};
 
-#[derive(Clone, Copy)]
+#[derive(Clone, Copy, Debug, PartialEq, Eq)]
 pub enum ServerState {
     // No login yet.
     Waiting,
@@ -38,7 +39,7 @@ pub enum ServerState {
     Closed,
 }
 
-#[derive(Clone, Copy)]
+#[derive(Clone, Copy, Debug, PartialEq, Eq)]
 pub struct Server {
     pub session: [u8; SESSION_SIZE],
     // The highest message number, 0 if there is none.
@@ -46,8 +47,9 @@ pub struct Server {
     pub state: ServerState,
 }
 
-// A refusal, its number 0 where there is none, and the server.
-#[derive(Clone, Copy)]
+// A refusal, its number 0 where there is none, and the server. It is no Result: with a refusal, too, a server is handed
+// back, and `Server::new` and `Server::with_last` promise which.
+#[derive(Clone, Copy, Debug, PartialEq, Eq)]
 pub struct Started {
     pub refusal: Refusal,
     pub server: Server,
@@ -55,7 +57,7 @@ pub struct Started {
 
 // The answer to the front of a stream, how many bytes it took, and the server to use next. An accepted login is
 // answered to the client with that server's session and the granted number.
-#[derive(Clone, Copy)]
+#[derive(Clone, Copy, Debug, PartialEq, Eq)]
 pub struct Stepped {
     pub answer: Answer,
     pub size: usize,
@@ -91,8 +93,8 @@ fn found_for(table: &[u8], packet: Packet, stream: &[u8]) -> Found
     ensures { result ≡ found_in (accounts_of table.now) (entry_of stream.now) }
 {
     match packet {
-        Packet::Login { number: _ } => table::lookup(table, login_entry(stream)),
-        _ => Found::nobody(),
+        Packet::Login { .. } => table::lookup(table, login_entry(stream)),
+        _ => Ok(None),
     }
 }
 
@@ -121,13 +123,10 @@ impl Server {
         ensures { (result.refusal.number ≡ server_start_refusal session last.0)
             × (result.server ≡ start_server session last.0) }
     {
-        if !session::is_session(&session, false) {
-            return refused_start();
-        }
-        if last.0 < Server::LEAST_LAST.0 {
-            return refused_start();
-        }
-        if Server::LARGEST_LAST.0 < last.0 {
+        if !session::is_session(&session, false)
+            || last < Server::LEAST_LAST
+            || Server::LARGEST_LAST < last
+        {
             return refused_start();
         }
         Started {
@@ -146,31 +145,15 @@ impl Server {
         ensures { (result.refusal.number ≡ last_refusal self last.0)
             × (result.server ≡ with_last self last.0) }
     {
-        if last.0 < self.last.0 {
-            return self.unmoved();
+        if last < self.last || Server::LARGEST_LAST < last {
+            return Started {
+                refusal: refusal::BAD_SETTING,
+                server: self,
+            };
         }
-        if Server::LARGEST_LAST.0 < last.0 {
-            return self.unmoved();
-        }
-        let session = self.session;
-        let state = self.state;
         Started {
             refusal: refusal::NONE,
-            server: Server {
-                session,
-                last,
-                state,
-            },
-        }
-    }
-
-    // 19, and the server as it was.
-    fn unmoved(self) -> Started
-        ensures { (result.refusal.number ≡ bad_setting) × (result.server ≡ self) }
-    {
-        Started {
-            refusal: refusal::BAD_SETTING,
-            server: self,
+            server: Server { last, ..self },
         }
     }
 
@@ -198,10 +181,10 @@ impl Server {
     pub fn step_with(self, found: Found, stream: &[u8]) -> Stepped
         ensures server_steps { ServerSteps result (step_with self (verdict_on found (entry_of stream.now))
             stream.now) }
-        ensures accepts { OnlyByTheRules result (found.account ∷ []) self stream.now }
+        ensures accepts { OnlyByTheRules result (found_records found) self stream.now }
     {
-        if found.too_many {
-            return self.stay(Answer::Refused(refusal::BAD_SETTING));
+        if let Err(r) = found {
+            return self.stay(Answer::Refused(r));
         }
         match front::read(stream, Sender::Client) {
             Front::NeedMore => self.stay(Answer::NeedMore),
@@ -230,28 +213,22 @@ impl Server {
               self.last.0 state;
         } }
     {
-        let session = self.session;
-        let last = self.last;
         Stepped {
             answer,
             size,
-            server: Server {
-                session,
-                last,
-                state,
-            },
+            server: Server { state, ..self },
         }
     }
 
     // The row of the table for the packet that was read in front.
+    #[tactic(auto, unfolding(crate::specs::Server::row_at, soupbintcp_session::specs::Answer::session_answer_words))]
     fn take(self, packet: Packet, size: usize, found: Found, stream: &[u8]) -> Stepped
         requires { (head_size ≤ size) × IsInFront Client (packet_kind packet) stream.now }
         ensures { ServerSteps result (server_row self (verdict_on found (entry_of stream.now))
             (incoming size (letter_for (packet_kind packet)) (packet_values packet)
             (session_of Client stream.now))) }
     {
-        let state = self.state;
-        match state {
+        match self.state {
             ServerState::Waiting => self.take_waiting(packet, size, found, stream),
             ServerState::In => self.take_in(packet, size),
             ServerState::Closed => self.stay(Answer::Refused(refusal::STATE_CLOSED)),
@@ -259,6 +236,7 @@ impl Server {
     }
 
     // Waiting for a login.
+    #[tactic(auto, using(crate::proofs::Rules::waiting_rows, crate::proofs::Rules::entries), unfolding(crate::specs::Server::waiting_row, soupbintcp::specs::Letters::letter_for, soupbintcp::specs::Letters::packet_kind, soupbintcp::specs::Letters::packet_values, soupbintcp_session::specs::Answer::session_answer_words))]
     fn take_waiting(self, packet: Packet, size: usize, found: Found, stream: &[u8]) -> Stepped
         requires { IsInFront Client (packet_kind packet) stream.now }
         ensures { ServerSteps result (waiting_row self (verdict_on found (entry_of stream.now))
@@ -268,10 +246,9 @@ impl Server {
         match packet {
             Packet::Login { number } => {
                 let asked = parts::part(stream, LOGIN_SESSION_AT, SESSION_SIZE);
-                let session = self.session;
-                let last = self.last;
+                let entry = login_entry(stream);
                 self.log_in(
-                    decision::decide(found, login_entry(stream), asked, number, session, last),
+                    decision::decide(found, entry, asked, number, self.session, self.last),
                     size,
                 )
             }
@@ -281,21 +258,23 @@ impl Server {
     }
 
     // A login that was decided on.
-    fn log_in(self, decision: Decision, size: usize) -> Stepped
+    #[tactic(auto, unfolding(crate::specs::Server::login_at, login::specs::Decision::decision_words, soupbintcp_session::specs::Answer::session_answer_words))]
+    fn log_in(self, decision: Result<Decision, Refusal>, size: usize) -> Stepped
         ensures { ServerSteps result (login_row self size (decision_words decision)) }
     {
         match decision {
-            Decision::Accepted { number } => {
+            Ok(Decision::Accepted { number }) => {
                 self.goes(Answer::Accepted { number }, size, ServerState::In)
             }
-            Decision::Rejected { reason } => {
+            Ok(Decision::Rejected { reason }) => {
                 self.goes(Answer::Rejected { reason }, size, ServerState::Closed)
             }
-            Decision::Refused(r) => self.stay(Answer::Refused(r)),
+            Err(r) => self.stay(Answer::Refused(r)),
         }
     }
 
     // Logged in.
+    #[tactic(auto, unfolding(crate::specs::Server::in_row, soupbintcp::specs::Letters::letter_for, soupbintcp::specs::Letters::packet_kind, soupbintcp_session::specs::Answer::session_answer_words))]
     fn take_in(self, packet: Packet, size: usize) -> Stepped
         requires { head_size ≤ size }
         ensures { ServerSteps result (in_row self size (letter_for (packet_kind packet))) }
