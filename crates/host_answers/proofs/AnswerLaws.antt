@@ -1,21 +1,21 @@
 -- Codes by their ladder, and what is left on success and on a refusal.
 use Prim.Native.Nat.{ℕ, zero, suc, ◌+◌, ◌<◌, ◌≤◌}
-use mathlib.Core.List.{List, [], ◌∷◌}
+use mathlib.Core.List.{List, [], ◌∷◌, ◌++◌}
 use mathlib.Core.Bool.{Bool, true, false}
 use mathlib.Core.Path.{◌≡◌, refl, ap, sym, ◌∙◌}
-use lib.ListN.{length, get_or, set}
+use lib.ListN.{length, drop, replicate}
 use lib.Dec.{ltb, eqb}
-use native.Mathlib.Nat.{zero-add}
 use native.Mathlib.Omega.{arith}
 use borrow.Author.Tests.{eq-eqb, ne_eqb, eqb-true, eqb-false, ltb-false, lt-ltb, le-ltb}
 use Rattle.std.specs.Prelude.{if◌then◌else◌}
-use Rattle.wire.proofs.Copy.{Copied, copied-step, copied-end}
+use Rattle.wire.proofs.Cases.{zero_or_not}
 use Rattle.wire.specs.Refusals.{output_short}
 use Rattle.wire.specs.Output.{put, written_words}
+use Rattle.wire.proofs.Outputs.{put-room}
 use Rattle.wire.specs.declared.refusal.Refusal.{Refusal}
 use Rattle.wire.specs.Output.{Written}
-use Rattle.std.specs.Prelude.{Ok, Err}
-use Rattle.host_answers.specs.Answers.{or_else, short, unless_sized, behind_stateless, lent_from, on_success, padded, AnswersWith}
+use Rattle.std.specs.Prelude.{Result, Ok, Err}
+use Rattle.host_answers.specs.Answers.{or_else, short, unless_sized, behind_stateless, lent_from, on_success, padded, said_refusal, said_values, AnswersWith}
 
 -- ---- the ladder
 
@@ -123,14 +123,6 @@ length-padded zero vs = refl
 length-padded (suc n) [] = ap suc (length-padded n [])
 length-padded (suc n) (v ∷ vs) = ap suc (length-padded n vs)
 
--- ---- words laid from the first on
-
-pub laid-step : {d s out : List ℕ} {i : ℕ} → Copied d 0 s out i → i < length s → length s ≤ length d → Copied d 0 s (set out i (get_or s i 0)) (i + 1)
-laid-step {d} {s} {out} {i} c h g = rw zero-add at (copied-step c h (omega arith) (omega arith))
-
-pub laid_end : {d s out : List ℕ} {i : ℕ} → Copied d 0 s out i → length s ≤ i → length s ≤ length d → out ≡ put d 0 s
-laid_end c h g = copied-end c h (omega arith) (omega arith)
-
 -- ---- an answer, by the refusal that its ladder came to
 
 pub not-answered : (r x g : ℕ) (ws vs : List ℕ) → x ≡ or_else g (short (ltb (length ws) (length vs))) → r ≡ x → (r ≡ 0 → ⊥)
@@ -148,15 +140,90 @@ module _ (r g : ℕ) (ws vs : List ℕ) where
   pub answered : (ws' : List ℕ) → r ≡ 0 → g ≡ 0 → length vs ≤ length ws → ws' ≡ put ws 0 vs → AnswersWith r ws ws' g vs
   answered ws' e z h w = record { returns = e ∙ rung-none g _ z (le-ltb _ _ h); words = success r ws' _ ws e w }
 
--- ---- what a writer answered
+-- ---- an answer in values
 
-module _ (w : Written) (r : ℕ) (ws ws' : List ℕ) (lacks : Bool) where
-  pub answers-wrote : (size x : ℕ) → w ≡ Ok size → x ≡ or_else 0 (short lacks) → AnswersWith r ws ws' x (size ∷ [])
-      → AnswersWith r ws ws' (or_else (written_words w).refusal (short lacks)) (padded 1 (written_words w).values)
-  unfolding written_words padded
-  answers-wrote size x e f h = rw (e, ← f) h
+pub no-refusal : {A : Type 0} (vs : A) → 0 ≡ said_refusal (Ok vs)
+unfolding said_refusal
+no-refusal vs = refl
 
-  pub answers-refused : (y : Refusal) (x : ℕ) → w ≡ Err y → x ≡ or_else y.number (short lacks) → AnswersWith r ws ws' x (0 ∷ [])
+pub its-refusal : (A : Type 0) (x : Refusal) → x.number ≡ said_refusal {A = A} (Err x)
+unfolding said_refusal
+its-refusal A x = refl
+
+padded-none : (n : ℕ) → padded n [] ≡ replicate n 0
+unfolding padded
+padded-none zero = refl
+padded-none (suc n) = ap (λ (l : List ℕ). 0 ∷ l) (padded-none n)
+
+-- the values that are laid: those that were said, and zeros of a refusal without a number
+pub record Laid (n : ℕ) (said : Result (List ℕ) Refusal) (vs : List ℕ) : Type 0 where
+  pub none : said_refusal said ≡ 0
+  pub same : said_values n said ≡ vs
+
+module _ (n : ℕ) (said : Result (List ℕ) Refusal) (vs : List ℕ) where
+  pub laid-ok : (ws : List ℕ) → said ≡ Ok ws → vs ≡ ws → Laid n said vs
+  unfolding said_refusal said_values
+  laid-ok ws e f = record { none = rw e refl; same = rw (e, f) refl }
+
+  pub laid-zeros : (x : Refusal) → said ≡ Err x → x.number ≡ 0 → vs ≡ replicate n 0 → Laid n said vs
+  unfolding said_refusal said_values
+  laid-zeros x e z f = record { none = rw e z; same = rw (e, f) (padded-none n) }
+
+  pub said-refused : (x : Refusal) (r : ℕ) (ws : List ℕ) → said ≡ Err x → (x.number ≡ 0 → ⊥) → r ≡ x.number
+      → AnswersWith r ws ws (said_refusal said) (said_values n said)
+  unfolding said_refusal
+  said-refused x r ws e z f =
+      let k : said_refusal said ≡ x.number = rw e refl in
+      answered-refused r (said_refusal said) ws (said_values n said) (f ∙ sym k) (λ y. z (sym k ∙ y))
+
+  pub said-short : (ws : List ℕ) → Laid n said vs → length vs ≡ n → length ws < n → AnswersWith 41 ws ws (said_refusal said) (said_values n said)
+  said-short ws p k h = answered-short 41 (said_refusal said) ws (said_values n said) refl p.none (rw p.same (omega arith))
+
+  pub said-laid : (ws ws' : List ℕ) → Laid n said vs → length vs ≡ n → n ≤ length ws → ws' ≡ vs ++ drop n ws → AnswersWith 0 ws ws' (said_refusal said) (said_values n said)
+  said-laid ws ws' p k h e =
+      let at_end : 0 + length vs ≡ n = omega arith in
+      answered 0 (said_refusal said) ws (said_values n said) ws' refl p.none (rw p.same (omega arith))
+      (rw p.same (e ∙ sym (put-room ws 0 vs (omega arith) ∙ rw (at_end) refl)))
+
+-- a refused answer lays no values, so that it answers any
+pub any-values : (r g : ℕ) (ws ws' vs vs' : List ℕ) → (g ≡ 0 → ⊥) → AnswersWith r ws ws' g vs → AnswersWith r ws ws' g vs'
+any-values r g ws ws' vs vs' z a =
+    let e : r ≡ g = a.returns ∙ sym (or-first g _ z) in
+    let n : r ≡ 0 → ⊥ = λ (y : r ≡ 0). z (sym e ∙ y) in
+    record { returns = e ∙ or-first g _ z; words = a.words ∙ sym (no-success r _ ws n) ∙ no-success r _ ws n }
+
+-- what was kept but for a refusal answers the values that it was kept of
+pub kept-values : (r n : ℕ) (ws ws' : List ℕ) (a b : Result (List ℕ) Refusal) → (said_refusal b ≡ 0 → b ≡ a)
+    → AnswersWith r ws ws' (said_refusal b) (said_values n b) → AnswersWith r ws ws' (said_refusal b) (said_values n a)
+kept-values r n ws ws' a b k h =
+    zero_or_not _ (said_refusal b) (λ z. rw (← k z) h) (λ z. any-values r (said_refusal b) ws ws' (said_values n b) (said_values n a) z h)
+
+-- a writer's answer in values
+unfoldable pub values-of-writer : Written → Result (List ℕ) Refusal
+values-of-writer (Ok size) = Ok (size ∷ [])
+values-of-writer (Err x) = Err x
+
+-- ---- what a writer answered: w is that, and what is left of it but for 41
+
+module _ (w : Written) (lacks : Bool) (r : ℕ) (ws ws' : List ℕ) where
+  said-written : (written_words w).refusal ≡ said_refusal w
+  unfolding written_words said_refusal
+  said-written = go w
+    where
+      go : (v : Written) → (written_words v).refusal ≡ said_refusal v
+      go (Ok size) = refl
+      go (Err x) = refl
+
+  kept-written : (v : Written) → v ≡ w → said_values 1 (values-of-writer v) ≡ padded 1 (written_words w).values
+  unfolding said_values values-of-writer written_words padded
+  kept-written (Ok size) e = rw (← e) refl
+  kept-written (Err x) e = rw (← e) refl
+
+  pub answers-written : (v : Written) → said_refusal v ≡ or_else (said_refusal w) (short lacks) → (said_refusal v ≡ 0 → v ≡ w)
+      → AnswersWith r ws ws' (said_refusal v) (said_values 1 (values-of-writer v))
       → AnswersWith r ws ws' (or_else (written_words w).refusal (short lacks)) (padded 1 (written_words w).values)
-  unfolding written_words padded
-  answers-refused y x e f h = rw (e, ← f) h
+  answers-written v e k a =
+      rw (said-written, ← e)
+      (zero_or_not _ (said_refusal v)
+      (λ z. rw (kept-written v (k z)) at a)
+      (λ z. any-values r (said_refusal v) ws ws' (said_values 1 (values-of-writer v)) (padded 1 (written_words w).values) z a))

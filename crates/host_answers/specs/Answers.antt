@@ -1,8 +1,9 @@
 -- What an exported function answers: its code, and what it leaves in lent words and in a lent output.
-use Rattle.std.specs.Prelude.{ℕ, zero, suc, List, [], ◌∷◌, ◌++◌, Bool, true, false, not, ◌≡◌, length, drop, ltb, eqb, if◌then◌else◌}
+use Rattle.std.specs.Prelude.{ℕ, zero, suc, List, [], ◌∷◌, ◌++◌, Bool, true, false, not, ◌≡◌, length, drop, ltb, eqb, if◌then◌else◌, Result, Ok, Err}
 use Rattle.wire.specs.Bounds.{session_size}
 use Rattle.wire.specs.Refusals.{output_short}
 use Rattle.wire.specs.Words.{Words, Case, answer, refused}
+use Rattle.wire.specs.declared.refusal.Refusal.{Refusal}
 use Rattle.wire.specs.Output.{put, write_refusal}
 
 -- ---- the code: 0, or the number of a refusal, by a ladder of grounds that ends with 41
@@ -63,6 +64,16 @@ words_at table n refused vs = padded n []
 -- n words of an answer
 abbrev pub words_of : {K : Type 0} → (K → ℕ) → ℕ → Words K → List ℕ
 words_of table n w = words_at table n w.which w.values
+
+-- an answer that was put into values, or refused: the number of its refusal, 0 where it has values
+unfoldable pub said_refusal : {A : Type 0} → Result A Refusal → ℕ
+said_refusal (Ok vs) = 0
+said_refusal (Err r) = r.number
+
+-- and its n values; of a refused one they are zeros, and never laid
+unfoldable pub said_values : ℕ → Result (List ℕ) Refusal → List ℕ
+said_values n (Ok vs) = vs
+said_values n (Err r) = padded n []
 
 -- ---- the promises, of a function that answers r
 

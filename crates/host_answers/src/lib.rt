@@ -2,9 +2,10 @@
 // success alone. 41, for lent memory that is too short, comes behind every other ground.
 #![tactic(auto, using(crate::proofs::Rules::answers, crate::proofs::Rules::ladders))]
 
-ghost use Rattle.std.specs.Prelude.{◌≡◌, ◌≤◌, length};
-ghost use Rattle.wire.specs.Output.{put, written_words};
+ghost use Rattle.std.specs.Prelude.{◌≡◌};
+ghost use Rattle.wire.specs.Output.{written_words};
 ghost use Rattle.host_answers.specs.Answers.{or_else, short, unless_sized, flag, padded, AnswersWith};
+ghost use Rattle.host_answers.specs.Answers.{said_refusal, said_values};
 ghost use Rattle.host_answers.specs.Answers.{HostPromises, behind_stateless, lent_from};
 
 use wire::refusal;
@@ -19,42 +20,51 @@ pub const SHORT: u32 = refusal::OUTPUT_SHORT.number as u32;
 // The last refusal that needs no session.
 pub const LAST_OF_STREAM: u8 = refusal::FIELD_BAD.number;
 
-// A refusal, or 41 where lent memory is too short.
-pub fn or_short(refused: Refusal, lacks: bool) -> Refusal
-    ensures { result.number ≡ or_else refused.number (short lacks) }
+// The code of an answer: the number of its refusal, 0 where it has values.
+#[tactic(auto, unfolding(crate::specs::Answers::said_refusal))]
+pub fn code<T: Copy>(said: Result<T, Refusal>) -> u8
+    ensures { result ≡ said_refusal said }
 {
-    if refused.number != 0 {
-        return refused;
+    match said {
+        Ok(_) => 0,
+        Err(r) => r.number,
     }
-    if lacks {
-        return refusal::OUTPUT_SHORT;
+}
+
+// An answer, or 41 where lent memory is too short.
+pub fn or_short<T: Copy>(said: Result<T, Refusal>, lacks: bool) -> Result<T, Refusal>
+    ensures refused { said_refusal result ≡ or_else (said_refusal said) (short lacks) }
+    ensures kept { said_refusal result ≡ 0 → result ≡ said }
+{
+    if code(said) == 0 && lacks {
+        Err(refusal::OUTPUT_SHORT)
+    } else {
+        said
     }
-    refusal::NONE
 }
 
 // The refusal of an input of a fixed size that has another one; else the function's own.
 pub fn unless_sized(lent: usize, size: usize, refused: Refusal, own: Refusal) -> Refusal
     ensures { result.number ≡ unless_sized lent size refused.number own.number }
 {
-    if lent == size {
-        return own;
-    }
-    refused
+    if lent == size { own } else { refused }
 }
 
-// The refusal of a call whose state may be too short: those up to the last that needs no state come before 41.
-pub fn behind_stateless(lacks: bool, last: u8, refused: Refusal) -> Refusal
-    ensures { result.number ≡ behind_stateless lacks last refused.number }
+// The answer of a call whose state may be too short: the refusals up to the last that needs no state come before 41.
+pub fn behind_stateless<T: Copy>(
+    lacks: bool,
+    last: u8,
+    said: Result<T, Refusal>,
+) -> Result<T, Refusal>
+    ensures refused { said_refusal result ≡ behind_stateless lacks last (said_refusal said) }
+    ensures kept { said_refusal result ≡ 0 → result ≡ said }
 {
-    if lacks {
-        if refused.number == 0 {
-            return refusal::OUTPUT_SHORT;
-        }
-        if last < refused.number {
-            return refusal::OUTPUT_SHORT;
-        }
+    let own = code(said);
+    if lacks && (own == 0 || last < own) {
+        Err(refusal::OUTPUT_SHORT)
+    } else {
+        said
     }
-    refused
 }
 
 // From where on an output is lent to a writer: at its end, so that there is none, where other memory is too short.
@@ -69,32 +79,22 @@ pub fn lent_from(lacks: bool, size: usize) -> usize
 pub fn flag(set: bool) -> u64
     ensures { result ≡ flag set }
 {
-    if set { 1 } else { 0 }
+    u64::from(set)
 }
 
-// Lays values into words that have room for them.
-fn lay(words: &mut [u64], values: &[u64])
-    requires { length values.now ≤ length words.old }
-    ensures { words.new ≡ put words.old 0 values.now }
+// Answers values, or a refusal by its number.
+pub fn answer<const N: usize>(words: &mut [u64], said: Result<[u64; N], Refusal>) -> u32
+    ensures { AnswersWith result words.old words.new (said_refusal said.entry) (said_values N said.entry) }
 {
-    let mut i: usize = 0;
-    while i < values.len() {
-        words[i] = values[i];
-        i += 1;
-    }
-}
-
-// Answers a refusal, or values.
-pub fn answer(words: &mut [u64], refused: Refusal, values: &[u64]) -> u32
-    ensures { AnswersWith result words.old words.new refused.number values.now }
-{
-    if refused.number != 0 {
-        return refused.number as u32;
-    }
-    if words.len() < values.len() {
+    let values = match said {
+        Ok(values) => values,
+        Err(r) if r.number != 0 => return u32::from(r.number),
+        Err(_) => [0; N],
+    };
+    if words.len() < N {
         return SHORT;
     }
-    lay(words, values);
+    words[..N].copy_from_slice(&values);
     0
 }
 
@@ -105,8 +105,8 @@ pub fn answer_written(words: &mut [u64], lacks: bool, written: Result<usize, Ref
         (or_else (written_words written).refusal (short lacks)) (padded 1 (written_words written).values) }
     ensures promises { HostPromises }
 {
-    match written {
-        Ok(size) => answer(words, or_short(refusal::NONE, lacks), &[size as u64]),
-        Err(r) => answer(words, or_short(r, lacks), &[0]),
+    match or_short(written, lacks) {
+        Ok(size) => answer(words, Ok([size as u64])),
+        Err(r) => answer::<WRITTEN_WORDS>(words, Err(r)),
     }
 }
