@@ -22,7 +22,7 @@ pub const LAST_OF_STREAM: u8 = refusal::FIELD_BAD.number;
 
 // The code of an answer: the number of its refusal, 0 where it has values.
 #[tactic(auto, unfolding(crate::specs::Answers::said_refusal))]
-pub fn code<T: Copy>(said: Result<T, Refusal>) -> u8
+fn code<T: Copy>(said: Result<T, Refusal>) -> u8
     ensures { result ≡ said_refusal said }
 {
     match said {

@@ -1,13 +1,16 @@
 -- Laws of little-endian numbers, over the width, and as the code has them.
 use mathlib.Core.Path.{◌≡◌, refl, ap, sym, ◌∙◌}
 use mathlib.Core.List.{List, [], ◌∷◌, ◌++◌, append_assoc}
-use Prim.Native.Nat.{ℕ, zero, suc, ◌+◌, ◌*◌, ◌/◌, ◌%◌, ◌-◌, ◌^◌, ◌≤◌, ◌<◌}
+use Prim.Native.Nat.{ℕ, zero, suc, ◌+◌, ◌*◌, ◌/◌, ◌%◌, ◌^◌, ◌≤◌, ◌<◌}
 use native.Mathlib.Omega.{arith}
 use native.Mathlib.Nat.{add-zero, pow-suc}
-use lib.ListN.{length, get_or, set, take, drop, length-append, length-set, get_or-eq_default}
-use lib.Seq.{sets-eq, get_or_at, get_or-drop, length-take-le}
+use lib.ListN.{length, get_or, take, drop, length-append, get_or-eq_default}
+use lib.Seq.{get_or_at, get_or-drop, length-take-le}
+use mir.Syntax.{w16, w64}
+use Rattle.std.specs.Int.{to_le_bytes}
+use Rattle.std.proofs.Math.Nat.{div-div-eq-div-mul}
 use Rattle.wire.specs.Output.{put}
-use Rattle.wire.proofs.Outputs.{put-room, put-none}
+use Rattle.wire.proofs.Outputs.{put-room}
 use Rattle.host_states.specs.Little.{little, little_bytes, LittleReadsBack}
 
 pub length-little : (n v : ℕ) → length (little_bytes n v) ≡ n
@@ -60,26 +63,6 @@ pub get-2 : (l : List ℕ) (at r a b : ℕ) → a ≡ get_or l at 0 → b ≡ ge
 unfolding little
 get-2 l at r a b p q e = rw (e, p, q) (simp add-zero)
 
-pub put_2 : (l : List ℕ) (at v a b : ℕ) → at + 2 ≤ length l → a ≡ v % 256 → b ≡ v / 256 % 256 → set (set l at a) (at + 1) b ≡ put l at (little_bytes 2 v)
-unfolding little_bytes
-put_2 l at v a b r ea eb =
-    let o : at + 1 ≡ suc at = omega arith in
-    let x : List ℕ = a ∷ b ∷ [] in
-    rw (← ea, ← eb, o) (sets-eq x l at r ∙ sym (put-room l at x r))
-
-pub within-one : (l : List ℕ) (at a : ℕ) → at + 2 ≤ length l → at + 1 < length (set l at a)
-within-one l at a r = simp length-set (omega arith)
-
--- where there is no room nothing is laid
-pub put-past : (l : List ℕ) (at n v : ℕ) → length l < at → l ≡ put l at (little_bytes n v)
-put-past l at n v h = sym (put-none l at (little_bytes n v) (omega arith))
-
-pub put-over : (l : List ℕ) (at n v : ℕ) → at ≤ length l → length l - at < n → l ≡ put l at (little_bytes n v)
-put-over l at n v h k = sym (put-none l at (little_bytes n v) (omega (arith, length-little n v)))
-
-pub room : (n at : ℕ) (l : List ℕ) → at ≤ length l → n ≤ length l - at → at + n ≤ length l
-room n at l h k = omega arith
-
 eight : (l : List ℕ) (at : ℕ)
     → little l at 8
     ≡ get_or l at 0 + 256 * (get_or l (at + 1) 0 + 256 * (get_or l (at + 2) 0 + 256 * (get_or l (at + 3) 0 + 256 * (get_or l (at + 4) 0 + 256 * (get_or l (at + 5) 0 + 256 * (get_or l (at + 6) 0 + 256 * get_or l (at + 7) 0))))))
@@ -99,47 +82,20 @@ pub get-8 : (l : List ℕ) (at r a b c d e f g h : ℕ) → a ≡ get_or l at 0 
     → r ≡ little l at 8
 get-8 l at r a b c d e f g h pa pb pc pd pe pf pg ph x = x ∙ rw (pa, pb, pc, pd, pe, pf, pg, ph) (sym (eight l at))
 
-pub put-8 : (l : List ℕ) (at v a b c d e f g h : ℕ) → at + 8 ≤ length l → a ≡ v % 256 → b ≡ v / 256 % 256 → c ≡ v / 256 / 256 % 256
-    → d ≡ v / 256 / 256 / 256 % 256 → e ≡ v / 256 / 256 / 256 / 256 % 256 → f ≡ v / 256 / 256 / 256 / 256 / 256 % 256
-    → g ≡ v / 256 / 256 / 256 / 256 / 256 / 256 % 256 → h ≡ v / 256 / 256 / 256 / 256 / 256 / 256 / 256 % 256
-    → set (set (set (set (set (set (set (set l at a) (at + 1) b) (at + 2) c) (at + 3) d) (at + 4) e) (at + 5) f) (at + 6) g) (at + 7) h
-    ≡ put l at (little_bytes 8 v)
-unfolding little_bytes
-put-8 l at v a b c d e f g h r ea eb ec ed ee ef eg eh =
-    let o : at + 1 ≡ suc at = omega arith in
-    let p : at + 2 ≡ suc (suc at) = omega arith in
-    let q : at + 3 ≡ suc (suc (suc at)) = omega arith in
-    let s : at + 4 ≡ suc (suc (suc (suc at))) = omega arith in
-    let t : at + 5 ≡ suc (suc (suc (suc (suc at)))) = omega arith in
-    let u : at + 6 ≡ suc (suc (suc (suc (suc (suc at))))) = omega arith in
-    let w : at + 7 ≡ suc (suc (suc (suc (suc (suc (suc at)))))) = omega arith in
-    let x : List ℕ = a ∷ b ∷ c ∷ d ∷ e ∷ f ∷ g ∷ h ∷ [] in
-    rw (← ea, ← eb, ← ec, ← ed, ← ee, ← ef, ← eg, ← eh, o, p, q, s, t, u, w) (sets-eq x l at r ∙ sym (put-room l at x r))
-
 pub little-reads-back : LittleReadsBack
 little-reads-back = reads_back
 
--- the stores are within, and keep the length
-pub within-1 : (l : List ℕ) (at a : ℕ) → at + 8 ≤ length l → at + 1 < length (set l at a)
-within-1 l at a r = simp length-set (omega arith)
+-- the library's bytes of a number, the least significant first
+bytes-2 : (v : ℕ) → little_bytes 2 v ≡ to_le_bytes w16 v
+unfolding little_bytes
+bytes-2 v = refl
 
-pub within-2 : (l : List ℕ) (at a b : ℕ) → at + 8 ≤ length l → at + 2 < length (set (set l at a) (at + 1) b)
-within-2 l at a b r = simp length-set (omega arith)
+pub little-16 : (l m bs : List ℕ) (at v : ℕ) → m ≡ put l at bs → bs ≡ to_le_bytes w16 v → m ≡ put l at (little_bytes 2 v)
+little-16 l m bs at v w e = rw (bytes-2 v) (rw e at w)
 
-pub within-3 : (l : List ℕ) (at a b c : ℕ) → at + 8 ≤ length l → at + 3 < length (set (set (set l at a) (at + 1) b) (at + 2) c)
-within-3 l at a b c r = simp length-set (omega arith)
+bytes-8 : (v : ℕ) → little_bytes 8 v ≡ to_le_bytes w64 v
+unfolding little_bytes
+bytes-8 v = simp div-div-eq-div-mul
 
-pub within-4 : (l : List ℕ) (at a b c d : ℕ) → at + 8 ≤ length l → at + 4 < length (set (set (set (set l at a) (at + 1) b) (at + 2) c) (at + 3) d)
-within-4 l at a b c d r = simp length-set (omega arith)
-
-pub within-5 : (l : List ℕ) (at a b c d e : ℕ) → at + 8 ≤ length l → at + 5 < length (set (set (set (set (set l at a) (at + 1) b) (at + 2) c) (at + 3) d) (at + 4) e)
-within-5 l at a b c d e r = simp length-set (omega arith)
-
-pub within-6 : (l : List ℕ) (at a b c d e f : ℕ) → at + 8 ≤ length l → at + 6 < length (set (set (set (set (set (set l at a) (at + 1) b) (at + 2) c) (at + 3) d) (at + 4) e) (at + 5) f)
-within-6 l at a b c d e f r = simp length-set (omega arith)
-
-pub within-7 : (l : List ℕ) (at a b c d e f g : ℕ) → at + 8 ≤ length l → at + 7 < length (set (set (set (set (set (set (set l at a) (at + 1) b) (at + 2) c) (at + 3) d) (at + 4) e) (at + 5) f) (at + 6) g)
-within-7 l at a b c d e f g r = simp length-set (omega arith)
-
-pub kept-8 : (l : List ℕ) (at a b c d e f g h : ℕ) → length (set (set (set (set (set (set (set (set l at a) (at + 1) b) (at + 2) c) (at + 3) d) (at + 4) e) (at + 5) f) (at + 6) g) (at + 7) h) ≡ length l
-kept-8 l at a b c d e f g h = simp length-set
+pub little-64 : (l m bs : List ℕ) (at v : ℕ) → m ≡ put l at bs → bs ≡ to_le_bytes w64 v → m ≡ put l at (little_bytes 8 v)
+little-64 l m bs at v w e = rw (bytes-8 v) (rw e at w)

@@ -1,9 +1,9 @@
 -- The laws that the functions' proofs need, for `search`: one set for each file of src/.
 use borrow.Author.Rules.{rules}
-use Rattle.host_states.proofs.LittleLaws.{get-2, get-8, put_2, put-8, put-past, put-over, room, little-past, little-reads-back, within-one, within-1, within-2, within-3, within-4, within-5, within-6, within-7, kept-8}
+use Rattle.host_states.proofs.LittleLaws.{get-2, get-8, little-past, little-reads-back, little-16, little-64}
 use Rattle.host_states.proofs.StateLaws.{open-test, open-byte-yes, open-byte-no, kept-own, kept-short, kept-zero, front-put, front-none, front_kept, front-kept-none}
 
-pub ruleset numbers = (get-2, get-8, put_2, put-8, put-past, put-over, room, little-past, little-reads-back, within-one, within-1, within-2, within-3, within-4, within-5, within-6, within-7, kept-8, rules)
+pub ruleset numbers = (get-2, get-8, little-past, little-reads-back, little-16, little-64, rules)
 
 pub ruleset states = (open-test, open-byte-yes, open-byte-no, kept-own, kept-short, kept-zero, rules)
 

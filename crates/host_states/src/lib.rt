@@ -91,11 +91,9 @@ pub fn keep_front(state: &mut [u8], first: u8, number: u64)
 pub fn with_room(code: u32, lent: usize, size: usize) -> u32
     ensures { result ≡ or_else code (short (ltb lent size)) }
 {
-    if code != 0 {
-        return code;
+    if code == 0 && lent < size {
+        host_answers::SHORT
+    } else {
+        code
     }
-    if lent < size {
-        return host_answers::SHORT;
-    }
-    0
 }

@@ -1,11 +1,13 @@
 // Little-endian numbers, which the compiler reads and lays at once where the size of the state was tested before.
 // A byte past the end counts as 0, and where there is no room nothing is laid.
 #![tactic(auto, using(crate::proofs::Rules::numbers))]
-ghost use Rattle.std.specs.Prelude.{◌≡◌, ◌+◌, ◌*◌, ◌%◌, ◌≤◌, length};
+
+ghost use Rattle.std.specs.Prelude.{◌≡◌, ◌+◌, ◌*◌};
 ghost use Rattle.wire.specs.Output.{put};
 ghost use Rattle.host_states.specs.Little.{little, little_bytes, LittleReadsBack};
 
 use wire::kinds::ByteOffset;
+use wire::output;
 use wire::parts::byte;
 
 fn join16(a: u8, b: u8) -> u16
@@ -60,50 +62,12 @@ pub fn get64(s: &[u8], at: ByteOffset) -> u64
     )
 }
 
-// The least significant byte of a number.
-fn low(number: u64) -> u8
-    ensures { result ≡ number % 256 }
-{
-    (number % 256) as u8
-}
-
 // Lays a 16-bit number.
 pub fn put16(out: &mut [u8], at: ByteOffset, number: u16)
     ensures out_after { out.new ≡ put out.old at.0 (little_bytes 2 number) }
     ensures reads_back { LittleReadsBack }
 {
-    let i = at.0;
-    if out.len() < i {
-        return;
-    }
-    if out.len() - i < 2 {
-        return;
-    }
-    let a = number as u64;
-    out[i] = low(a);
-    out[i + 1] = low(a / 256);
-}
-
-// Lays eight bytes of a number where they have room.
-fn lay64(out: &mut [u8], i: usize, number: u64)
-    requires { i + 8 ≤ length out.old }
-    ensures { out.new ≡ put out.old i (little_bytes 8 number) }
-{
-    let b = number / 256;
-    let c = b / 256;
-    let d = c / 256;
-    let e = d / 256;
-    let f = e / 256;
-    let g = f / 256;
-    let h = g / 256;
-    out[i] = low(number);
-    out[i + 1] = low(b);
-    out[i + 2] = low(c);
-    out[i + 3] = low(d);
-    out[i + 4] = low(e);
-    out[i + 5] = low(f);
-    out[i + 6] = low(g);
-    out[i + 7] = low(h);
+    output::lay(out, at, &number.to_le_bytes());
 }
 
 // Lays a 64-bit number.
@@ -111,12 +75,5 @@ pub fn put64(out: &mut [u8], at: ByteOffset, number: u64)
     ensures out_after { out.new ≡ put out.old at.0 (little_bytes 8 number) }
     ensures reads_back { LittleReadsBack }
 {
-    let i = at.0;
-    if out.len() < i {
-        return;
-    }
-    if out.len() - i < 8 {
-        return;
-    }
-    lay64(out, i, number);
+    output::lay(out, at, &number.to_le_bytes());
 }
