@@ -37,16 +37,12 @@ const REFUSED: Client = Client {
 fn state_of(opened: bool, phase: u8) -> ClientState
     ensures { result ≡ client_state_of opened phase }
 {
-    if opened {
-        if phase == IN {
-            return ClientState::In;
-        }
-        return ClientState::Asked;
+    match (opened, phase) {
+        (true, IN) => ClientState::In,
+        (true, _) => ClientState::Asked,
+        (false, ENDED) => ClientState::Ended,
+        (false, _) => ClientState::Closed,
     }
-    if phase == ENDED {
-        return ClientState::Ended;
-    }
-    ClientState::Closed
 }
 
 fn phase_of(state: ClientState) -> u8
@@ -63,12 +59,7 @@ fn phase_of(state: ClientState) -> u8
 fn is_open(state: ClientState) -> bool
     ensures { result ≡ client_is_open state }
 {
-    match state {
-        ClientState::Asked => true,
-        ClientState::In => true,
-        ClientState::Ended => false,
-        ClientState::Closed => false,
-    }
+    matches!(state, ClientState::Asked | ClientState::In)
 }
 
 // The client in some bytes.
@@ -95,14 +86,12 @@ pub fn write(state: &mut [u8], code: u32, client: Client) -> u32
     ensures keeps { KeepsClient (on_code result) state.old state.new client }
     ensures promises { StatePromises KeepsClient session_state_size client_bytes }
 {
-    let session = client.session;
-    let phase = client.state;
     host_session::lay(
         state,
         code,
-        host_states::open_byte(CLIENT, is_open(phase)),
-        session,
+        host_states::open_byte(CLIENT, is_open(client.state)),
+        client.session,
         client.number.0,
-        phase_of(phase),
+        phase_of(client.state),
     )
 }

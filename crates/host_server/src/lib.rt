@@ -36,13 +36,11 @@ const REFUSED: Server = Server {
 fn state_of(opened: bool, phase: u8) -> ServerState
     ensures { result ≡ server_state_of opened phase }
 {
-    if !opened {
-        return ServerState::Closed;
+    match (opened, phase) {
+        (true, IN) => ServerState::In,
+        (true, _) => ServerState::Waiting,
+        (false, _) => ServerState::Closed,
     }
-    if phase == IN {
-        return ServerState::In;
-    }
-    ServerState::Waiting
 }
 
 fn phase_of(state: ServerState) -> u8
@@ -58,11 +56,7 @@ fn phase_of(state: ServerState) -> u8
 fn is_open(state: ServerState) -> bool
     ensures { result ≡ server_is_open state }
 {
-    match state {
-        ServerState::Waiting => true,
-        ServerState::In => true,
-        ServerState::Closed => false,
-    }
+    matches!(state, ServerState::Waiting | ServerState::In)
 }
 
 // The server in some bytes.
@@ -89,15 +83,13 @@ pub fn write(state: &mut [u8], code: u32, server: Server) -> u32
     ensures keeps { KeepsServer (on_code result) state.old state.new server }
     ensures promises { StatePromises KeepsServer session_state_size server_bytes }
 {
-    let session = server.session;
-    let phase = server.state;
     host_session::lay(
         state,
         code,
-        host_states::open_byte(SERVER, is_open(phase)),
-        session,
+        host_states::open_byte(SERVER, is_open(server.state)),
+        server.session,
         server.last.0,
-        phase_of(phase),
+        phase_of(server.state),
     )
 }
 
@@ -107,12 +99,11 @@ pub fn keep(state: &mut [u8], code: u32, after: Server) -> u32
     ensures keeps { KeepsServer (on_code result) state.old state.new
         (server (name_in state.old) after.last.0 after.state) }
 {
-    let phase = after.state;
     host_session::keep(
         state,
         code,
-        host_states::open_byte(SERVER, is_open(phase)),
+        host_states::open_byte(SERVER, is_open(after.state)),
         after.last.0,
-        phase_of(phase),
+        phase_of(after.state),
     )
 }

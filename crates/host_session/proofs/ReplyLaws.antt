@@ -1,6 +1,5 @@
 -- The words of answers.
 use Prim.Native.Nat.{ℕ, ◌<◌}
-use mathlib.Core.List.{List}
 use mathlib.Core.Path.{◌≡◌, refl}
 use native.Mathlib.Omega.{arith}
 use lib.ListN.{length}
@@ -10,16 +9,7 @@ use Rattle.wire.proofs.Words.{read_back}
 use Rattle.soupbintcp_session.specs.declared.answer.Answer.{Answer}
 use Rattle.soupbintcp_session.specs.declared.answer.Answer.TheVariants as case
 use Rattle.soupbintcp_session.specs.Answer.{SessionAnswerKind, wants_more, accepted, rejected, sequenced, unsequenced, heartbeat, debug, logged_out, end_of_session, session_answer_words}
-use Rattle.host_answers.specs.Answers.{words_of}
-use Rattle.host_session.specs.Replies.{session_answer_number, sized, SessionNumbersApart}
-
--- an answer of a known case y
-pub answer-refusal : {x y : Answer} {g : ℕ} → x ≡ y → g ≡ (session_answer_words y).refusal → g ≡ (session_answer_words x).refusal
-answer-refusal e h = rw e h
-
-pub answer-words : {x y : Answer} {ws : List ℕ} (size : ℕ) → x ≡ y → ws ≡ words_of session_answer_number 5 (sized size (session_answer_words y))
-    → ws ≡ words_of session_answer_number 5 (sized size (session_answer_words x))
-answer-words size e h = rw e h
+use Rattle.host_session.specs.Replies.{session_answer_number, SessionNumbersApart}
 
 -- the numbers tell answers apart: each is read back
 unfoldable reply-of : ℕ → SessionAnswerKind

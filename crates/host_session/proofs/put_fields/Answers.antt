@@ -1,0 +1,5 @@
+use Rattle.host_session.proofs.Rules.{sessions}
+use Rattle.host_session.proofs.put_fields.Goals as goal
+
+pub returns : goal.returns
+returns c = search sessions
