@@ -1,7 +1,5 @@
 -- The laws that the functions' proofs need, for `search`: one set for each.
 use borrow.Author.Rules.{rules}
-use Rattle.exports_scan.proofs.ScanLaws.{stop-more, stop-refused, scan-answers, scan-only}
-
-pub ruleset stops = (stop-more, stop-refused, rules)
+use Rattle.exports_scan.proofs.ScanLaws.{scan-answers, scan-only}
 
 pub ruleset answers = (scan-answers, scan-only, rules)

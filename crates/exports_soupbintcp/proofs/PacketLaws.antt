@@ -1,13 +1,12 @@
 -- The words of what stands at the front of a stream, and of a scan.
 use Prim.Native.Nat.{ℕ, ◌<◌}
-use mathlib.Core.List.{List, [], ◌∷◌}
+use mathlib.Core.List.{List, ◌∷◌}
 use mathlib.Core.Path.{◌≡◌, refl}
 use native.Mathlib.Omega.{arith}
 use lib.ListN.{length}
 use lib.Dec.{eqb}
 use Rattle.std.specs.Prelude.{if◌then◌else◌}
 use Rattle.wire.proofs.Words.{read_back}
-use Rattle.wire.specs.declared.refusal.Refusal.{Refusal}
 use Rattle.soupbintcp.specs.declared.packet.Sender.{Sender}
 use Rattle.soupbintcp.specs.declared.packet.Packet.{Packet}
 use Rattle.soupbintcp.specs.declared.packet.Packet.TheVariants as case
@@ -15,7 +14,7 @@ use Rattle.soupbintcp.specs.declared.front.Front.{Front}
 use Rattle.soupbintcp.specs.declared.front.Front.TheVariants.{Whole, NeedMore, Refused}
 use Rattle.soupbintcp.specs.Letters.{debug, accepted, rejected, sequenced, server_heartbeat, end_of_session, login, unsequenced, client_heartbeat, logout, packet_kind, packet_values, letter_for, letter_debug, letter_accepted, letter_rejected, letter_sequenced, letter_server_heartbeat, letter_end, letter_login, letter_unsequenced, letter_client_heartbeat, letter_logout}
 use Rattle.soupbintcp.specs.Front.{FrontKind, packet, wants_more, front_words, front_of}
-use Rattle.host_answers.specs.Answers.{padded, words_at, words_of, AnswersWith}
+use Rattle.host_answers.specs.Answers.{padded, words_of, AnswersWith}
 use Rattle.host_sender.specs.Sender.{sender_of}
 use Rattle.exports_soupbintcp.specs.Packets.{front_number, FrontsApart}
 
@@ -23,33 +22,6 @@ use Rattle.exports_soupbintcp.specs.Packets.{front_number, FrontsApart}
 pub packet-words : {x y : Packet} {ws : List ℕ} (size : ℕ) → x ≡ y → ws ≡ padded 3 (letter_for (packet_kind y) ∷ size ∷ packet_values y)
     → ws ≡ padded 3 (letter_for (packet_kind x) ∷ size ∷ packet_values x)
 packet-words size e h = rw e h
-
--- the front of a known case
-module _ (x : Front) where
-  pub whole-refusal : (p : Packet) (size : ℕ) → x ≡ Whole p size → 0 ≡ (front_words x).refusal
-  unfolding front_words
-  whole-refusal p size e = rw e
-
-  pub whole_words : (p : Packet) (size : ℕ) (ws : List ℕ) → x ≡ Whole p size → ws ≡ padded 3 (letter_for (packet_kind p) ∷ size ∷ packet_values p)
-      → ws ≡ words_of front_number 3 (front_words x)
-  unfolding front_words words_at front_number
-  whole_words p size ws e h = rw e h
-
-  pub more-refusal : x ≡ NeedMore → 0 ≡ (front_words x).refusal
-  unfolding front_words
-  more-refusal e = rw e
-
-  pub more-words : x ≡ NeedMore → 0 ∷ 0 ∷ 0 ∷ [] ≡ words_of front_number 3 (front_words x)
-  unfolding front_words words_at front_number padded
-  more-words e = rw e
-
-  pub refused-refusal : (r : Refusal) → x ≡ Refused r → r.number ≡ (front_words x).refusal
-  unfolding front_words
-  refused-refusal r e = rw e
-
-  pub refused-words : (r : Refusal) → x ≡ Refused r → 0 ∷ 0 ∷ 0 ∷ [] ≡ words_of front_number 3 (front_words x)
-  unfolding front_words words_at padded
-  refused-words r e = rw e
 
 module _ (n : ℕ) (s : Sender) (l : List ℕ) (r : ℕ) (ws ws' : List ℕ) (e : s ≡ sender_of n) where
   pub read-answers : (x : Front) (g : ℕ) (vs : List ℕ) → front_words x ≡ front_of s l → g ≡ (front_words x).refusal → vs ≡ words_of front_number 3 (front_words x)

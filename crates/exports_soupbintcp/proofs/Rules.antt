@@ -4,11 +4,9 @@ use mathlib.Core.Path.{refl}
 use Rattle.host_answers.proofs.WritingLaws.{lent-within, writing-plain}
 use Rattle.exports_soupbintcp.proofs.NameLaws.{missized, missized-behind, accepted-reported, login-reported}
 use Rattle.exports_soupbintcp.proofs.RefusalLaws.{read_only, missized-only, bare-only, payload-only, accepted-only, reason-only, login-only}
-use Rattle.exports_soupbintcp.proofs.PacketLaws.{packet-words, whole-refusal, whole_words, more-refusal, more-words, refused-refusal, refused-words, read-answers, fronts-apart}
+use Rattle.exports_soupbintcp.proofs.PacketLaws.{packet-words, read-answers, fronts-apart}
 
 pub ruleset packets = (packet-words, refl, rules)
-
-pub ruleset fronts = (whole-refusal, whole_words, more-refusal, more-words, refused-refusal, refused-words, rules)
 
 pub ruleset answers = (fronts-apart, read-answers, read_only, rules)
 

@@ -1,5 +1,6 @@
 // The writers of packets.
 #![tactic(auto, using(crate::proofs::Rules::names, crate::proofs::Rules::writers))]
+
 ghost use Rattle.std.specs.Prelude.{[], ◌∷◌, length};
 ghost use Rattle.wire.specs.Bounds.{session_size};
 ghost use Rattle.wire.specs.Refusals.{field_not_written};

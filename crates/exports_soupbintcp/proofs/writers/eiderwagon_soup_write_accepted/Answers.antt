@@ -1,0 +1,11 @@
+use Rattle.exports_soupbintcp.proofs.Rules.{names}
+use Rattle.exports_soupbintcp.proofs.writers.eiderwagon_soup_write_accepted.Goals as goal
+
+pub returns-then-session-ne-SESSION_SIZE-clause-answers_writing : goal.returns-then-session-ne-SESSION_SIZE-clause-answers_writing
+returns-then-session-ne-SESSION_SIZE-clause-answers_writing c = search names
+
+pub returns-clause-answers_writing : goal.returns-clause-answers_writing
+returns-clause-answers_writing c = search names
+
+pub returns-clause-refuses : goal.returns-clause-refuses
+returns-clause-refuses c = search names
