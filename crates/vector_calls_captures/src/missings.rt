@@ -2,15 +2,11 @@
 use vector_lines::NO_FUNCTION;
 use vector_lines::parse::least;
 use vector_lines::wide::{FILLED, MOST_WORDS, WORD_SIZE, show};
-use wire::kinds::ByteOffset;
-use wire::number;
 
 // Lays bytes as words.
 fn lay(bytes: &[u8], words: &mut [u64]) {
-    let mut i: usize = 0;
-    while i < words.len() {
-        words[i] = number::be64(bytes, ByteOffset(i * WORD_SIZE));
-        i += 1;
+    for (word, place) in words.iter_mut().zip(bytes.as_chunks::<WORD_SIZE>().0) {
+        *word = u64::from_be_bytes(*place);
     }
 }
 

@@ -6,7 +6,3 @@ pub fn low8(n: u64) -> u8 {
 pub fn low16(n: u64) -> u16 {
     (n % 65536) as u16
 }
-
-pub fn joined(high: u8, low: u8) -> u16 {
-    high as u16 * 256 + low as u16
-}

@@ -10,7 +10,8 @@ mod shows;
 mod steps;
 
 use std::io::Read;
-use vector_lines::{parse, print};
+use vector_lines::answer::answer_all;
+use vector_lines::print;
 
 // Room for all vectors. A longer text is cut, and what is printed is not what is stored.
 const MOST_TEXT: usize = 262144;
@@ -22,27 +23,6 @@ fn ask(rt: &impl Print, function: u64, fields: &[u8]) {
         1 => lookups::ask(rt, fields),
         2 => steps::ask(rt, fields),
         _ => print::text(rt, b"no function"),
-    }
-}
-
-// Prints a line's answer, or the line itself where it is a heading.
-fn answer(rt: &impl Print, line: &[u8]) {
-    let n = parse::until(line, b'|');
-    print::text(rt, &line[..n]);
-    let fields = parse::after(line, b'|');
-    if 0 < fields.len() {
-        ask(rt, parse::decimal(line), fields);
-    }
-    print::text(rt, b"\n");
-}
-
-fn answer_all(rt: &impl Print, text: &[u8]) {
-    let mut rest = text;
-    while 0 < rest.len() {
-        let n = parse::until(rest, b'\n');
-        answer(rt, &rest[..n]);
-        let next = parse::after(rest, b'\n');
-        rest = next;
     }
 }
 
@@ -63,7 +43,11 @@ fn read_full(input: &mut impl Read, room: &mut [u8]) -> usize
 
 fn answer_input(rt: &impl Print, input: &mut impl Read, room: &mut [u8]) {
     let n = read_full(input, room);
-    answer_all(rt, &room[..n]);
+    answer_all(
+        rt,
+        &room[..n],
+        |rt, function, fields| ask(rt, function, fields),
+    );
 }
 
 // The room is lent whole, so that no other proof meets its size.

@@ -2,6 +2,7 @@
 // left.
 use moldudp64_messages::cursor::Cursor;
 use moldudp64_reader::Shown;
+use vector_lines::narrow::low16;
 use vector_lines::{parse, print};
 use wire::kinds::{ByteOffset, MessageCount};
 use wire::parts;
@@ -9,19 +10,11 @@ use wire::parts;
 // Room for a datagram longer than the longest.
 const MOST_BYTES: usize = 131072;
 
-fn one_if(is_so: bool) -> u64 {
-    if is_so { 1 } else { 0 }
-}
-
-fn count(n: u64) -> MessageCount {
-    MessageCount((n % 65536) as u16)
-}
-
 // Prints what is shown, with the bytes at the place that it tells, and the cursor of the next message.
 fn told(rt: &impl Print, s: Shown, datagram: &[u8]) {
     let found = s.located;
     let next = s.next;
-    print::number(rt, b"exists=", one_if(found.exists));
+    print::number(rt, b"exists=", u64::from(found.exists));
     print::number(rt, b" offset=", found.offset.0 as u64);
     print::number(rt, b" length=", found.length as u64);
     print::text(rt, b" bytes=");
@@ -34,7 +27,7 @@ fn told(rt: &impl Print, s: Shown, datagram: &[u8]) {
 fn show(rt: &impl Print, fields: &[u8], datagram: &[u8]) {
     let from = Cursor {
         at: ByteOffset(parse::number(fields, b'n') as usize),
-        left: count(parse::number(fields, b'm')),
+        left: MessageCount(low16(parse::number(fields, b'm'))),
     };
     told(rt, moldudp64_reader::show(from, datagram), datagram);
 }

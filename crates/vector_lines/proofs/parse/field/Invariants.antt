@@ -2,5 +2,5 @@
 use Rattle.std.proofs.Common.{length}
 use Rattle.vector_lines.proofs.parse.field.Given as goal
 
-abbrev pub decreases-loop-rest : goal.decreases-loop-rest
-decreases-loop-rest l = length l.rest
+abbrev pub decreases-loop-first : goal.decreases-loop-first
+decreases-loop-first l = length l.rest
