@@ -10,13 +10,14 @@ use lib.Dec.{ltb}
 use mir.Syntax.{w64}
 use mir.Val.{Fits}
 use borrow.Author.Tests.{lt-ltb, le-ltb, ltb-true, ne_eqb, not-true, not-false}
+use Rattle.std.specs.Prelude.{Option, Some, None}
 use Rattle.wire.specs.Bounds.{up_to}
 use Rattle.wire.proofs.Numbers.{part_to_end}
 use Rattle.missing_ranges.specs.Edges.{Range, range, ranges_of, total_from}
 use Rattle.missing_ranges.specs.declared.ranges.Missing.{Missing}
 use Rattle.missing_ranges.specs.declared.listing.Listed.{Listed}
 use Rattle.missing_ranges.specs.Notes.{lent, is_usable, ranges_in, total_in, range_at}
-use Rattle.missing_ranges.specs.Listing.{IsRange}
+use Rattle.missing_ranges.specs.Listing.{IsRange, first_of, last_of}
 use Rattle.missing_ranges.proofs.ShapeLaws.{one, shape_same, shape-count}
 use Rattle.missing_ranges.proofs.NoteLaws.{usable-so}
 
@@ -193,10 +194,11 @@ open-so a top p n = go (ltb a top) refl
 
 -- n is what `count` answers
 module _ (s : Missing) (l : List ℕ) (n place : ℕ) (en : n ≡ length (ranges_in (lent s l))) where
-  abbrev listed : Bool → ℕ → ℕ → Listed
-  listed b f t = record { exists = b; from = record { 0 = f }; to = record { 0 = t } }
+  abbrev listed : ℕ → ℕ → Option Listed
+  listed f t = Some (record { from = record { 0 = f }; to = record { 0 = t } })
 
-  pub no-range : n ≤ place → IsRange (listed false 0 0) (lent s l) place
+  pub no-range : n ≤ place → IsRange None (lent s l) place
+  unfolding first_of last_of
   no-range h =
       let g : length (ranges_in (lent s l)) ≤ place = omega arith in
       let e = at_none place (ranges_in (lent s l)) g in
@@ -232,7 +234,8 @@ module _ (s : Missing) (l : List ℕ) (n place : ℕ) (en : n ≡ length (ranges
     there = let g : place < length (ranges_in (lent s l)) = omega arith in sym (lt-ltb _ _ g)
 
     pub range-closed : place < s.closed → (t : ℕ) → t ≡ get_or l (place + place + 1) 0 - 1
-        → IsRange (listed true (get_or l (place + place) 0) t) (lent s l) place
+        → IsRange (listed (get_or l (place + place) 0) t) (lent s l) place
+    unfolding first_of last_of
     range-closed g t et =
         let k = s.closed in
         let top = s.highest.0 in
@@ -246,7 +249,8 @@ module _ (s : Missing) (l : List ℕ) (n place : ℕ) (en : n ≡ length (ranges
         record { there = there; first = sym (ap (λ (r : Range). r.from) e); last = et ∙ sym (ap (λ (r : Range). r.to) e) }
 
     pub range-open : s.closed ≤ place → (t : ℕ) → t ≡ s.highest.0 - 1
-        → IsRange (listed true (get_or l (place + place) 0) t) (lent s l) place
+        → IsRange (listed (get_or l (place + place) 0) t) (lent s l) place
+    unfolding first_of last_of
     range-open g t et =
         let k = s.closed in
         let top = s.highest.0 in

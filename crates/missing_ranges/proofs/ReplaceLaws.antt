@@ -161,15 +161,9 @@ module _ (l : List ℕ) (n i j f e : ℕ) (fit : Fitting l n i j f e) where
 
   -- ---- what the callees ask
 
-  pub down-place : (at : ℕ) → (i ≡ j → ⊥) → at ≡ i + length (middle i j f e) → at ≤ j
-  down-place at z ea = let h = below z in omega arith
-
   pub down-room : (m : List ℕ) → m ≡ put l i (middle i j f e) → j + (n - j) ≤ length m
   down-room m em = let s : length m
       ≡ length l = ap length em ∙ length-put l i (middle i j f e) in omega (arith, fit.there, fit.among)
-
-  pub up-place : i ≡ j → j ≤ i + 2
-  up-place ij = omega arith
 
   pub up_room : (a : Bool) → i ≡ j → a ≡ is_odd i → a ≡ true → i + 2 + (n - j) ≤ length l
   up_room a ij p x =

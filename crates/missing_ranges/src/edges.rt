@@ -1,5 +1,6 @@
 // Edges in lent words: the first n, rising where they are what `ranges` keeps.
 #![tactic(auto, using(crate::proofs::Rules::middles, crate::proofs::Rules::places, crate::proofs::Rules::replaces))]
+
 ghost use Rattle.std.specs.Prelude.{◌≡◌, ◌+◌, ◌≤◌, length, take, drop};
 ghost use Rattle.wire.specs.Output.{put};
 ghost use Rattle.missing_ranges.specs.Edges.{is_odd, place_past, place_of, middle, replaced};
@@ -11,7 +12,9 @@ pub(crate) fn is_odd(n: usize) -> bool
     n % 2 == 1
 }
 
-// The place after the last of the first n edges that is e or lies below it, looked for by halves.
+// The place after the last of the first n edges that is e or lies below it, looked for by halves. `note` takes words in
+// any order, and what it promises of those that don't rise is what these halves give: `partition_point` says nothing
+// there.
 pub(crate) fn place_past(edges: &[u64], n: usize, e: u64) -> usize
     requires { n ≤ length edges.now }
     ensures { result ≡ place_past e edges.now n }
@@ -38,32 +41,6 @@ pub(crate) fn place(edges: &[u64], n: usize, f: u64) -> usize
         return 0;
     }
     place_past(edges, n, f - 1)
-}
-
-// Moves words to a later place, the last one first.
-pub(crate) fn move_up(edges: &mut [u64], from: usize, to: usize, size: usize)
-    requires { (from ≤ to) × (to + size ≤ length edges.old) }
-    ensures { edges.new
-        ≡ put edges.old to (take size (drop from edges.old)) }
-{
-    let mut left = size;
-    while 0 < left {
-        left -= 1;
-        edges[to + left] = edges[from + left];
-    }
-}
-
-// Moves words to an earlier place, the first one first.
-pub(crate) fn move_down(edges: &mut [u64], from: usize, to: usize, size: usize)
-    requires { (to ≤ from) × (from + size ≤ length edges.old) }
-    ensures { edges.new
-        ≡ put edges.old to (take size (drop from edges.old)) }
-{
-    let mut i: usize = 0;
-    while i < size {
-        edges[to + i] = edges[from + i];
-        i += 1;
-    }
 }
 
 // Lays the edges that stand between two places, and answers the place after them.
@@ -96,15 +73,13 @@ pub(crate) fn replace(edges: &mut [u64], n: usize, i: usize, j: usize, f: u64, e
 {
     if i == j {
         if is_odd(i) {
-            move_up(edges, j, i + 2, n - j);
+            edges.copy_within(j..n, i + 2);
             lay_middle(edges, i, j, f, e);
-            return;
         }
         return;
     }
     let at = lay_middle(edges, i, j, f, e);
-    if at == j {
-        return;
+    if at != j {
+        edges.copy_within(j..n, at);
     }
-    move_down(edges, j, at, n - j);
 }

@@ -1,40 +1,26 @@
 // The missing ranges read out: how many, each by its place, and how many numbers they have.
+#![tactic(auto, using(crate::proofs::Rules::counts, crate::proofs::Rules::lists, crate::proofs::Rules::totals))]
+
 ghost use Rattle.std.specs.Prelude.{◌≡◌, ◌+◌, ◌-◌, length};
 ghost use Rattle.missing_ranges.specs.Edges.{ranges_of, total_from};
 ghost use Rattle.missing_ranges.specs.Notes.{lent, ranges_in, total_in};
 ghost use Rattle.missing_ranges.specs.Listing.{IsRange};
 
 use crate::ranges::Missing;
-use wire::counts;
 use wire::kinds::SequenceNumber;
 
-// The range at a place, both numbers missing themselves, and whether one is there.
+// A range, both numbers missing themselves.
 #[derive(Clone, Copy)]
 pub struct Listed {
-    pub exists: bool,
     pub from: SequenceNumber,
     pub to: SequenceNumber,
-}
-
-// The number before another; 0 before 0.
-fn before(n: u64) -> u64
-    ensures { result ≡ n - 1 }
-{
-    if n == 0 {
-        return 0;
-    }
-    n - 1
 }
 
 // How many numbers lie from one edge to just below the next.
 fn size(from: u64, edge: u64) -> u64
     ensures { result ≡ edge - 1 + 1 - from }
 {
-    let end = before(edge) + 1;
-    if end < from {
-        return 0;
-    }
-    end - from
+    edge.max(1).saturating_sub(from)
 }
 
 // How many numbers the ranges have that edges bound below a number.
@@ -43,17 +29,14 @@ fn total_of(edges: &[u64], top: u64) -> u64
 {
     let mut rest = edges;
     let mut n: u64 = 0;
-    while 2 <= rest.len() {
-        n = counts::sum(n, size(rest[0], rest[1]));
-        rest = &rest[2..];
+    while let [from, edge, behind @ ..] = rest {
+        n = n.saturating_add(size(*from, *edge));
+        rest = behind;
     }
-    if rest.len() == 0 {
-        return n;
+    match rest {
+        [from] if *from < top => n.saturating_add(size(*from, top)),
+        _ => n,
     }
-    if top <= rest[0] {
-        return n;
-    }
-    counts::sum(n, size(rest[0], top))
 }
 
 impl Missing {
@@ -83,29 +66,21 @@ impl Missing {
     }
 
     // The range at a place: the last one may end just below the highest next number.
-    pub fn range(self, edges: &[u64], place: usize) -> Listed
+    pub fn range(self, edges: &[u64], place: usize) -> Option<Listed>
         ensures { IsRange result (lent self edges.now) place }
     {
         if self.count(edges) <= place {
-            return Listed {
-                exists: false,
-                from: SequenceNumber(0),
-                to: SequenceNumber(0),
-            };
+            return None;
         }
         let from = edges[place + place];
-        if place < self.closed {
-            let edge = edges[place + place + 1];
-            return Listed {
-                exists: true,
-                from: SequenceNumber(from),
-                to: SequenceNumber(before(edge)),
-            };
-        }
-        Listed {
-            exists: true,
+        let edge = if place < self.closed {
+            edges[place + place + 1]
+        } else {
+            self.highest.0
+        };
+        Some(Listed {
             from: SequenceNumber(from),
-            to: SequenceNumber(before(self.highest.0)),
-        }
+            to: SequenceNumber(edge.saturating_sub(1)),
+        })
     }
 }

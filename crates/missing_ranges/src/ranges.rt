@@ -1,7 +1,8 @@
 // The missing ranges, from one datagram's numbers to the next.
-#![tactic(auto, using(crate::proofs::Rules::counts, crate::proofs::Rules::cuts, crate::proofs::Rules::lists, crate::proofs::Rules::notes, crate::proofs::Rules::plans, crate::proofs::Rules::smalls, crate::proofs::Rules::starts, crate::proofs::Rules::usables))]
+#![tactic(auto, using(crate::proofs::Rules::cuts, crate::proofs::Rules::notes, crate::proofs::Rules::plans, crate::proofs::Rules::smalls, crate::proofs::Rules::starts, crate::proofs::Rules::usables))]
+
 ghost use Rattle.std.specs.Prelude.{true, ◌≡◌, ◌+◌, ◌-◌, ◌%◌, ◌≤◌, length};
-ghost use Rattle.missing_ranges.specs.Notes.{missing, lent, is_usable, later, room, start_in, note_of};
+ghost use Rattle.missing_ranges.specs.Notes.{missing, lent, is_usable, room, start_in, note_of};
 ghost use Rattle.missing_ranges.specs.Notes.{too_many, last_after, Ready, Plans};
 ghost use Rattle.missing_ranges.specs.Promises.{MissingPromises};
 
@@ -25,24 +26,15 @@ pub const MOST_RANGES: usize = 4096;
 // The words that are room enough: two edges for a range, and one more.
 pub const ROOM: usize = MOST_RANGES + MOST_RANGES + 1;
 
-// The larger of two numbers.
-fn later(a: u64, b: u64) -> u64
-    ensures { result ≡ later a b }
-{
-    if a < b {
-        return b;
-    }
-    a
-}
-
 // Whether k ranges with both edges, and one more where the last edge lies below top, are too many.
 fn too_many(k: usize, last: u64, top: u64) -> bool
     ensures { result ≡ too_many k last top }
 {
     if last < top {
-        return MOST_RANGES <= k;
+        MOST_RANGES <= k
+    } else {
+        MOST_RANGES < k
     }
-    MOST_RANGES < k
 }
 
 // The last edge once e is laid at place j of n edges.
@@ -50,10 +42,7 @@ fn last_after(edges: &[u64], n: usize, j: usize, e: u64) -> u64
     requires { n ≤ length edges.now }
     ensures { result ≡ last_after edges.now n j e }
 {
-    if j < n {
-        return edges[n - 1];
-    }
-    e
+    if j < n { edges[n - 1] } else { e }
 }
 
 // How many edges there are once those of new numbers stand from place i to j of n.
@@ -93,16 +82,12 @@ impl Missing {
         ensures edges_after { lent result edges.new ≡ start_in edges.old next.0 }
         ensures promises { MissingPromises }
     {
-        if edges.len() == 0 {
-            return Missing {
-                refused: true,
-                closed: 0,
-                highest: next,
-            };
+        let refused = edges.is_empty();
+        if !refused {
+            edges[0] = next.0;
         }
-        edges[0] = next.0;
         Missing {
-            refused: false,
+            refused,
             closed: 0,
             highest: next,
         }
@@ -112,25 +97,17 @@ impl Missing {
     pub fn is_usable(self, edges: &[u64]) -> bool
         ensures { result ≡ is_usable (lent self edges.now) }
     {
-        if self.refused {
-            return false;
-        }
         let k = self.closed;
-        if MOST_RANGES < k {
-            return false;
-        }
-        k + k + 1 <= edges.len()
+        !self.refused && k <= MOST_RANGES && k + k + 1 <= edges.len()
     }
 
     // More ranges than are kept.
     fn refuse(self) -> Missing
         ensures { result ≡ missing true self.closed self.highest.0 }
     {
-        let highest = self.highest;
         Missing {
             refused: true,
-            closed: self.closed,
-            highest,
+            ..self
         }
     }
 
@@ -143,10 +120,7 @@ impl Missing {
         let n = k + k + 1;
         let p = plan_for(edges, n, f, e);
         let size = p.size;
-        if edges.len() < size {
-            return self.refuse();
-        }
-        if too_many(size / 2, p.last, top) {
+        if edges.len() < size || too_many(size / 2, p.last, top) {
             return self.refuse();
         }
         edges::replace(edges, n, p.i, p.j, f, e);
@@ -168,7 +142,7 @@ impl Missing {
         }
         let f = first.0;
         let e = next.0;
-        let top = later(self.highest.0, e);
+        let top = self.highest.0.max(e);
         if f < e {
             return self.take_out(edges, f, e, top);
         }
