@@ -1,61 +1,15 @@
--- The loop of `keep`: d is the buffer at entry, from the first place, n how many bytes, out the buffer after i of them.
-use mathlib.Core.Path.{◌≡◌, refl, ap, sym, ◌∙◌}
-use mathlib.Core.List.{List, ◌++◌}
+-- What `keep` leaves: d is the buffer at entry, whose bytes from one place up to another are moved.
+use mathlib.Core.Path.{◌≡◌, sym, ◌∙◌}
+use mathlib.Core.List.{List}
 use mathlib.Core.Bool.{true, false}
-use Prim.Native.Nat.{ℕ, ◌+◌, ◌-◌, ◌≤◌, ◌<◌}
+use Prim.Native.Nat.{ℕ, ◌-◌, ◌≤◌, ◌<◌}
 use native.Mathlib.Omega.{arith}
-use native.Mathlib.Numerals.{add-one}
-use native.Mathlib.Nat.{zero-add}
-use lib.ListN.{length, get_or, take, drop, set, length-set, length-drop}
-use lib.Seq.{length-take-le, get_or-append-add, get_or-drop, paste, paste-zero, paste-suc}
+use lib.ListN.{length, take, drop, length-drop}
+use lib.Seq.{length-take-le, paste}
 use borrow.Author.Tests.{lt-ltb, le-ltb}
 use Rattle.wire.specs.Output.{put}
 use Rattle.wire.proofs.Outputs.{put-room, put-empty}
 use Rattle.capture_records.specs.Buffer.{are_places, kept_size, kept_of}
-
-pub record Kept (d : List ℕ) (from n : ℕ) (out : List ℕ) (i : ℕ) : Type 0 where
-  pub within : i ≤ n
-  pub pasted : out ≡ paste d 0 (drop from d) i
-  pub long : length out ≡ length d
-
-pub kept-start : (d : List ℕ) (from n : ℕ) → Kept d from n d 0
-kept-start d from n = record { within = omega arith; pasted = paste-zero d 0 (drop from d); long = refl }
-
--- the bytes that are still to be moved are as they were
-kept-ahead : (d : List ℕ) (from i : ℕ) → from + i < length d → get_or (paste d 0 (drop from d) i) (from + i) 0 ≡ get_or (drop from d) i 0
-kept-ahead d from i h =
-    let s = drop from d in
-    let q : length (take i s) ≡ i = length-take-le i s (omega (arith, length-drop from d)) in
-    let m : from + i ≡ length (take i s) + from = omega arith in
-    let p : 0 + i + from ≡ from + i = omega arith in
-    ap (λ (k : ℕ). get_or (take i s ++ drop (0 + i) d) k 0) m
-    ∙ get_or-append-add (take i s) (drop (0 + i) d) from 0
-    ∙ get_or-drop (0 + i) d from 0
-    ∙ ap (λ (k : ℕ). get_or d k 0) p
-    ∙ sym (get_or-drop from d i 0)
-
-module _ {d : List ℕ} {from to : ℕ} {out : List ℕ} {i : ℕ} (c : Kept d from (to - from) out i) where
-  pub kept_step : i < to - from → from ≤ to → to ≤ length d → Kept d from (to - from) (set out i (get_or out (from + i) 0)) (i + 1)
-  kept_step h f g =
-      let e : get_or out (from + i) 0 ≡ get_or (drop from d) i 0 = rw c.pasted (kept-ahead d from i (omega arith)) in
-      let j : 0 + i ≡ i = zero-add i in
-      record {
-        within = omega arith;
-        pasted =
-            rw (e, c.pasted, add-one)
-            (ap (λ (k : ℕ). set (paste d 0 (drop from d) i) k (get_or (drop from d) i 0)) (sym j)
-            ∙ paste-suc d 0 (drop from d) i 0 (omega arith) (omega (arith, length-drop from d)));
-        long = length-set out i (get_or out (from + i) 0) ∙ c.long;
-      }
-
-  pub kept_here : i < to - from → from ≤ to → to ≤ length d → i < length out
-  kept_here h f g = omega (arith, c.long)
-
-  pub kept_there : i < to - from → from ≤ to → to ≤ length d → from + i < length out
-  kept_there h f g = omega (arith, c.long)
-
-pub kept-long : {d : List ℕ} {from n : ℕ} {out : List ℕ} {i : ℕ} → Kept d from n out i → length out ≡ length d
-kept-long c = c.long
 
 -- ---- how many bytes are moved, and the buffer then
 
@@ -99,9 +53,9 @@ paste-put d s n h g =
     let e : length (take n s) ≡ n = length-take-le n s h in
     sym (put-room d 0 (take n s) (omega arith) ∙ rw e)
 
-pub keep-end : {d : List ℕ} {from to : ℕ} {out : List ℕ} {i : ℕ} → Kept d from (to - from) out i → to - from ≤ i → from ≤ to → to ≤ length d
+pub keep-end : (d out : List ℕ) (from to : ℕ) → out ≡ paste d 0 (drop from d) (to - from) → from ≤ to → to ≤ length d
     → out ≡ kept_of d from to
 unfolding kept_of
-keep-end {d} {from} {to} {out} {i} c h f g =
-    let e : i ≡ to - from = omega (arith, c.within) in
-    c.pasted ∙ rw (e, ← size-all (length d) from to f g) (paste-put d (drop from d) (to - from) (omega (arith, length-drop from d)) (omega arith))
+keep-end d out from to e h f =
+    e ∙ rw (← size-all (length d) from to h f)
+    (paste-put d (drop from d) (to - from) (omega (arith, length-drop from d)) (omega arith))

@@ -8,14 +8,13 @@ use lib.ListN.{length, take, drop, length-drop, length-append}
 use lib.Seq.{take-append-le, drop-append-le, drop-drop}
 use Rattle.wire.specs.Bytes.{number}
 use Rattle.wire.proofs.Numbers.{number_append}
-use Rattle.capture_records.specs.declared.records.Front.{Front}
-use Rattle.capture_records.specs.declared.records.Front.TheVariants.{Whole}
+use Rattle.std.specs.Prelude.{Option, Some}
 use Rattle.capture_records.specs.Records.{record_size, is_whole, datagram_of, record_words, record_in_front, datagrams_of, rest_of}
 use Rattle.capture_records.proofs.RecordLaws.{whole-within, IsFront, said-whole, whole-there}
 
 -- ---- what the words say, as the loop has them: p is the front of l
 
-module _ (l : List ℕ) (p : Front) (k : ℕ) (e : record_words p ≡ record_in_front l) (f : p ≡ Whole k) where
+module _ (l : List ℕ) (p : Option ℕ) (k : ℕ) (e : record_words p ≡ record_in_front l) (f : p ≡ Some k) where
   pub front-is : IsFront l k
   front-is = said-whole l k (rw f at e)
 

@@ -15,8 +15,7 @@ use Rattle.wire.specs.Bytes.{number, bytes, AreBytes}
 use Rattle.wire.proofs.Words.{which-of, values-of, read_back}
 use Rattle.wire.proofs.Cases.{below_or_not}
 use Rattle.wire.proofs.Numbers.{byte_past, bytes-number, number-bytes, length-bytes, small-number}
-use Rattle.capture_records.specs.declared.records.Front.{Front}
-use Rattle.capture_records.specs.declared.records.Front.TheVariants.{Whole, Short}
+use Rattle.std.specs.Prelude.{Option, Some, None}
 use Rattle.capture_records.specs.Records.{record_bytes, record_size, is_whole, datagram_of, RecordKind, whole, short, record_words, record_in_front, datagrams_of, rest_of, records_bytes, RecordsMakeTheBytes, largest_length, AllHeld, RecordPromises}
 
 -- ---- as the code of `read` has it
@@ -34,17 +33,17 @@ module _ (l : List ℕ) where
   unfolding is_whole record_size
   whole-there k h e f = let g : number l 0 2 + 2 ≤ length l = omega arith in simp (le-ltb _ _ h, le-ltb _ _ g)
 
-  front-short : is_whole l ≡ false → record_words Short ≡ record_in_front l
+  front-short : is_whole l ≡ false → record_words None ≡ record_in_front l
   unfolding record_words record_in_front
   front-short e = simp e
 
-  pub read-stub : length l < 2 → record_words Short ≡ record_in_front l
+  pub read-stub : length l < 2 → record_words None ≡ record_in_front l
   read-stub h = front-short (stub h)
 
-  pub read-cut : (k : ℕ) → 2 ≤ length l → k ≡ number l 0 2 → length l < k + 2 → record_words Short ≡ record_in_front l
+  pub read-cut : (k : ℕ) → 2 ≤ length l → k ≡ number l 0 2 → length l < k + 2 → record_words None ≡ record_in_front l
   read-cut k h e f = front-short (cut k h e f)
 
-  pub read_whole : (k : ℕ) → 2 ≤ length l → k ≡ number l 0 2 → k + 2 ≤ length l → record_words (Whole (k + 2)) ≡ record_in_front l
+  pub read_whole : (k : ℕ) → 2 ≤ length l → k ≡ number l 0 2 → k + 2 ≤ length l → record_words (Some (k + 2)) ≡ record_in_front l
   unfolding record_words record_in_front record_size
   read_whole k h e f = simp (whole-there k h e f, ← e)
 
@@ -75,7 +74,7 @@ short-length l small = go (ltb (length l) 2) (ltb (length l) (number l 0 2 + 2))
     go false false p q e = let z : ◌≡◌ {A = ℕ} 0 1 = cc in absurd (omega arith)
 
 -- what the words say
-pub said-short : (l : List ℕ) → record_words Short ≡ record_in_front l → is_whole l ≡ false
+pub said-short : (l : List ℕ) → record_words None ≡ record_in_front l → is_whole l ≡ false
 unfolding record_words record_in_front
 said-short l = go (is_whole l)
   where
@@ -87,7 +86,7 @@ pub record IsFront (l : List ℕ) (k : ℕ) : Type 0 where
   pub all : is_whole l ≡ true
   pub size : k ≡ record_size l
 
-pub said-whole : (l : List ℕ) (k : ℕ) → record_words (Whole k) ≡ record_in_front l → IsFront l k
+pub said-whole : (l : List ℕ) (k : ℕ) → record_words (Some k) ≡ record_in_front l → IsFront l k
 unfolding record_words record_in_front
 said-whole l k = go (is_whole l) refl
   where
@@ -135,18 +134,18 @@ make_the_bytes = make-bytes
 
 -- ---- the words tell all answers apart
 
-fronted : Case RecordKind → List ℕ → Front
-fronted (answer whole) vs = Whole (get_or vs 0 0)
-fronted (answer short) vs = Short
-fronted refused vs = Short
+fronted : Case RecordKind → List ℕ → Option ℕ
+fronted (answer whole) vs = Some (get_or vs 0 0)
+fronted (answer short) vs = None
+fronted refused vs = None
 
 tells_apart : Injective record_words
 unfolding record_words fronted
 tells_apart = read_back record_words (λ w. fronted w.which w.values) back
   where
-    back : (a : Front) → fronted (record_words a).which (record_words a).values ≡ a
-    back (Whole k) = refl
-    back Short = refl
+    back : (a : Option ℕ) → fronted (record_words a).which (record_words a).values ≡ a
+    back (Some k) = refl
+    back None = refl
 
 -- ---- records that were made are read
 

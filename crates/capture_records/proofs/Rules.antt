@@ -1,8 +1,8 @@
 -- The laws that the functions' proofs need, for `search`: one set for each file of src/.
 use borrow.Author.Rules.{rules}
 use Rattle.capture_records.proofs.RecordLaws.{read-stub, read-cut, read_whole, record-promises}
-use Rattle.capture_records.proofs.BufferLaws.{kept-start, kept_step, kept_here, kept_there, kept-long, places-all, places-out, places-back, size-all, size-out, size_back, keep_out, keep-back, keep-end}
+use Rattle.capture_records.proofs.BufferLaws.{places-all, places-out, places-back, size-all, size-out, size_back, keep_out, keep-back, keep-end}
 
 pub ruleset fronts = (read-stub, read-cut, read_whole, record-promises, rules)
 
-pub ruleset buffers = (kept-start, kept_step, kept_here, kept_there, kept-long, places-all, places-out, places-back, size-all, size-out, size_back, keep_out, keep-back, keep-end, rules)
+pub ruleset buffers = (places-all, places-out, places-back, size-all, size-out, size_back, keep_out, keep-back, keep-end, rules)

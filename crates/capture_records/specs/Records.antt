@@ -1,11 +1,9 @@
 -- The records of a capture, as a list of bytes.
-use Rattle.std.specs.Prelude.{ℕ, zero, suc, ◌+◌, ◌-◌, ◌^◌, ◌≤◌, Bool, false, not, ◌≡◌, length, take, drop, ltb, if◌then◌else◌}
+use Rattle.std.specs.Prelude.{ℕ, zero, suc, ◌+◌, ◌-◌, ◌^◌, ◌≤◌, Bool, false, not, ◌≡◌, length, take, drop, ltb, if◌then◌else◌, Option, Some, None}
 use mathlib.Core.List.{List, [], ◌∷◌, ◌++◌, Memᴰ}
 use Rattle.wire.specs.Bounds.{largest_count, length_size}
 use Rattle.wire.specs.Words.{Words, says, Injective}
 use Rattle.wire.specs.Bytes.{number, bytes, AreBytes}
-use Rattle.capture_records.specs.declared.records.Front.{Front}
-use Rattle.capture_records.specs.declared.records.Front.TheVariants.{Whole, Short}
 
 -- the bytes of a record that carries a datagram; its length doesn't count itself
 abbrev pub record_bytes : List ℕ → List ℕ
@@ -29,9 +27,9 @@ datagram_of l = take (record_size l - length_size) (drop length_size l)
 pub data RecordKind : Type 0 where
   whole short : RecordKind
 
-unfoldable pub record_words : Front → Words RecordKind
-record_words (Whole size) = says whole (size ∷ [])
-record_words Short = says short []
+unfoldable pub record_words : Option ℕ → Words RecordKind
+record_words (Some size) = says whole (size ∷ [])
+record_words None = says short []
 
 unfoldable pub record_in_front : List ℕ → Words RecordKind
 record_in_front l = if is_whole l then says whole (record_size l ∷ []) else says short []
