@@ -1,9 +1,6 @@
--- What is kept lies within the room; the turns that are left fall.
+-- What is kept lies within the room.
 use Rattle.std.proofs.Common.{length, ◌≤◌}
 use Rattle.vectors.proofs.answer_input.Given as goal
 
-abbrev pub invariant-loop-turns : goal.invariant-loop-turns
-invariant-loop-turns g l = l.have ≤ length l.room
-
-abbrev pub decreases-loop-turns : goal.decreases-loop-turns
-decreases-loop-turns g l = l.turns
+abbrev pub invariant-loop : goal.invariant-loop
+invariant-loop g l = l.have ≤ length l.room
