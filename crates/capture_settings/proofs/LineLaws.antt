@@ -1,22 +1,22 @@
 -- Laws of a line's parts, as the code has them: a text in front, printable bytes, a name, and a number up to a line feed.
 use mathlib.Core.Path.{◌≡◌, refl, ap, sym, ◌∙◌}
 use mathlib.Core.List.{List, [], ◌∷◌}
-use mathlib.Core.Bool.{Bool, true, false, not, ◌&&◌}
-use Prim.Native.Nat.{ℕ, zero, suc, ◌+◌, ◌-◌, ◌≤◌, ◌<◌}
+use mathlib.Core.Bool.{Bool, true, false, true≢false, not, ◌&&◌}
+use Prim.Native.Nat.{ℕ, zero, suc, ◌+◌, ◌≤◌, ◌<◌}
 use native.Mathlib.Omega.{arith}
 use native.Mathlib.Numerals.{add-one}
 use native.Mathlib.Nat.{zero-add}
 use lib.ListN.{length, take, drop, get_or, drop_of_length-le}
 use lib.Seq.{drop-cons}
 use lib.Dec.{ltb, leb, eqb}
-use borrow.Author.Tests.{le-leb, lt-leb, le-ltb, eq-eqb, ne_eqb, leb-true, ltb-false}
-use Rattle.std.specs.Prelude.{if◌then◌else◌}
+use lib.Pointwise.{pointwise}
+use borrow.Author.Tests.{le-leb, le-ltb, eq-eqb, ne_eqb, leb-true, ltb-false}
+use Rattle.std.specs.Prelude.{if◌then◌else◌, All, IsTrue, ◌↔◌, Result, Ok, Err}
 use Rattle.wire.specs.Bounds.{largest_number}
 use Rattle.wire.specs.Words.{says}
-use Rattle.wire.proofs.Numbers.{part_to_end}
 use Rattle.wire.proofs.Words.{which-of, values-of}
-use Rattle.decimal.specs.declared.reading.Appended.{Appended}
-use Rattle.decimal.specs.declared.reading.Appended.TheVariants.{Value, NoDigit, TooLarge}
+use Rattle.decimal.specs.declared.reading.DigitError.{DigitError}
+use Rattle.decimal.specs.declared.reading.DigitError.TheVariants.{NoDigit, TooLarge}
 use Rattle.decimal.specs.Decimal.{is_digit, with_digit, value, no_digit, too_large, appended_words, append_of}
 use Rattle.capture_settings.specs.declared.lines.Line.{Line}
 use Rattle.capture_settings.specs.Settings.{line_feed, past_of, is_printable, further, goes_on, line_from, line_of}
@@ -25,43 +25,65 @@ use Rattle.capture_settings.specs.Settings.{line_feed, past_of, is_printable, fu
 front : (l : List ℕ) (i : ℕ) → i < length l → drop i l ≡ get_or l i 0 ∷ drop (i + 1) l
 front l i h = rw (add-one, drop-cons l i 0)
 
--- ---- a text in front: t is the text, p the answer, i bytes are passed
+-- ---- a text in front
 
-module _ (t l p : List ℕ) (i : ℕ) (v : past_of (drop i t) (drop i l) ≡ p) where
-  pub past-step : i < length t → i < length l → get_or l i 0 ≡ get_or t i 0 → past_of (drop (i + 1) t) (drop (i + 1) l) ≡ p
-  unfolding past_of
-  past-step h g e = simp (eq-eqb _ _ e) at (rw (front t i h, front l i g) at v)
+strips : (t l : List ℕ) → pointwise eqb (take (length t) l) t ≡ true → drop (length t) l ≡ past_of t l
+unfolding past_of
+strips [] l h = refl
+strips (c ∷ t) [] h = absurd (true≢false (sym h))
+strips (c ∷ t) (b ∷ l) h = step (eqb b c) (strips t l) h
+  where
+    step : (x : Bool) → (pointwise eqb (take (length t) l) t ≡ true → drop (length t) l ≡ past_of t l)
+        → (x && pointwise eqb (take (length t) l) t) ≡ true → drop (length t) l ≡ if x then past_of t l else []
+    step true f g = f g
+    step false f g = absurd (true≢false (sym g))
 
-  pub past-differs : i < length t → i < length l → (get_or l i 0 ≡ get_or t i 0 → ⊥) → take 0 l ≡ p
-  unfolding past_of
-  past-differs h g e = simp (ne_eqb _ _ e) at (rw (front t i h, front l i g) at v)
+pub past-there : (t l r : List ℕ) → pointwise eqb (take (length t) l) t ≡ true → r ≡ drop (length t) l → r ≡ past_of t l
+past-there t l r h e = e ∙ strips t l h
 
-  pub past-short : i < length t → length l ≤ i → take 0 l ≡ p
-  unfolding past_of
-  past-short h g = let b : drop i l ≡ [] = drop_of_length-le l g in rw (front t i h, b) at v
+pub past-other : (t l : List ℕ) → pointwise eqb (take (length t) l) t ≡ false → [] ≡ past_of t l
+unfolding past_of
+past-other [] l h = absurd (true≢false h)
+past-other (c ∷ t) [] h = refl
+past-other (c ∷ t) (b ∷ l) h = step (eqb b c) (past-other t l) h
+  where
+    step : (x : Bool) → (pointwise eqb (take (length t) l) t ≡ false → [] ≡ past_of t l)
+        → (x && pointwise eqb (take (length t) l) t) ≡ false → [] ≡ if x then past_of t l else []
+    step true f g = f g
+    step false f g = refl
 
-  pub past_end : length t ≤ i → take (length l - i) (drop i l) ≡ p
-  unfolding past_of
-  past_end h = let a : drop i t ≡ [] = drop_of_length-le t h in rw part_to_end (rw a at v)
+-- ---- printable bytes
 
--- ---- printable bytes: w is the answer, i bytes are passed
+abbrev pub printable-byte : ℕ → Type 0
+printable-byte b = (32 ≤ b) × (b ≤ 126)
 
-module _ (l : List ℕ) (w : Bool) (i : ℕ) (v : is_printable (drop i l) ≡ w) where
-  pub print-step : i < length l → 32 ≤ get_or l i 0 → get_or l i 0 ≤ 126 → is_printable (drop (i + 1) l) ≡ w
-  unfolding is_printable
-  print-step h a b = simp (le-leb _ _ a, le-leb _ _ b) at (rw (front l i h) at v)
+print-all : (l : List ℕ) → All printable-byte l → is_printable l ≡ true
+unfolding is_printable
+print-all [] h = refl
+print-all (b ∷ l) h =
+    let f = h 0 0 (omega arith) in
+    let i = print-all l (λ k d g. h (suc k) d (omega arith)) in
+    simp (le-leb _ _ f.0, le-leb _ _ f.1) i
 
-  pub print-low : i < length l → get_or l i 0 < 32 → false ≡ w
-  unfolding is_printable
-  print-low h a = simp (lt-leb _ _ a) at (rw (front l i h) at v)
+both-three : (x y z : Bool) → (x && y && z) ≡ true → (x ≡ true) × (y ≡ true) × (z ≡ true)
+both-three true true z h = (refl, refl, h)
+both-three true false z h = absurd (true≢false (sym h))
+both-three false y z h = absurd (true≢false (sym h))
 
-  pub print-high : i < length l → 32 ≤ get_or l i 0 → 126 < get_or l i 0 → false ≡ w
-  unfolding is_printable
-  print-high h a b = simp (le-leb _ _ a, lt-leb _ _ b) at (rw (front l i h) at v)
+all-print : (l : List ℕ) → is_printable l ≡ true → All printable-byte l
+unfolding is_printable
+all-print [] h k d g = absurd (omega arith)
+all-print (b ∷ l) h zero d g = let t = both-three (leb 32 b) (leb b 126) (is_printable l) h in (leb-true _ _ t.0, leb-true _ _ t.1)
+all-print (b ∷ l) h (suc k) d g = all-print l (both-three (leb 32 b) (leb b 126) (is_printable l) h).2 k d (omega arith)
 
-  pub print-end : length l ≤ i → true ≡ w
-  unfolding is_printable
-  print-end h = rw (drop_of_length-le l h) at v
+same-truth : (r s : Bool) → (r ≡ true → s ≡ true) → (s ≡ true → r ≡ true) → r ≡ s
+same-truth true s f g = sym (f refl)
+same-truth false true f g = g refl
+same-truth false false f g = refl
+
+-- the test of all bytes is the definition's
+pub print-so : (l : List ℕ) (r : Bool) → (IsTrue r ↔ All printable-byte l) → r ≡ is_printable l
+print-so l r h = same-truth r (is_printable l) (λ e. print-all l (h.0 e)) (λ e. h.1 (all-print l e))
 
 -- ---- one more byte of a number v, and what `append` answers to it
 
@@ -163,16 +185,16 @@ module _ (l : List ℕ) (w : Line) (v i : ℕ) (p : further i (line_from v (drop
   unfolding line_from
   goes h z f = rw (← further-further) (simp (ne_eqb _ _ z, f) at (rw (front l i h) at p))
 
-  module _ (a : Appended) (h : i < length l) (z : get_or l i 0 ≡ line_feed → ⊥) (q : appended_words a ≡ append_of v (get_or l i 0)) where
-    pub line-no-digit : a ≡ NoDigit → record { value = 0; size = 0 } ≡ w
+  module _ (a : Result ℕ DigitError) (h : i < length l) (z : get_or l i 0 ≡ line_feed → ⊥) (q : appended_words a ≡ append_of v (get_or l i 0)) where
+    pub line-no-digit : a ≡ Err NoDigit → record { value = 0; size = 0 } ≡ w
     unfolding appended_words
     line-no-digit e = stops h z (no-digit-stops v (get_or l i 0) (sym q ∙ ap appended_words e))
 
-    pub line-large : a ≡ TooLarge → record { value = 0; size = 0 } ≡ w
+    pub line-large : a ≡ Err TooLarge → record { value = 0; size = 0 } ≡ w
     unfolding appended_words
     line-large e = stops h z (too-large-stops v (get_or l i 0) (sym q ∙ ap appended_words e))
 
-    module _ (n : ℕ) (e : a ≡ Value n) where
+    module _ (n : ℕ) (e : a ≡ Ok n) where
       says-value : append_of v (get_or l i 0) ≡ says value (n ∷ [])
       unfolding appended_words
       says-value = sym q ∙ ap appended_words e

@@ -15,8 +15,7 @@ use Rattle.wire.proofs.Same.{same_refl, different}
 use Rattle.decimal.specs.Decimal.{is_digit, with_digit, digits, value_from, value_of, are_digits}
 use Rattle.decimal.proofs.SpellLaws.{digit-so, are-so, value_grows, digits-one, digits_more, digits-first, length_digits, length-digits-below, spells-numbers}
 use Rattle.capture_settings.specs.declared.lines.Line.{Line}
-use Rattle.capture_settings.specs.declared.settings.Opened.{Opened}
-use Rattle.capture_settings.specs.Settings.{session_key, next_key, limit_key, line_feed, past_of, is_printable, no_line, further, goes_on, line_from, line_of, settings, refused_opened, fixed_size, next_line, limit_line, numbers_of, name_line, settings_of}
+use Rattle.capture_settings.specs.Settings.{Opening, session_key, next_key, limit_key, line_feed, past_of, is_printable, no_line, further, goes_on, line_from, line_of, settings, refused_opened, fixed_size, next_line, limit_line, numbers_of, name_line, settings_of}
 use Rattle.capture_settings.specs.Statements.{line, settings_text, Good, ReadSo, longest, Settled, SizeWithin, SettingsPromises}
 
 -- ---- one byte of a number
@@ -396,7 +395,7 @@ unfolding settings_text
 text-size name n limit h = simp length-append (omega arith)
 
 -- what was read is what good settings give
-abbrev given : List ℕ → ℕ → ℕ → Opened
+abbrev given : List ℕ → ℕ → ℕ → Opening
 given name n limit = record { refusal = record { number = 0 }; settings = settings name n limit; size = length (settings_text name n limit) }
 
 reads : (name : List ℕ) (n limit : ℕ) (rest : List ℕ) → Good name n limit → settings_of (settings_text name n limit ++ rest) ≡ given name n limit
@@ -454,14 +453,14 @@ good-read : (l : List ℕ) (g : GoodIn l) → settings_of l ≡ given g.name g.n
 good-read l g = ap settings_of g.text ∙ reads g.name g.n g.limit g.rest g.good
 
 -- what the answer to l says of it
-abbrev SaysSo : List ℕ → Opened → Type 0
+abbrev SaysSo : List ℕ → Opening → Type 0
 SaysSo l o = ReadSo l o.settings.session o.settings.next.0 o.settings.limit.0 o.size
 
 only : (l : List ℕ) → (settings_of l).refusal.number ≡ 0 → SaysSo l (settings_of l)
 only l h = read-either l _ bad good
   where
     bad : settings_of l ≡ refused_opened → SaysSo l (settings_of l)
-    bad e = let k : ◌≡◌ {A = ℕ} 19 0 = sym (ap (λ (o : Opened). o.refusal.number) e) ∙ h in absurd (omega arith)
+    bad e = let k : ◌≡◌ {A = ℕ} 19 0 = sym (ap (λ (o : Opening). o.refusal.number) e) ∙ h in absurd (omega arith)
 
     good : GoodIn l → SaysSo l (settings_of l)
     good g =
@@ -514,7 +513,7 @@ settled a b h = read-either a _ refused good
     refused : settings_of a ≡ refused_opened → settings_of (a ++ b) ≡ settings_of a
     refused e = read-either (a ++ b) _ (λ f. f ∙ sym e)
         (λ g.
-        let k : ◌≡◌ {A = ℕ} 19 0 = ap (λ (o : Opened). o.refusal.number) (sym e ∙ good-read a (good-within a b h g)) in
+        let k : ◌≡◌ {A = ℕ} 19 0 = ap (λ (o : Opening). o.refusal.number) (sym e ∙ good-read a (good-within a b h g)) in
         absurd (omega arith))
 
 size_within : SizeWithin

@@ -1,6 +1,7 @@
 -- The settings at the front of a capture, as a list of bytes.
-use Rattle.std.specs.Prelude.{ℕ, ◌+◌, List, [], ◌∷◌, Bool, true, not, ◌&&◌, length, take, drop, get_or, ltb, leb, eqb, if◌then◌else◌}
+use Rattle.std.specs.Prelude.{ℕ, ◌+◌, List, [], ◌∷◌, Bool, true, not, ◌&&◌, length, take, drop, get_or, ltb, leb, eqb, if◌then◌else◌, Result, Ok, Err}
 use Rattle.wire.specs.Refusals.{bad_setting}
+use Rattle.wire.specs.declared.refusal.Refusal.{Refusal}
 use Rattle.wire.specs.Bytes.{same_bytes}
 use Rattle.wire.specs.Text.{letter, ascii}
 use Rattle.wire.specs.Bounds.{least_number, largest_number, least_limit, largest_limit, session_size, blank}
@@ -70,8 +71,18 @@ line_of l = line_from 0 l
 abbrev pub settings : List ℕ → ℕ → ℕ → Settings
 settings name n limit = record { session = name; next = record { 0 = n }; limit = record { 0 = limit } }
 
+-- what reading settings comes to: 19, or 0; the settings; and how many bytes they take
+pub record Opening : Type 0 where
+  pub refusal : Refusal
+  pub settings : Settings
+  pub size : ℕ
+
+-- the answer that says so: a refusal is handed up alone
+unfoldable pub opened_of : Opening → Result Opened Refusal
+opened_of x = if eqb x.refusal.number 0 then Ok (record { settings = x.settings; size = x.size }) else Err x.refusal
+
 -- our answer to document 01's bad settings: 19 as for a receiver's start, a blank name, and every number 0
-abbrev pub refused_opened : Opened
+abbrev pub refused_opened : Opening
 refused_opened = record { refusal = record { number = bad_setting }; settings = settings blank 0 0; size = 0 }
 
 -- the bytes that all settings have: the three keys, the name, and its line feed
@@ -86,7 +97,7 @@ unfoldable pub limit_line : List ℕ → Line
 limit_line l = line_of (past_of limit_key (drop (next_line l).size (past_of next_key l)))
 
 -- the two numbers in their bounds: those that a receiver's start takes
-unfoldable pub numbers_of : List ℕ → List ℕ → Opened
+unfoldable pub numbers_of : List ℕ → List ℕ → Opening
 numbers_of name l =
     if ltb (next_line l).value least_number then refused_opened
     else if ltb (limit_line l).value least_limit then refused_opened
@@ -98,7 +109,7 @@ numbers_of name l =
     }
 
 -- the name after its key: ten printable bytes, not all of them spaces, and a line feed
-unfoldable pub name_line : List ℕ → Opened
+unfoldable pub name_line : List ℕ → Opening
 name_line l =
     if leb (length l) session_size then refused_opened
     else if not (eqb (get_or l session_size 0) line_feed) then refused_opened
@@ -107,5 +118,5 @@ name_line l =
     else numbers_of (take session_size l) (drop (session_size + 1) l)
 
 -- the settings at the front of l, or their refusal
-unfoldable pub settings_of : List ℕ → Opened
+unfoldable pub settings_of : List ℕ → Opening
 settings_of l = name_line (past_of session_key l)

@@ -1,7 +1,8 @@
 // The settings of a capture, read strictly: no carriage return, sign, space, empty number or leading zero.
 #![tactic(auto, using(crate::proofs::Rules::opening))]
+
 ghost use Rattle.std.specs.Prelude.{◌≡◌};
-ghost use Rattle.capture_settings.specs.Settings.{refused_opened, numbers_of, settings_of};
+ghost use Rattle.capture_settings.specs.Settings.{opened_of, numbers_of, settings_of};
 ghost use Rattle.capture_settings.specs.Statements.{SettingsPromises};
 
 use crate::lines;
@@ -17,10 +18,9 @@ pub struct Settings {
     pub limit: MessageCount,
 }
 
-// What reading settings gives: 19, or none; the settings; and how many bytes they take.
+// Settings that were read, and how many bytes they take.
 #[derive(Clone, Copy)]
 pub struct Opened {
-    pub refusal: Refusal,
     pub settings: Settings,
     pub size: usize,
 }
@@ -31,70 +31,53 @@ const FIXED_SIZE: usize = 8 + 5 + 6 + SESSION_SIZE + 1;
 // The most bytes that good settings take: 20 digits, 5 digits, and a line feed after each.
 pub const LONGEST: usize = FIXED_SIZE + (20 + 1) + (5 + 1);
 
-// Bad settings: a blank name, and every number 0.
-fn refused() -> Opened
-    ensures { result ≡ refused_opened }
-{
-    Opened {
-        refusal: refusal::BAD_SETTING,
-        settings: Settings {
-            session: kinds::BLANK,
-            next: SequenceNumber(0),
-            limit: MessageCount(0),
-        },
-        size: 0,
-    }
-}
-
 // The lines of the two numbers, after that of the name.
-fn numbers(session: [u8; SESSION_SIZE], s: &[u8]) -> Opened
-    ensures { result ≡ numbers_of session s.now }
+fn numbers(session: [u8; SESSION_SIZE], s: &[u8]) -> Result<Opened, Refusal>
+    ensures { result ≡ opened_of (numbers_of session s.now) }
 {
     let a = lines::past(s, b"next=");
-    let next = lines::number_line(a);
-    let next_size = next.size;
-    let b = lines::past(&a[next_size..], b"limit=");
-    let limit = lines::number_line(b);
+    let next = lines::number_line(a).ok_or(refusal::BAD_SETTING)?;
+    let b = lines::past(&a[next.size..], b"limit=");
+    let limit = lines::number_line(b).ok_or(refusal::BAD_SETTING)?;
     let n = next.value;
     let most = limit.value;
     if n < kinds::LEAST_NUMBER.0 {
-        return refused();
+        return Err(refusal::BAD_SETTING);
     }
-    if most < kinds::LEAST_LIMIT.0 as u64 {
-        return refused();
+    if most < u64::from(kinds::LEAST_LIMIT.0) {
+        return Err(refusal::BAD_SETTING);
     }
-    if (kinds::LARGEST_LIMIT.0 as u64) < most {
-        return refused();
+    if u64::from(kinds::LARGEST_LIMIT.0) < most {
+        return Err(refusal::BAD_SETTING);
     }
-    Opened {
-        refusal: refusal::NONE,
+    Ok(Opened {
         settings: Settings {
             session,
             next: SequenceNumber(n),
             limit: MessageCount(most as u16),
         },
-        size: FIXED_SIZE + next_size + limit.size,
-    }
+        size: FIXED_SIZE + next.size + limit.size,
+    })
 }
 
-// The settings at the front of a capture. What stands after them is not looked at.
-pub fn read(bytes: &[u8]) -> Opened
-    ensures value { result ≡ settings_of bytes.now }
+// The settings at the front of a capture, or 19. What stands after them is not looked at.
+pub fn read(bytes: &[u8]) -> Result<Opened, Refusal>
+    ensures value { result ≡ opened_of (settings_of bytes.now) }
     ensures promises { SettingsPromises }
 {
     let a = lines::past(bytes, b"session=");
     if a.len() <= SESSION_SIZE {
-        return refused();
+        return Err(refusal::BAD_SETTING);
     }
     if a[SESSION_SIZE] != lines::LINE_FEED {
-        return refused();
+        return Err(refusal::BAD_SETTING);
     }
     let name = &a[..SESSION_SIZE];
     if !lines::is_printable(name) {
-        return refused();
+        return Err(refusal::BAD_SETTING);
     }
     if compare::is_name(name, kinds::BLANK) {
-        return refused();
+        return Err(refusal::BAD_SETTING);
     }
     numbers(parts::first(a), &a[SESSION_SIZE + 1..])
 }
