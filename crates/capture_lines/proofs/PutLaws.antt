@@ -1,19 +1,22 @@
 -- The writers of lines, as their code has them.
 use mathlib.Core.Path.{◌≡◌, ◌∙◌}
 use mathlib.Core.List.{List, [], ◌∷◌, ◌++◌}
-use Prim.Native.Nat.{ℕ, ◌+◌, ◌-◌, ◌≤◌, ◌<◌}
+use Prim.Native.Nat.{ℕ, ◌+◌, ◌≤◌, min}
 use native.Mathlib.Omega.{arith}
 use lib.ListN.{length, take, length-append}
+use lib.Dec.{leb}
 use mir.Val.{Fits}
 use mir.Syntax.{w64}
 use Rattle.io.specs.Digits.{last_digits as io-digits, IsDigitCount}
-use Rattle.wire.specs.Bounds.{up_to}
+use Rattle.wire.specs.Bounds.{largest_number}
 use Rattle.wire.specs.Refusals.{output_short}
 use Rattle.wire.specs.declared.refusal.Refusal.{Refusal}
 use Rattle.wire.specs.Output.{Written}
-use Rattle.std.specs.Prelude.{Ok, Err}
+use Rattle.std.specs.Prelude.{if◌then◌else◌, Result, Ok, Err, ⊤}
 use Rattle.wire.specs.Output.{put, Writes}
-use Rattle.wire.proofs.Outputs.{put-put, writes_short, writes-done}
+use Rattle.wire.specs.Words.{refused_by}
+use Rattle.wire.proofs.Rooms.{capped-sum}
+use Rattle.wire.proofs.Outputs.{put-put, lay-over, writes-done}
 use Rattle.decimal.proofs.SpellLaws.{decimal-digits}
 use Rattle.capture_settings.specs.Settings.{session_key, line_feed}
 use Rattle.capture_settings.specs.Statements.{line}
@@ -23,21 +26,19 @@ use Rattle.capture_lines.proofs.LineLaws.{line-length}
 -- ---- a line
 
 module _ (l key value : List ℕ) (at : ℕ) where
-  pub line-beyond : length l < at → Writes (Err (record { number = output_short })) l l 0 at (line key value)
-  line-beyond h = writes_short l at (line key value) (omega arith)
+  pub line-over : (s : Result ⊤ Refusal) (w : Written) (r : Refusal)
+      → s ≡ refused_by (if leb (at + (length key + length value + 1)) (length l) then 0 else output_short) → s ≡ Err r → w ≡ Err r
+      → Writes w l l 0 at (line key value)
+  line-over s w r e d f = lay-over l at (line key value) s w r (rw (line-length key value) e) d f
 
-  pub line-over : at ≤ length l → length l - at < length key + length value + 1
-      → Writes (Err (record { number = output_short })) l l 0 at (line key value)
-  line-over f h = writes_short l at (line key value) (omega (arith, line-length key value))
-
-  pub line-done : (m o p : List ℕ) (x y z : Written) → at ≤ length l → length key + length value + 1 ≤ length l - at
-      → Writes x l m 0 at key → Writes y m o 0 (at + length key) value → Writes z o p 0 (at + length key + length value) (line_feed ∷ [])
+  pub line-done : (m o p : List ℕ) → at + (length key + length value + 1) ≤ length l
+      → m ≡ put l at key → o ≡ put m (at + length key) value → p ≡ put o (at + length key + length value) (line_feed ∷ [])
       → Writes (Ok (length key + length value + 1)) l p 0 at (line key value)
-  line-done m o p x y z f h u v w =
+  line-done m o p h u v w =
       let n = length-append key value in
-      let both : o ≡ put l at (key ++ value) = v.leaves ∙ rw u.leaves (put-put l at key value (omega arith)) in
+      let both : o ≡ put l at (key ++ value) = v ∙ rw u (put-put l at key value (omega arith)) in
       let i : at + length key + length value ≡ at + length (key ++ value) = omega arith in
-      let all : p ≡ put l at (line key value) = w.leaves ∙ rw (both, i) (put-put l at (key ++ value) (line_feed ∷ []) (omega arith)) in
+      let all : p ≡ put l at (line key value) = w ∙ rw (both, i) (put-put l at (key ++ value) (line_feed ∷ []) (omega arith)) in
       rw (← line-length key value) (writes-done l at (line key value) p (omega (arith, line-length key value)) all)
 
 -- ---- what it carries
@@ -57,9 +58,9 @@ refused-line-done r l m key p = p
 
 -- ---- the place behind it
 
-pub behind-wrote : (w : Written) (at k s : ℕ) → w ≡ Ok k → s ≡ up_to at k → s ≡ behind_of at w
+pub behind-wrote : (w : Written) (at k s : ℕ) → w ≡ Ok k → s ≡ min (at + k) largest_number → s ≡ behind_of at w
 unfolding behind_of
-behind-wrote w at k s e p = rw e p
+behind-wrote w at k s e p = rw e (capped-sum at k s p)
 
 pub behind-refused : (w : Written) (at : ℕ) (q : Refusal) → w ≡ Err q → at ≡ behind_of at w
 unfolding behind_of

@@ -1,5 +1,5 @@
 -- The laws that the functions' proofs need, for `search`.
 use borrow.Author.Rules.{rules}
-use Rattle.capture_lines.proofs.PutLaws.{line-beyond, line-over, line-done, number-line-done, session-line-done, refused-line-done, behind-wrote, behind-refused}
+use Rattle.capture_lines.proofs.PutLaws.{number-line-done, session-line-done, refused-line-done, behind-wrote, behind-refused}
 
-pub ruleset lines = (line-beyond, line-over, line-done, number-line-done, session-line-done, refused-line-done, behind-wrote, behind-refused, rules)
+pub ruleset lines = (number-line-done, session-line-done, refused-line-done, behind-wrote, behind-refused, rules)

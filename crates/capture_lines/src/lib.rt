@@ -7,23 +7,17 @@ ghost use Rattle.capture_settings.specs.Statements.{line};
 ghost use Rattle.capture_lines.specs.Lines.{number_line, session_line, refused_line, behind_of};
 
 use wire::kinds::{ByteOffset, SESSION_SIZE};
+use wire::output;
 use wire::refusal::Refusal;
-use wire::{counts, output, refusal};
 
 // Lays a line: its key, its value and a line feed.
 pub fn put_line(out: &mut [u8], at: ByteOffset, key: &[u8], value: &[u8]) -> Result<usize, Refusal>
     ensures { Writes result out.old out.new 0 at.0
         (line key.now value.now) }
 {
-    let from = at.0;
-    if out.len() < from {
-        return Err(refusal::OUTPUT_SHORT);
-    }
     let size = key.len() + value.len() + 1;
-    if out.len() - from < size {
-        return Err(refusal::OUTPUT_SHORT);
-    }
-    let value_at = from + key.len();
+    output::room(out.len(), at, size)?;
+    let value_at = at.0 + key.len();
     output::lay(out, at, key);
     output::lay(out, ByteOffset(value_at), value);
     output::lay(out, ByteOffset(value_at + value.len()), b"\n");
@@ -40,7 +34,11 @@ pub fn put_number_line(out: &mut [u8], at: ByteOffset, key: &[u8], n: u64) -> Re
 }
 
 // Lays the line with the name of the session.
-pub fn put_session_line(out: &mut [u8], at: ByteOffset, name: [u8; SESSION_SIZE]) -> Result<usize, Refusal>
+pub fn put_session_line(
+    out: &mut [u8],
+    at: ByteOffset,
+    name: [u8; SESSION_SIZE],
+) -> Result<usize, Refusal>
     ensures { Writes result out.old out.new 0 at.0 (session_line name) }
 {
     put_line(out, at, b"session=", &name)
@@ -58,7 +56,7 @@ pub fn behind(at: ByteOffset, written: Result<usize, Refusal>) -> ByteOffset
     ensures { result.0 ≡ behind_of at.0 written }
 {
     match written {
-        Ok(size) => ByteOffset(counts::sum(at.0 as u64, size as u64) as usize),
+        Ok(size) => ByteOffset(at.0.saturating_add(size)),
         Err(_) => at,
     }
 }
