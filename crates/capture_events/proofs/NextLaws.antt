@@ -10,11 +10,11 @@ use lib.Dec.{ltb}
 use borrow.Author.Tests.{eq-eqb, ne_eqb}
 use Rattle.wire.proofs.Cases.{zero_or_not}
 use Rattle.wire.proofs.PartLaws.{drop-take}
-use Rattle.capture_settings.specs.declared.settings.Settings as declared
 use Rattle.capture_settings.specs.declared.settings.Opened.{Opened}
-use Rattle.capture_settings.specs.Settings.{settings_of}
-use Rattle.capture_records.specs.declared.records.Front.{Front}
-use Rattle.capture_records.specs.declared.records.Front.TheVariants.{Whole, Short}
+use Rattle.capture_settings.specs.Settings.{opened_of, settings_of}
+use Rattle.capture_settings.proofs.OpenedLaws.{ok-read, err_read}
+use Rattle.wire.specs.declared.refusal.Refusal.{Refusal}
+use Rattle.std.specs.Prelude.{Result, Ok, Err, Option, Some, None}
 use Rattle.capture_records.specs.Records.{most_records, record_size, is_whole, datagram_of, record_words, record_in_front, datagrams_of, rest_of}
 use Rattle.capture_records.proofs.RecordLaws.{whole-within, said-short}
 use Rattle.capture_records.proofs.FrontLaws.{front-is, by_front, is-part, datagrams-zero, datagrams-none, datagrams-some, rest-none, rest_some}
@@ -24,11 +24,11 @@ use Rattle.capture_events.specs.declared.place.Found.{Found}
 use Rattle.capture_events.specs.declared.place.Found.TheVariants as found
 use Rattle.capture_events.specs.declared.place.Next.{Next}
 use Rattle.capture_events.specs.Events.{Event, opened, bad_settings, datagram, fold, datagrams, At, settings, records, done, refused, is_over_at, Read, reads, read_to, read_records, read_settings, read_on, waits_at, end_at}
-use Rattle.capture_events.specs.Next.{at_of, place_at, next_of, is_found, events_in, read_by, is_none, with_rest, OneByOne, EndsAt}
+use Rattle.capture_events.specs.Next.{at_of, place_at, next_of, events_in, read_by, is_none, with_rest, OneByOne, EndsAt}
 use Rattle.capture_events.proofs.EventLaws.{fold-joins, size_within, settings-so, settings-bad}
 
-abbrev next : Found → declared.Settings → Place → ℕ → Next
-next f s p n = record { event = f; settings = s; place = p; used = n }
+abbrev next : Option Found → Place → ℕ → Next
+next f p n = record { event = f; place = p; used = n }
 
 -- ---- places
 
@@ -48,30 +48,33 @@ at_place refused = refl
 
 -- ---- the settings: o is what was read of l
 
-module _ (l : List ℕ) (o : Opened) (e : o ≡ settings_of l) where
-  pub look-bad : (o.refusal.number ≡ 0 → ⊥) → read_by (next found.BadSettings o.settings Refused (length l)) l ≡ next_of settings l
+module _ (l : List ℕ) (o : Result Opened Refusal) (e : o ≡ opened_of (settings_of l)) where
+  pub look-bad : (r : Refusal) → o ≡ Err r → read_by (next (Some found.BadSettings) Refused (length l)) l ≡ next_of settings l
   unfolding at_of events_in next_of
-  look-bad z = let g : (settings_of l).refusal.number ≡ 0 → ⊥ = rw e at z in rw (ne_eqb _ _ g)
+  look-bad r f =
+      let g : (settings_of l).refusal.number ≡ 0 → ⊥ = err_read (settings_of l) r (sym f ∙ e) in rw (ne_eqb _ _ g)
 
-  pub look-good : o.refusal.number ≡ 0 → read_by (next found.Opened o.settings (Records most_records) o.size) l ≡ next_of settings l
+  pub look-good : (x : Opened) → o ≡ Ok x
+      → read_by (next (Some (found.Opened x.settings)) (Records most_records) x.size) l ≡ next_of settings l
   unfolding at_of events_in next_of
-  look-good z = let g : (settings_of l).refusal.number ≡ 0 = rw e at z in rw (eq-eqb _ _ g, e)
+  look-good x f =
+      let g = ok-read (settings_of l) x (sym f ∙ e) in rw (eq-eqb _ _ g.good, g.settings, g.size)
 
 -- ---- a record: p is the front of l
 
-module _ (s : declared.Settings) (l : List ℕ) where
-  pub look-most : (k : ℕ) → k ≡ 0 → read_by (next found.Nothing s Done (length l)) l ≡ next_of (records k) l
+module _ (l : List ℕ) where
+  pub look-most : (k : ℕ) → k ≡ 0 → read_by (next None Done (length l)) l ≡ next_of (records k) l
   unfolding at_of events_in next_of
   look-most k e = rw e
 
-  pub look-short : (k : ℕ) (p : Front) → (k ≡ 0 → ⊥) → record_words p ≡ record_in_front l → p ≡ Short
-      → read_by (next found.Nothing s (Records k) 0) l ≡ next_of (records k) l
+  pub look-short : (k : ℕ) (p : Option ℕ) → (k ≡ 0 → ⊥) → record_words p ≡ record_in_front l → p ≡ None
+      → read_by (next None (Records k) 0) l ≡ next_of (records k) l
   unfolding at_of events_in next_of
   look-short zero p z e f = absurd (z refl)
   look-short (suc k) p z e f = rw (said-short l (rw f at e))
 
-  pub look-whole : (k : ℕ) (p : Front) (n : ℕ) → (k ≡ 0 → ⊥) → record_words p ≡ record_in_front l → p ≡ Whole n
-      → read_by (next found.Datagram s (Records (k - 1)) n) l ≡ next_of (records k) l
+  pub look-whole : (k : ℕ) (p : Option ℕ) (n : ℕ) → (k ≡ 0 → ⊥) → record_words p ≡ record_in_front l → p ≡ Some n
+      → read_by (next (Some found.Datagram) (Records (k - 1)) n) l ≡ next_of (records k) l
   unfolding at_of events_in next_of
   look-whole zero p n z e f = absurd (z refl)
   look-whole (suc k) p n z e f =
@@ -90,12 +93,12 @@ module _ (p : Place) where
     unfolding at_of
     look-records k e h = rw e h
 
-  module _ (s : declared.Settings) (l : List ℕ) where
-    pub look-done : p ≡ Done → read_by (next found.Nothing s Done (length l)) l ≡ next_of (at_of p) l
+  module _ (l : List ℕ) where
+    pub look-done : p ≡ Done → read_by (next None p (length l)) l ≡ next_of (at_of p) l
     unfolding at_of events_in next_of
     look-done e = rw e
 
-    pub look-refused : p ≡ Refused → read_by (next found.Nothing s Refused (length l)) l ≡ next_of (at_of p) l
+    pub look-refused : p ≡ Refused → read_by (next None p (length l)) l ≡ next_of (at_of p) l
     unfolding at_of events_in next_of
     look-refused e = rw e
 
@@ -146,23 +149,6 @@ module _ (p : Place) where
   pub end_refused : p ≡ Refused → EndsAt p Refused
   unfolding at_of end_at
   end_refused e n = rw e
-
-module _ (f : Found) where
-  pub found_nothing : f ≡ found.Nothing → false ≡ is_found f
-  unfolding is_found
-  found_nothing e = rw e
-
-  pub found-opened : f ≡ found.Opened → true ≡ is_found f
-  unfolding is_found
-  found-opened e = rw e
-
-  pub found-bad : f ≡ found.BadSettings → true ≡ is_found f
-  unfolding is_found
-  found-bad e = rw e
-
-  pub found-datagram : f ≡ found.Datagram → true ≡ is_found f
-  unfolding is_found
-  found-datagram e = rw e
 
 -- ---- one by one they are all
 

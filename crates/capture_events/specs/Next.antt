@@ -1,13 +1,12 @@
 -- Events one by one: the one in front of some bytes, if one is there, and what comes next then.
-use Rattle.std.specs.Prelude.{ℕ, zero, suc, ◌+◌, List, [], ◌∷◌, ◌++◌, Bool, true, false, ◌≡◌, length, take, drop, eqb, if◌then◌else◌}
+use Rattle.std.specs.Prelude.{ℕ, zero, suc, ◌+◌, List, [], ◌∷◌, ◌++◌, Bool, true, false, ◌≡◌, length, take, drop, eqb, if◌then◌else◌, Option, Some, None}
 use Rattle.wire.specs.Bounds.{length_size}
-use Rattle.capture_settings.specs.declared.settings.Settings as declared
 use Rattle.capture_settings.specs.Settings.{settings_of}
 use Rattle.capture_records.specs.Records.{most_records, record_size, is_whole, datagram_of}
 use Rattle.capture_events.specs.declared.place.Place.{Place}
 use Rattle.capture_events.specs.declared.place.Place.TheVariants.{Settings, Records, Done, Refused}
 use Rattle.capture_events.specs.declared.place.Found.{Found}
-use Rattle.capture_events.specs.declared.place.Found.TheVariants.{Nothing, Opened, BadSettings, Datagram}
+use Rattle.capture_events.specs.declared.place.Found.TheVariants.{Opened, BadSettings, Datagram}
 use Rattle.capture_events.specs.declared.place.Next.{Next}
 use Rattle.capture_events.specs.Events.{Event, opened, bad_settings, datagram, At, settings, records, done}
 use Rattle.capture_events.specs.Events.{refused, Read, reads, read_on, end_at}
@@ -40,21 +39,15 @@ next_of refused l = reads refused [] (length l)
 
 -- ---- what `look` answers of the bytes l
 
-unfoldable pub is_found : Found → Bool
-is_found Nothing = false
-is_found Opened = true
-is_found BadSettings = true
-is_found Datagram = true
-
--- settings s were opened; a datagram is what follows the length of its record, the bytes l
-unfoldable pub events_in : Found → declared.Settings → List ℕ → List Event
-events_in Nothing s l = []
-events_in Opened s l = opened s ∷ []
-events_in BadSettings s l = bad_settings ∷ []
-events_in Datagram s l = datagram (drop length_size l) ∷ []
+-- a datagram is what follows the length of its record, the bytes l
+unfoldable pub events_in : Option Found → List ℕ → List Event
+events_in None l = []
+events_in (Some (Opened s)) l = opened s ∷ []
+events_in (Some BadSettings) l = bad_settings ∷ []
+events_in (Some Datagram) l = datagram (drop length_size l) ∷ []
 
 abbrev pub read_by : Next → List ℕ → Read
-read_by r l = reads (at_of r.place) (events_in r.event r.settings (take r.used l)) r.used
+read_by r l = reads (at_of r.place) (events_in r.event (take r.used l)) r.used
 
 -- what comes next at the end of the input, however many bytes are left
 abbrev pub EndsAt : Place → Place → Type 0

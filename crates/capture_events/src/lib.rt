@@ -12,11 +12,5 @@ pub fn there(size: usize, have: usize, got: usize) -> usize
     ensures value { result ≡ min size (have + got) }
     ensures promises { TurnPromises }
 {
-    if size < have {
-        return size;
-    }
-    if size - have < got {
-        return size;
-    }
-    have + got
+    size.min(have.saturating_add(got))
 }
