@@ -1,13 +1,14 @@
 -- A datagram taken, as the code has it.
 use mathlib.Core.Path.{◌≡◌, refl, ap, sym, ◌∙◌}
 use mathlib.Core.List.{List, [], ◌∷◌}
+use mathlib.Core.Logic.{◌⊎◌, inl, inr}
 use mathlib.Core.Bool.{Bool, true, false}
 use Prim.Native.Nat.{ℕ, ◌+◌, ◌/◌, min}
 use native.Mathlib.Omega.{arith}
 use lib.ListN.{length, take}
 use lib.Dec.{eqb}
 use borrow.Author.Tests.{ne_eqb, eq-eqb}
-use Rattle.std.specs.Prelude.{if◌then◌else◌}
+use Rattle.std.specs.Prelude.{if◌then◌else◌, Result, Ok, Err, is_ok}
 use Rattle.wire.specs.Bounds.{largest_number}
 use Rattle.wire.specs.Bytes.{same_bytes}
 use Rattle.wire.specs.Output.{put}
@@ -17,7 +18,7 @@ use Rattle.wire.specs.declared.kinds.SequenceNumber.{SequenceNumber}
 use Rattle.wire.specs.declared.kinds.MessageCount.{MessageCount}
 use Rattle.moldudp64.specs.Header.{number_of}
 use Rattle.moldudp64.specs.declared.downstream.Downstream.{Downstream}
-use Rattle.moldudp64.specs.declared.downstream.Downstream.TheVariants.{Data, Heartbeat, EndOfSession, Refused}
+use Rattle.moldudp64.specs.declared.downstream.Downstream.TheVariants.{Data, Heartbeat, EndOfSession}
 use Rattle.moldudp64.specs.Downstream.{heartbeat, end_of_session, refusal_of, downstream_words, downstream_of}
 use Rattle.moldudp64.proofs.DownstreamLaws.{sound, data_read, kind-read, refusal-read, number_read, no_blocks}
 use Rattle.missing_ranges.specs.declared.ranges.Missing.{Missing}
@@ -47,60 +48,76 @@ module _ (x : Notes) (l : List ℕ) (ours b : Bool) (f e : ℕ) (p : b ≡ ours)
 
 -- ---- what a datagram says, by what was read
 
-abbrev said : Bool → SequenceNumber → SequenceNumber → Said
-said b f e = record { read = b; first = f; next = e }
+abbrev said : SequenceNumber → SequenceNumber → Said
+said f e = record { first = f; next = e }
 
-said-so : (d : List ℕ) (f e : SequenceNumber) → refusal_of d ≡ 0 → f.0 ≡ number_of d → e.0 ≡ next_in d → IsSaid (said true f e) d
-said-so d f e z p q = record { well = sym (eq-eqb _ _ z); numbers = λ t. (p, q) }
+or-other : Said → Result Said Refusal → Said
+or-other z (Ok s) = s
+or-other z (Err r) = z
 
-module _ (d : List ℕ) (p : Downstream) (q : downstream_words p ≡ downstream_of d) where
-  pub said-data : (n : SequenceNumber) (c : MessageCount) (e : SequenceNumber) → p ≡ Data n c → e.0 ≡ min largest_number (n.0 + c.0) → IsSaid (said true n e) d
+said-so : (d : List ℕ) (f e : SequenceNumber) → refusal_of d ≡ 0 → f.0 ≡ number_of d → e.0 ≡ next_in d → IsSaid (Ok (said f e)) d
+unfolding or-other
+said-so d f e z p q =
+    record {
+      well = sym (eq-eqb _ _ z);
+      numbers = λ s t. let h = ap (or-other s) t in (ap (λ (x : Said). x.first.0) (sym h) ∙ p, ap (λ (x : Said). x.next.0) (sym h) ∙ q);
+    }
+
+module _ (d : List ℕ) (w : Result Downstream Refusal) (q : downstream_words w ≡ downstream_of d) where
+  module _ (p : Downstream) (o : w ≡ Ok p) where
+    pub said-data : (n : SequenceNumber) (c : MessageCount) (e : SequenceNumber) → p ≡ Data n c → e.0 ≡ min largest_number (n.0 + c.0)
+        → IsSaid (Ok (said n e)) d
+    unfolding downstream_words
+    said-data n c e g h =
+        let k = data_read d n.0 c.0 (sym (rw (o, g) at q)) in
+        let s = (sound d k.well).numbers_fit in
+        let i : e.0 ≡ next_in d = omega (arith, k.first, k.blocks) in
+        said-so d n e k.well k.first i
+
+    said-heartbeat : (n : SequenceNumber) → p ≡ Heartbeat n → IsSaid (Ok (said n n)) d
+    unfolding downstream_words
+    said-heartbeat n g =
+        let h = sym (rw (o, g) at q) in
+        let k = kind-read d heartbeat (n.0 ∷ []) h in
+        let v = number_read d heartbeat n.0 [] h in
+        let z = no_blocks d heartbeat k.1 refl in
+        said-so d n n k.0 (sym v) (omega arith)
+
+    said-end : (n : SequenceNumber) → p ≡ EndOfSession n → IsSaid (Ok (said n n)) d
+    unfolding downstream_words
+    said-end n g =
+        let h = sym (rw (o, g) at q) in
+        let k = kind-read d end_of_session (n.0 ∷ []) h in
+        let v = number_read d end_of_session n.0 [] h in
+        let z = no_blocks d end_of_session k.1 refl in
+        said-so d n n k.0 (sym v) (omega arith)
+
+    -- both state the next number alone
+    pub said-alone : (n : SequenceNumber) → (p ≡ Heartbeat n) ⊎ (p ≡ EndOfSession n) → IsSaid (Ok (said n n)) d
+    said-alone n (inl e) = said-heartbeat n e
+    said-alone n (inr e) = said-end n e
+
+  pub said-refused : (r t : Refusal) (s : Result Said Refusal) → w ≡ Err r → s ≡ Err t → IsSaid s d
   unfolding downstream_words
-  said-data n c e g h =
-      let k = data_read d n.0 c.0 (sym (rw g at q)) in
-      let s = (sound d k.well).numbers_fit in
-      let i : e.0 ≡ next_in d = omega (arith, k.first, k.blocks) in
-      said-so d n e k.well k.first i
-
-  pub said-heartbeat : (n : SequenceNumber) → p ≡ Heartbeat n → IsSaid (said true n n) d
-  unfolding downstream_words
-  said-heartbeat n g =
-      let h = sym (rw g at q) in
-      let k = kind-read d heartbeat (n.0 ∷ []) h in
-      let v = number_read d heartbeat n.0 [] h in
-      let z = no_blocks d heartbeat k.1 refl in
-      said-so d n n k.0 (sym v) (omega arith)
-
-  pub said-end : (n : SequenceNumber) → p ≡ EndOfSession n → IsSaid (said true n n) d
-  unfolding downstream_words
-  said-end n g =
-      let h = sym (rw g at q) in
-      let k = kind-read d end_of_session (n.0 ∷ []) h in
-      let v = number_read d end_of_session n.0 [] h in
-      let z = no_blocks d end_of_session k.1 refl in
-      said-so d n n k.0 (sym v) (omega arith)
-
-  pub said-refused : (r : Refusal) (f e : SequenceNumber) → p ≡ Refused r → IsSaid (said false f e) d
-  unfolding downstream_words
-  said-refused r f e g =
+  said-refused r t s g e =
       let z = refusal-read d r.number (sym (rw g at q)) in
-      record { well = sym (ne_eqb _ _ z); numbers = λ t. let y : ◌≡◌ {A = ℕ} 0 1 = cc in absurd (omega arith) }
+      rw e (record { well = sym (ne_eqb _ _ z); numbers = λ x h. let y : ◌≡◌ {A = ℕ} 0 1 = cc in absurd (omega arith) })
 
 -- ---- a datagram
 
-module _ (x : Notes) (l d : List ℕ) (s : Said) (i : IsSaid s d) where
-  pub take-read : (y : Notes) (m : List ℕ) → s.read ≡ true
-      → lent_notes y m ≡ noted_if (same_bytes (take 10 d) x.session) (lent_notes x l) s.first.0 s.next.0
+module _ (x : Notes) (l d : List ℕ) (s : Result Said Refusal) (i : IsSaid s d) where
+  pub take-read : (z : Said) (y : Notes) (m : List ℕ) → s ≡ Ok z
+      → lent_notes y m ≡ noted_if (same_bytes (take 10 d) x.session) (lent_notes x l) z.first.0 z.next.0
       → lent_notes y m ≡ take_of (lent_notes x l) d
   unfolding take_of accepted noted_if
-  take-read y m t g =
-      let n = i.numbers t in
-      let w : eqb (refusal_of d) 0 ≡ true = sym i.well ∙ t in
+  take-read z y m t g =
+      let n = i.numbers z t in
+      let w : eqb (refusal_of d) 0 ≡ true = sym i.well ∙ ap is_ok t in
       g ∙ rw (w, n.0, n.1)
 
-  pub take-refused : s.read ≡ false → lent_notes x l ≡ take_of (lent_notes x l) d
+  pub take-refused : (r : Refusal) → s ≡ Err r → lent_notes x l ≡ take_of (lent_notes x l) d
   unfolding take_of accepted
-  take-refused t = let w : eqb (refusal_of d) 0 ≡ false = sym i.well ∙ t in rw w
+  take-refused r t = let w : eqb (refusal_of d) 0 ≡ false = sym i.well ∙ ap is_ok t in rw w
 
 -- ---- lent words keep their length
 

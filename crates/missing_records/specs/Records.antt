@@ -1,7 +1,8 @@
 -- The missing ranges of a session, from datagram to datagram.
-use Rattle.std.specs.Prelude.{ℕ, ◌+◌, List, [], ◌∷◌, Bool, true, false, ◌≡◌, take, if◌then◌else◌}
+use Rattle.std.specs.Prelude.{ℕ, ◌+◌, List, [], ◌∷◌, Bool, false, ◌≡◌, take, if◌then◌else◌, Result, Ok, is_ok}
 use Rattle.wire.specs.Bounds.{session_size}
 use Rattle.wire.specs.Bytes.{same_bytes}
+use Rattle.wire.specs.declared.refusal.Refusal.{Refusal}
 use Rattle.moldudp64.specs.Header.{number_of}
 use Rattle.moldudp64.specs.Downstream.{block_count, well_formed}
 use Rattle.missing_ranges.specs.Notes.{Lent, lent, start_in, note_of}
@@ -57,6 +58,6 @@ unfoldable pub noted_if : Bool → LentNotes → ℕ → ℕ → LentNotes
 noted_if ours x f e = if ours then notes_with x.notes.session (note_of (lent_in x) f e) else x
 
 -- whether a datagram is read without refusal, and its numbers then
-pub record IsSaid (r : Said) (d : List ℕ) : Type 0 where
-  pub well : r.read ≡ well_formed d
-  pub numbers : r.read ≡ true → (r.first.0 ≡ number_of d) × (r.next.0 ≡ next_in d)
+pub record IsSaid (r : Result Said Refusal) (d : List ℕ) : Type 0 where
+  pub well : is_ok r ≡ well_formed d
+  pub numbers : (s : Said) → r ≡ Ok s → (s.first.0 ≡ number_of d) × (s.next.0 ≡ next_in d)

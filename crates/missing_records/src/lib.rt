@@ -11,6 +11,7 @@ use missing_ranges::ranges::Missing;
 use moldudp64::downstream::Downstream;
 use moldudp64::{downstream, header};
 use wire::kinds::{SESSION_SIZE, SequenceNumber};
+use wire::refusal::Refusal;
 
 // What is noted of a session: its name, and its missing ranges.
 #[derive(Clone, Copy)]
@@ -19,39 +20,25 @@ pub struct Notes {
     pub missing: Missing,
 }
 
-// What a datagram says: whether it is read without refusal, and then the first number that it carries and the next one
-// that it states or implies. In one place, so that the numbers are noted by one call.
+// What a datagram says: the first number that it carries, and the next one that it states or implies.
 #[derive(Clone, Copy)]
 struct Said {
-    read: bool,
     first: SequenceNumber,
     next: SequenceNumber,
 }
 
-fn said_in(datagram: &[u8]) -> Said
+fn said_in(datagram: &[u8]) -> Result<Said, Refusal>
     ensures { IsSaid result datagram.now }
 {
-    match downstream::read(datagram) {
-        Downstream::Data { first, count } => Said {
-            read: true,
+    match downstream::read(datagram)? {
+        Downstream::Data { first, count } => Ok(Said {
             first,
             next: first.plus(count),
-        },
-        Downstream::Heartbeat { next } => Said {
-            read: true,
+        }),
+        Downstream::Heartbeat { next } | Downstream::EndOfSession { next } => Ok(Said {
             first: next,
             next,
-        },
-        Downstream::EndOfSession { next } => Said {
-            read: true,
-            first: next,
-            next,
-        },
-        Downstream::Refused(_) => Said {
-            read: false,
-            first: SequenceNumber(0),
-            next: SequenceNumber(0),
-        },
+        }),
     }
 }
 
@@ -76,13 +63,11 @@ impl Notes {
             ≡ noted_if (same_bytes (take session_size datagram.now) self.session)
             (lent_notes self edges.old) first.0 next.0 }
     {
-        let session = self.session;
-        let missing = self.missing;
+        let Notes { session, missing } = self;
         if header::has_session(datagram, session) {
-            let noted = missing.note(edges, first, next);
             return Notes {
                 session,
-                missing: noted,
+                missing: missing.note(edges, first, next),
             };
         }
         self
@@ -95,10 +80,9 @@ impl Notes {
             ≡ take_of (lent_notes self edges.old) datagram.now }
         ensures promises { DatagramPromises }
     {
-        let said = said_in(datagram);
-        if said.read {
-            return self.note(edges, datagram, said.first, said.next);
+        match said_in(datagram) {
+            Ok(said) => self.note(edges, datagram, said.first, said.next),
+            Err(_) => self,
         }
-        self
     }
 }
