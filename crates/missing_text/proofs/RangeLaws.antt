@@ -21,9 +21,6 @@ edges_text top bs = ranges_text (ranges_of top bs)
 
 -- ---- one range
 
-pub before-zero : (n : ℕ) → n ≡ 0 → 0 ≡ n - 1
-before-zero n h = omega arith
-
 pub range-laid : (l m o : List ℕ) (v w : Written) (at a b f t e : ℕ) → Writes v l m 0 at (number_line from_key f) → a ≡ behind_of at v → t ≡ e - 1
     → Writes w m o 0 a (number_line to_key t) → b ≡ behind_of a w → at + 50 ≤ length l → length l * 1 < 2 ^ 63
     → LaysLine b l o at (range_text (range f (e - 1))) 50
@@ -143,12 +140,3 @@ end-open l at top bs out place (a ∷ []) o p c h z g y =
       within = omega (arith, text-length top bs);
     }
 end-open l at top bs out place (a ∷ b ∷ es) o p c h z g y = absurd (omega arith)
-
-pub some_left : (es : List ℕ) → (length es ≡ 0 → ⊥) → 0 < length es
-some_left es z = omega arith
-
-pub two-left : (es : List ℕ) → 2 ≤ length es → 1 < length es
-two-left es h = omega arith
-
-pub one_left : (es : List ℕ) → 2 ≤ length es → 0 < length es
-one_left es h = omega arith

@@ -1,5 +1,6 @@
 // The lines of missing ranges, laid one after the other into an output that has room for them.
 #![tactic(auto, using(crate::proofs::Rules::ranges, crate::proofs::Rules::texts))]
+
 ghost use Rattle.std.specs.Prelude.{◌+◌, ◌*◌, ◌-◌, ◌≤◌, ◌≡◌, true, ◌++◌, length};
 ghost use Rattle.wire.specs.Output.{Writes};
 ghost use Rattle.capture_lines.specs.Lines.{LaysLine, session_line};
@@ -11,16 +12,6 @@ use missing_ranges::ranges::Missing;
 use wire::kinds::{ByteOffset, SESSION_SIZE};
 use wire::refusal::Refusal;
 
-// The number before another; 0 before 0.
-fn before(n: u64) -> u64
-    ensures { result ≡ n - 1 }
-{
-    if n == 0 {
-        return 0;
-    }
-    n - 1
-}
-
 // A range from one edge to just below the next, as its two lines.
 fn put_range(out: &mut [u8], at: ByteOffset, from: u64, edge: u64) -> ByteOffset
     requires { at.0 + 50 ≤ length out.old }
@@ -28,7 +19,7 @@ fn put_range(out: &mut [u8], at: ByteOffset, from: u64, edge: u64) -> ByteOffset
         (range_text (range from (edge - 1))) 50 }
 {
     let a = capture_lines::behind(at, capture_lines::put_number_line(out, at, b"from=", from));
-    let to = before(edge);
+    let to = edge.saturating_sub(1);
     capture_lines::behind(a, capture_lines::put_number_line(out, a, b"to=", to))
 }
 
@@ -39,19 +30,15 @@ fn put_ranges(out: &mut [u8], at: ByteOffset, edges: &[u64], top: u64) -> ByteOf
         (ranges_text (ranges_of top edges.now)) (25 * length edges.now + 25) }
 {
     let mut rest = edges;
-    let mut place = at.0;
-    while 2 <= rest.len() {
-        let next = put_range(out, ByteOffset(place), rest[0], rest[1]);
-        place = next.0;
-        rest = &rest[2..];
+    let mut place = at;
+    while let [from, edge, behind @ ..] = rest {
+        place = put_range(out, place, *from, *edge);
+        rest = behind;
     }
-    if rest.len() == 0 {
-        return ByteOffset(place);
+    match rest {
+        [from] if *from < top => put_range(out, place, *from, top),
+        _ => place,
     }
-    if top <= rest[0] {
-        return ByteOffset(place);
-    }
-    put_range(out, ByteOffset(place), rest[0], top)
 }
 
 // The line with the name of the session, at the front, and the ranges behind it.
