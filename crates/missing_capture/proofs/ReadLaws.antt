@@ -2,6 +2,8 @@
 use mathlib.Core.Path.{◌≡◌, refl, ap, sym, ◌∙◌}
 use mathlib.Core.List.{List, [], ◌∷◌, ◌++◌}
 use mathlib.Core.Bool.{Bool, true, false}
+use mathlib.Core.Logic.{◌⊎◌, inl, inr}
+use Rattle.std.specs.Prelude.{Option, Some, None}
 use Prim.Native.Nat.{ℕ, ◌+◌, ◌*◌, ◌-◌, ◌^◌, ◌≤◌, ◌<◌}
 use native.Mathlib.Omega.{arith}
 use lib.ListN.{length, take, drop, drop_of_length-le}
@@ -22,7 +24,7 @@ use Rattle.capture_events.specs.declared.place.Found.{Found}
 use Rattle.capture_events.specs.declared.place.Found.TheVariants as found
 use Rattle.capture_events.specs.declared.place.Next.{Next}
 use Rattle.capture_events.specs.Events.{Event, opened, bad_settings, datagram, cut_short, fold, At, settings, records, done, refused, read_on, waits_at, read_piece, end_at, read_last}
-use Rattle.capture_events.specs.Next.{at_of, place_at, next_of, is_found, events_in, read_by, is_none, EndsAt}
+use Rattle.capture_events.specs.Next.{at_of, place_at, next_of, events_in, read_by, is_none, EndsAt}
 use Rattle.capture_events.proofs.EventLaws.{fold-joins}
 use Rattle.capture_events.proofs.NextLaws.{place_at-at_of, at_place, Going, going_start, going-within, going_next, going_less, going-folded, going-at, going-used}
 use Rattle.missing_records.specs.declared.Notes.{Notes}
@@ -49,40 +51,34 @@ datagram-none l h = sym (drop_of_length-le l {i = 2} (omega arith))
 pub datagram-some : (l : List ℕ) → take (length l - 2) (drop 2 l) ≡ drop 2 l
 datagram-some l = part_to_end 2 l
 
-module _ (x : Notes) (l : List ℕ) (f : Found) (s : declared.Settings) (bs : List ℕ) where
-  pub note-nothing : f ≡ found.Nothing → lent_notes x l ≡ fold noted_by (lent_notes x l) (events_in f s bs)
-  unfolding fold events_in
-  note-nothing e = rw e
-
-  pub note-bad : f ≡ found.BadSettings → lent_notes x l ≡ fold noted_by (lent_notes x l) (events_in f s bs)
+module _ (x : Notes) (l : List ℕ) (f : Found) (bs : List ℕ) where
+  pub note-bad : f ≡ found.BadSettings → lent_notes x l ≡ fold noted_by (lent_notes x l) (events_in (Some f) bs)
   unfolding fold events_in noted_by
   note-bad e = rw e
 
   module _ (y : Notes) (m : List ℕ) where
-    pub note-opened : f ≡ found.Opened → lent_notes y m ≡ start_notes s.session l s.next.0 → lent_notes y m ≡ fold noted_by (lent_notes x l) (events_in f s bs)
+    pub note-opened : (s : declared.Settings) → f ≡ found.Opened s → lent_notes y m ≡ start_notes s.session l s.next.0
+        → lent_notes y m ≡ fold noted_by (lent_notes x l) (events_in (Some f) bs)
     unfolding fold events_in noted_by
-    note-opened e g = rw e g
+    note-opened s e g = rw e g
 
-    pub note-datagram : (d : List ℕ) → f ≡ found.Datagram → d ≡ drop 2 bs → lent_notes y m ≡ take_of (lent_notes x l) d → lent_notes y m ≡ fold noted_by (lent_notes x l) (events_in f s bs)
+    pub note-datagram : (d : List ℕ) → f ≡ found.Datagram → d ≡ drop 2 bs → lent_notes y m ≡ take_of (lent_notes x l) d
+        → lent_notes y m ≡ fold noted_by (lent_notes x l) (events_in (Some f) bs)
     unfolding fold events_in noted_by
     note-datagram d e h g = rw (e, ← h) g
 
 -- ---- the loop: p comes next, the bytes l are left, and n is what `look` reads of them
 
 -- an event is there exactly where one was found
-found_none : (f : Found) (s : declared.Settings) (l : List ℕ) (b : Bool) → b ≡ is_found f → b ≡ false → is_none (events_in f s l) ≡ true
-unfolding is_found events_in is_none
-found_none found.Nothing s l b e h = refl
-found_none found.Opened s l b e h = let z : ◌≡◌ {A = ℕ} 0 1 = cc in absurd (omega arith)
-found_none found.BadSettings s l b e h = let z : ◌≡◌ {A = ℕ} 0 1 = cc in absurd (omega arith)
-found_none found.Datagram s l b e h = let z : ◌≡◌ {A = ℕ} 0 1 = cc in absurd (omega arith)
+found_none : (f : Option Found) (l : List ℕ) → f ≡ None → is_none (events_in f l) ≡ true
+unfolding events_in is_none
+found_none f l e = rw e
 
-found_some : (f : Found) (s : declared.Settings) (l : List ℕ) (b : Bool) → b ≡ is_found f → b ≡ true → is_none (events_in f s l) ≡ false
-unfolding is_found events_in is_none
-found_some found.Nothing s l b e h = let z : ◌≡◌ {A = ℕ} 0 1 = cc in absurd (omega arith)
-found_some found.Opened s l b e h = refl
-found_some found.BadSettings s l b e h = refl
-found_some found.Datagram s l b e h = refl
+found_some : (f : Option Found) (l : List ℕ) (x : Found) → f ≡ Some x → is_none (events_in f l) ≡ false
+unfolding events_in is_none
+found_some f l (found.Opened s) e = rw e
+found_some f l found.BadSettings e = rw e
+found_some f l found.Datagram e = rw e
 
 -- the lent words keep their length
 event-long : (x : LentNotes) (e : Event) → length (noted_by x e).edges ≡ length x.edges
@@ -121,32 +117,32 @@ module _ {x₀ : LentNotes} {p₀ : Place} {l₀ : List ℕ} {x : Notes} {es : L
     pub loop-fits : length l₀ * 1 < 2 ^ 63 → Fits w64 (length l₀ - length l + n.used)
     loop-fits h = record { fits = omega (arith, g.going.shorter, loop-used) }
 
-    module _ (b : Bool) (e : b ≡ is_found n.event) where
-      module _ (t : b ≡ true) where
-        some : is_none (read_by n l).events ≡ false
-        some = found_some n.event n.settings (take n.used l) b e t
+    module _ (v : Found) (e : n.event ≡ Some v) where
+      some : is_none (read_by n l).events ≡ false
+      some = found_some n.event (take n.used l) v e
 
-        pub loop-next : (y : Notes) (m : List ℕ) → lent_notes y m ≡ fold noted_by (lent_notes x es) (events_in n.event n.settings (take n.used l))
-            → Looping x₀ p₀ l₀ (lent_notes y m) n.place (take (length l - n.used) (drop n.used l))
-        loop-next y m f =
-            rw (part_to_end n.used l)
-            (record {
-              going = going_next noted_by x₀ (at_of p₀) l₀ (lent_notes x es) (at_of p) l g.going (read_by n l) r some (lent_notes y m) f;
-              long = ap (λ (z : LentNotes). length z.edges) f ∙ fold-long (lent_notes x es) (read_by n l).events ∙ g.long;
-            })
+      pub loop-next : (y : Notes) (m : List ℕ) → lent_notes y m ≡ fold noted_by (lent_notes x es) (events_in (Some v) (take n.used l))
+          → Looping x₀ p₀ l₀ (lent_notes y m) n.place (take (length l - n.used) (drop n.used l))
+      loop-next y m f =
+          let f₁ : lent_notes y m ≡ fold noted_by (lent_notes x es) (events_in n.event (take n.used l)) = rw e f in
+          rw (part_to_end n.used l)
+          (record {
+            going = going_next noted_by x₀ (at_of p₀) l₀ (lent_notes x es) (at_of p) l g.going (read_by n l) r some (lent_notes y m) f₁;
+            long = ap (λ (z : LentNotes). length z.edges) f₁ ∙ fold-long (lent_notes x es) (read_by n l).events ∙ g.long;
+          })
 
-        pub loop-less : length (read_on (at_of n.place) (take (length l - n.used) (drop n.used l))).events < length (read_on (at_of p) l).events
-        loop-less = rw (part_to_end n.used l) (going_less noted_by x₀ (at_of p₀) l₀ (lent_notes x es) (at_of p) l g.going (read_by n l) r some)
+      pub loop-less : length (read_on (at_of n.place) (take (length l - n.used) (drop n.used l))).events < length (read_on (at_of p) l).events
+      loop-less = rw (part_to_end n.used l) (going_less noted_by x₀ (at_of p₀) l₀ (lent_notes x es) (at_of p) l g.going (read_by n l) r some)
 
-      pub loop-end : b ≡ false → lent_fed (fed (reading n.place x) (length l₀ - length l + n.used)) es ≡ fed_by x₀ (read_on (at_of p₀) l₀)
-      loop-end t =
-          let z = found_none n.event n.settings (take n.used l) b e t in
-          let d = going-folded noted_by x₀ (at_of p₀) l₀ (lent_notes x es) (at_of p) l g.going (read_by n l) r z in
-          let a = going-at noted_by x₀ (at_of p₀) l₀ (lent_notes x es) (at_of p) l g.going (read_by n l) r z in
-          let u = going-used noted_by x₀ (at_of p₀) l₀ (lent_notes x es) (at_of p) l g.going (read_by n l) r z in
-          let q : n.place ≡ place_at (read_on (at_of p₀) l₀).at = sym (place_at-at_of n.place) ∙ ap place_at a in
-          ap (λ (y : LentNotes). lent_fed (fed (reading n.place y.notes) (length l₀ - length l + n.used)) y.edges) d
-          ∙ rw (q, u)
+    pub loop-end : n.event ≡ None → lent_fed (fed (reading n.place x) (length l₀ - length l + n.used)) es ≡ fed_by x₀ (read_on (at_of p₀) l₀)
+    loop-end t =
+        let z = found_none n.event (take n.used l) t in
+        let d = going-folded noted_by x₀ (at_of p₀) l₀ (lent_notes x es) (at_of p) l g.going (read_by n l) r z in
+        let a = going-at noted_by x₀ (at_of p₀) l₀ (lent_notes x es) (at_of p) l g.going (read_by n l) r z in
+        let u = going-used noted_by x₀ (at_of p₀) l₀ (lent_notes x es) (at_of p) l g.going (read_by n l) r z in
+        let q : n.place ≡ place_at (read_on (at_of p₀) l₀).at = sym (place_at-at_of n.place) ∙ ap place_at a in
+        ap (λ (y : LentNotes). lent_fed (fed (reading n.place y.notes) (length l₀ - length l + n.used)) y.edges) d
+        ∙ rw (q, u)
 
 -- ---- feeding and finishing
 
@@ -190,21 +186,14 @@ finish-long s es m l f e = ap (λ (g : LentFed). length g.edges) e ∙ fold-long
 -- ---- writing
 
 module _ (s : Reading) (es l m : List ℕ) (w : Written) where
-  module _ (h : room ≤ length l) where
-    pub write-settings : s.place ≡ Settings → Writes w l m 0 0 settings_refused → Writes w l m (room_ground l) 0 (text_of (lent_reading s es))
-    unfolding text_at
-    write-settings e t = rw (e, no_ground l h) t
-
-    pub write-refused : s.place ≡ Refused → Writes w l m 0 0 settings_refused → Writes w l m (room_ground l) 0 (text_of (lent_reading s es))
-    unfolding text_at
-    write-refused e t = rw (e, no_ground l h) t
-
-  pub write-records : (k : ℕ) → s.place ≡ Records k → Writes w l m (room_ground l) 0 (missing_text s.notes.session (lent s.notes.missing es))
+  pub write-refused : room ≤ length l → (s.place ≡ Settings) ⊎ (s.place ≡ Refused) → Writes w l m 0 0 settings_refused
       → Writes w l m (room_ground l) 0 (text_of (lent_reading s es))
   unfolding text_at
-  write-records k e t = rw e t
+  write-refused h (inl e) t = rw (e, no_ground l h) t
+  write-refused h (inr e) t = rw (e, no_ground l h) t
 
-  pub write_done : s.place ≡ Done → Writes w l m (room_ground l) 0 (missing_text s.notes.session (lent s.notes.missing es))
+  pub write-ranges : ((k : ℕ) × (s.place ≡ Records k)) ⊎ (s.place ≡ Done) → Writes w l m (room_ground l) 0 (missing_text s.notes.session (lent s.notes.missing es))
       → Writes w l m (room_ground l) 0 (text_of (lent_reading s es))
   unfolding text_at
-  write_done e t = rw e t
+  write-ranges (inl e) t = rw (e.1) t
+  write-ranges (inr e) t = rw e t

@@ -11,8 +11,8 @@ use Rattle.wire.specs.Words.{says}
 use Rattle.wire.specs.Output.{put, wrote, written_words, write_answer, Writes}
 use Rattle.wire.specs.declared.refusal.Refusal.{Refusal}
 use Rattle.wire.specs.Output.{Written}
-use Rattle.std.specs.Prelude.{Ok}
-use Rattle.wire.specs.declared.output.Written.TheVariants as written
+use Rattle.std.specs.Prelude.{Ok, Err}
+use Rattle.std.specs.Result.{result_unwrap_or}
 use Rattle.wire.proofs.Words.{which-of}
 use Rattle.wire.proofs.Outputs.{length-put, wrote_so, wrote-front, writes-done}
 use Rattle.wire.proofs.Cases.{zero_or_not}
@@ -231,7 +231,7 @@ missing-capture-promises =
 -- ---- as the code of `printed` has it
 
 module _ (s : Reading) (es l m : List ℕ) (w : Written) (h : Writes w l m (room_ground l) 0 (text_of (lent_reading s es))) where
-  pub printed-so : (k : ℕ) → w ≡ Ok k → PrintsIn k l m (text_of (lent_reading s es))
+  printed-so : (k : ℕ) → w ≡ Ok k → PrintsIn k l m (text_of (lent_reading s es))
   unfolding written_words
   printed-so k e =
       let t = text_of (lent_reading s es) in
@@ -244,7 +244,7 @@ module _ (s : Reading) (es l m : List ℕ) (w : Written) (h : Writes w l m (room
         within = omega (arith, o.room, o.size);
       }
 
-  pub printed-not : (q : Refusal) → w ≡ written.Refused q → length s.notes.session ≡ 10 → PrintsIn 0 l m (text_of (lent_reading s es))
+  printed-not : (q : Refusal) → w ≡ Err q → length s.notes.session ≡ 10 → PrintsIn 0 l m (text_of (lent_reading s es))
   unfolding written_words
   printed-not q e ten =
       let t = text_of (lent_reading s es) in
@@ -258,3 +258,10 @@ module _ (s : Reading) (es l m : List ℕ) (w : Written) (h : Writes w l m (room
             absurd (omega arith);
         within = omega arith;
       }
+
+  pub printed-all : (k : ℕ) → k ≡ result_unwrap_or w 0 → length s.notes.session ≡ 10 → PrintsIn k l m (text_of (lent_reading s es))
+  printed-all k e ten = go w refl
+    where
+      go : (v : Written) → w ≡ v → PrintsIn k l m (text_of (lent_reading s es))
+      go (Ok n) f = let g : k ≡ n = e ∙ ap (λ (v : Written). result_unwrap_or v 0) f in rw g (printed-so n f)
+      go (Err q) f = let g : k ≡ 0 = e ∙ ap (λ (v : Written). result_unwrap_or v 0) f in rw g (printed-not q f ten)

@@ -1,6 +1,7 @@
 // A capture that comes in pieces. What is there is fed; the bytes that were not used are kept, and fed again in front
 // of the next piece. The words of the edges are lent to every call, as the one before left them.
 #![tactic(auto, using(crate::proofs::Rules::feeding, crate::proofs::Rules::noting, crate::proofs::Rules::printing, crate::proofs::Rules::writing))]
+
 ghost use Rattle.std.specs.Prelude.{◌≡◌, drop};
 ghost use Rattle.wire.specs.Bounds.{length_size};
 ghost use Rattle.wire.specs.Output.{Writes};
@@ -14,7 +15,6 @@ ghost use Rattle.missing_capture.specs.Whole.{MissingCapturePromises};
 
 use capture_events::place::{Found, Place};
 use capture_lines;
-use capture_settings::settings::Settings;
 use missing_ranges::ranges::Missing;
 use missing_records::Notes;
 use missing_text::missing_text as text;
@@ -38,17 +38,12 @@ pub struct Fed {
 }
 
 // What one event makes of some notes: the bytes of a datagram are its record's, with its length in front.
-fn note(notes: Notes, edges: &mut [u64], event: Found, settings: Settings, bytes: &[u8]) -> Notes
+fn note(notes: Notes, edges: &mut [u64], event: Found, bytes: &[u8]) -> Notes
     ensures { lent_notes result edges.new
-        ≡ fold noted_by (lent_notes notes edges.old) (events_in event settings bytes.now) }
+        ≡ fold noted_by (lent_notes notes edges.old) (events_in (Some event) bytes.now) }
 {
     match event {
-        Found::Nothing => notes,
-        Found::Opened => {
-            let session = settings.session;
-            let next = settings.next;
-            Notes::start(edges, session, next)
-        }
+        Found::Opened(settings) => Notes::start(edges, settings.session, settings.next),
         Found::BadSettings => notes,
         Found::Datagram => notes.take(edges, datagram_of(bytes)),
     }
@@ -58,10 +53,10 @@ fn note(notes: Notes, edges: &mut [u64], event: Found, settings: Settings, bytes
 fn datagram_of(bytes: &[u8]) -> &[u8]
     ensures { result.now ≡ drop length_size bytes.now }
 {
-    if bytes.len() < LENGTH_SIZE {
-        return &bytes[..0];
+    match bytes.get(LENGTH_SIZE..) {
+        Some(datagram) => datagram,
+        None => &bytes[..0],
     }
-    &bytes[LENGTH_SIZE..]
 }
 
 impl Reading {
@@ -93,19 +88,15 @@ impl Reading {
         let mut rest = bytes;
         loop {
             let next = place.look(rest);
-            let event = next.event;
-            let settings = next.settings;
-            let used = next.used;
             place = next.place;
-            if !next.is_found() {
+            let Some(event) = next.event else {
                 return Fed {
                     reading: Reading { place, notes },
-                    used: bytes.len() - rest.len() + used,
+                    used: bytes.len() - rest.len() + next.used,
                 };
-            }
-            let then = note(notes, edges, event, settings, &rest[..used]);
-            notes = then;
-            rest = &rest[used..];
+            };
+            notes = note(notes, edges, event, &rest[..next.used]);
+            rest = &rest[next.used..];
         }
     }
 
@@ -113,8 +104,7 @@ impl Reading {
     pub fn is_over(self) -> bool
         ensures { result ≡ is_over_at (at_of self.place) }
     {
-        let place = self.place;
-        place.is_over()
+        self.place.is_over()
     }
 
     // Feeds some bytes, after which more may come.
@@ -123,8 +113,7 @@ impl Reading {
             ≡ feed_of (lent_reading self edges.old) bytes.now }
         ensures promises { MissingCapturePromises }
     {
-        let place = self.place;
-        if place.waits(bytes.len()) {
+        if self.place.waits(bytes.len()) {
             return Fed {
                 reading: self,
                 used: 0,
@@ -139,11 +128,9 @@ impl Reading {
             ≡ finish_of (lent_reading self edges.old) bytes.now }
     {
         let reading = self.advance(edges, bytes).reading;
-        let place = reading.place;
-        let notes = reading.notes;
         Reading {
-            place: place.end(),
-            notes,
+            place: reading.place.end(),
+            ..reading
         }
     }
 
@@ -156,15 +143,10 @@ impl Reading {
         if out.len() < ROOM {
             return Err(refusal::OUTPUT_SHORT);
         }
-        let place = self.place;
-        let notes = self.notes;
-        let name = notes.session;
-        let missing = notes.missing;
-        match place {
-            Place::Settings => capture_lines::put_refused(out, b"settings="),
-            Place::Records { left: _ } => text::write(out, name, edges, missing),
-            Place::Done => text::write(out, name, edges, missing),
-            Place::Refused => capture_lines::put_refused(out, b"settings="),
+        let Notes { session, missing } = self.notes;
+        match self.place {
+            Place::Settings | Place::Refused => capture_lines::put_refused(out, b"settings="),
+            Place::Records { .. } | Place::Done => text::write(out, session, edges, missing),
         }
     }
 
@@ -174,9 +156,6 @@ impl Reading {
         ensures { PrintsIn result out.old out.new
             (text_of (lent_reading self edges.now)) }
     {
-        match self.write(edges, out) {
-            Ok(size) => size,
-            Err(_) => 0,
-        }
+        self.write(edges, out).unwrap_or(0)
     }
 }

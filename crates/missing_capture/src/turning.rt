@@ -2,6 +2,7 @@
 // keeps what it did not use. The words of the edges are lent beside it. The program only reads, turns, and stops where
 // a turn says so.
 #![tactic(auto, using(crate::proofs::Rules::turning))]
+
 ghost use Rattle.std.specs.Prelude.{◌≡◌, ◌≤◌};
 ghost use Rattle.capture_events.specs.Events.{is_over_at};
 ghost use Rattle.capture_events.specs.Next.{at_of};
@@ -36,8 +37,7 @@ impl Turning {
     pub fn is_over(self) -> bool
         ensures { result ≡ is_over_at (at_of self.reading.place) }
     {
-        let reading = self.reading;
-        reading.is_over()
+        self.reading.is_over()
     }
 
     // One turn, so many bytes having come behind those that were kept; none mean the end of the input, after which it
@@ -49,21 +49,18 @@ impl Turning {
         ensures little { result.have ≤ most_kept }
         ensures promises { MissingCapturePromises }
     {
-        let reading = self.reading;
         let end = there(buf.len(), self.have, got);
         if got == 0 {
-            let finished = reading.finish(edges, &buf[..end]);
             return Turning {
-                reading: finished,
+                reading: self.reading.finish(edges, &buf[..end]),
                 have: 0,
             };
         }
-        let fed = reading.feed(edges, &buf[..end]);
-        let next = fed.reading;
+        let fed = self.reading.feed(edges, &buf[..end]);
         let kept = buffer::keep(buf, ByteOffset(fed.used), ByteOffset(end));
         Turning {
-            reading: next,
-            have: kept.size,
+            reading: fed.reading,
+            have: kept.unwrap_or(0),
         }
     }
 }
