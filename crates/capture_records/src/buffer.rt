@@ -1,9 +1,10 @@
 // The buffer of a program that reads a capture piece by piece.
 #![tactic(auto, using(crate::proofs::Rules::buffers))]
 
-ghost use Rattle.std.specs.Prelude.{◌≡◌, length, is_some, unwrap_or};
+ghost use Rattle.std.specs.Prelude.{◌≡◌, ◌+◌, ◌≤◌, length, take, is_some, unwrap_or};
 ghost use Rattle.capture_records.specs.Buffer.{are_places, kept_size, kept_of};
 
+use std::io::Read;
 use wire::kinds::ByteOffset;
 
 // Moves the bytes from one place up to another to the front, and answers how many they are: perhaps none. Where these
@@ -11,6 +12,7 @@ use wire::kinds::ByteOffset;
 pub fn keep(buf: &mut [u8], from: ByteOffset, to: ByteOffset) -> Option<usize>
     ensures there_value { (is_some result ≡ are_places (length buf.old) from.0 to.0)
         × (unwrap_or result 0 ≡ kept_size (length buf.old) from.0 to.0) }
+    ensures little { unwrap_or result 0 ≤ length buf.old }
     ensures moved { buf.new ≡ kept_of buf.old from.0 to.0 }
 {
     let first = from.0;
@@ -20,4 +22,13 @@ pub fn keep(buf: &mut [u8], from: ByteOffset, to: ByteOffset) -> Option<usize>
     }
     buf.copy_within(first..end, 0);
     Some(end - first)
+}
+
+// Reads once behind the bytes that are kept, and answers how many came: none where the input ends or the read fails.
+pub fn fill(input: &mut impl Read, buf: &mut [u8], have: usize) -> usize
+    requires { have ≤ length buf.old }
+    ensures room { have + result ≤ length buf.old }
+    ensures kept { take have buf.new ≡ take have buf.old }
+{
+    input.read(&mut buf[have..]).unwrap_or(0)
 }

@@ -7,36 +7,26 @@ ghost use Rattle.capture_events.specs.Turns.{most_kept};
 ghost use Rattle.capture_text.specs.Text.{room};
 ghost use Rattle.capture.specs.Reading.{is_over};
 
-use capture::reading::Reading;
+use capture::reading::{Printed, Reading};
 use capture::turning::Turning;
+use capture_records::buffer;
 use capture_text::report_text::ROOM;
 use early_holding::holding::{LENGTH_BYTES, SLOT_BYTES};
 use std::io::Read;
 
-// Reads once behind the bytes that are kept, where there is room for one more at the least, and answers how many came:
-// none where the input ends or the read fails.
-fn fill(input: &mut impl Read, buf: &mut [u8], have: usize) -> usize
-    requires { have < length buf.old }
-{
-    input.read(&mut buf[have..]).unwrap_or(0)
-}
-
 // Turns until it is over, in a buffer that has room behind whatever is kept. A proved loop has to end, and nothing says
-// that the input does: the turns are counted down from a number that no run uses up.
+// that the input does: there are more turns than any run takes.
 fn read_all(input: &mut impl Read, lengths: &mut [u8], slots: &mut [u8], buf: &mut [u8]) -> Reading
     requires { most_kept < length buf.old }
     ensures { is_over result.stage ≡ true }
 {
     let mut state = Turning::new();
-    let mut turns: u64 = u64::MAX;
-    while 0 < turns {
-        let got = fill(input, buf, state.have);
-        let next = state.turn(lengths, slots, buf, got);
-        state = next;
+    for _ in 0..u64::MAX {
+        let got = buffer::fill(input, buf, state.have);
+        state = state.turn(lengths, slots, buf, got);
         if state.is_over() {
             return state.reading;
         }
-        turns -= 1;
     }
     state.turn(lengths, slots, buf, 0).reading
 }
@@ -50,9 +40,8 @@ fn print_front(rt: &impl Print, text: [u8; ROOM], size: usize)
 
 // Prints what a capture came to.
 fn print(rt: &impl Print, reading: Reading) {
-    let printed = reading.printed();
-    let text = printed.text;
-    print_front(rt, text, printed.size);
+    let Printed { text, size } = reading.printed();
+    print_front(rt, text, size);
 }
 
 // Reads and prints, in the memory that is lent: the receiver's lengths and slots, and the buffer.

@@ -9,35 +9,25 @@ ghost use Rattle.capture_events.specs.Turns.{most_kept};
 ghost use Rattle.missing_ranges.specs.Notes as ranges;
 ghost use Rattle.missing_text.specs.Text.{room};
 
+use capture_records::buffer;
 use missing_capture::reading::Reading;
 use missing_capture::turning::Turning;
 use missing_ranges::ranges::ROOM;
 use std::io::Read;
 
-// Reads once behind the bytes that are kept, where there is room for one more at the least, and answers how many came:
-// none where the input ends or the read fails.
-fn fill(input: &mut impl Read, buf: &mut [u8], have: usize) -> usize
-    requires { have < length buf.old }
-{
-    input.read(&mut buf[have..]).unwrap_or(0)
-}
-
 // Turns until it is over, in a buffer that has room behind whatever is kept. A proved loop has to end, and nothing says
-// that the input does: the turns are counted down from a number that no run uses up.
+// that the input does: there are more turns than any run takes.
 fn read_all(input: &mut impl Read, edges: &mut [u64], buf: &mut [u8]) -> Reading
     requires { most_kept < length buf.old }
     ensures { is_over_at (at_of result.place) ≡ true }
 {
     let mut state = Turning::new();
-    let mut turns: u64 = u64::MAX;
-    while 0 < turns {
-        let got = fill(input, buf, state.have);
-        let next = state.turn(edges, buf, got);
-        state = next;
+    for _ in 0..u64::MAX {
+        let got = buffer::fill(input, buf, state.have);
+        state = state.turn(edges, buf, got);
         if state.is_over() {
             return state.reading;
         }
-        turns -= 1;
     }
     state.turn(edges, buf, 0).reading
 }

@@ -5,9 +5,9 @@ use Rattle.capture.specs.Turning.{start_turning, LentTurning}
 use Rattle.capture.specs.Whole.{EndIsOver}
 use Rattle.capture_report.proofs.read_all.Goals as goal
 
-pub loop-turns-init : goal.loop-turns-init
+pub loop-init : goal.loop-init
 unfolding start_turning
-loop-turns-init g c = rw c.new-state.ensures (omega arith)
+loop-init g c = rw c.new-state.ensures (omega arith)
 
 pub returns : goal.returns
 unfolding EndIsOver
