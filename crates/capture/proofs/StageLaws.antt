@@ -2,6 +2,9 @@
 use mathlib.Core.Path.{◌≡◌, refl, ap, sym, ◌∙◌}
 use mathlib.Core.List.{List}
 use mathlib.Core.Bool.{Bool, true, false}
+use mathlib.Core.Logic.{◌⊎◌, inl, inr}
+use Rattle.std.specs.Prelude.{Result, Ok, Err}
+use Rattle.wire.specs.declared.refusal.Refusal.{Refusal}
 use Prim.Native.Nat.{ℕ, ◌+◌, ◌*◌, ◌-◌, ◌^◌, ◌≤◌, ◌<◌}
 use native.Mathlib.Omega.{arith}
 use lib.ListN.{length, take, drop, length-drop}
@@ -19,7 +22,8 @@ use Rattle.early_receiver.specs.Early.{start_early}
 use Rattle.early_condition_3.specs.declared.Started.{Started}
 use Rattle.capture_settings.specs.declared.settings.Settings as declared
 use Rattle.capture_settings.specs.declared.settings.Opened.{Opened}
-use Rattle.capture_settings.specs.Settings.{settings_of}
+use Rattle.capture_settings.specs.Settings.{opened_of, settings_of}
+use Rattle.capture_settings.proofs.OpenedLaws.{ReadAs, ok-read, err_read}
 use Rattle.capture_events.specs.Events.{fold, At, settings, records, done, refused, read_records, read_behind, read_settings, read_on, waits_at, read_piece, end_at, read_last}
 use Rattle.capture_events.proofs.EventLaws.{fold-joins, size_within, settings-so, settings-bad, records-used, on-used}
 use Rattle.capture_tally.specs.declared.report.Report.{Report}
@@ -39,39 +43,43 @@ pub start-reading : (s : Started) (x : Report) → s.receiver ≡ start_early bl
 unfolding start_reading start_early start_receiver receiver_start_refusal
 start-reading s x e f = rw (f, e)
 
--- ---- settings, and then records: o is what was read of l
-
-pub open-within : (l : List ℕ) (o : Opened) → o ≡ settings_of l → o.size ≤ length l
-open-within l o e = rw e (size_within l)
-
-pub open-refused : (x : Report) (ls ss l : List ℕ) (o : Opened) → o ≡ settings_of l → (o.refusal.number ≡ 0 → ⊥)
-    → lent_fed (fed (reading Refused x) (length l)) ls ss ≡ fed_by (lent_report x ls ss) (read_settings l)
-unfolding fold reported stage_of
-open-refused x ls ss l o e z = let g : (settings_of l).refusal.number ≡ 0 → ⊥ = rw e at z in rw (settings-bad l g)
+-- ---- settings, and then records: w is what was read of l
 
 pub start-fresh : (s : declared.Settings) (t : Started) (x : Report) → t.receiver ≡ start_early s.session s.next.0 s.limit.0
     → x ≡ fresh_of t.receiver → x ≡ fresh_of (started_of s)
 start-fresh s t x e f = f ∙ ap fresh_of e
 
-module _ (x y : Report) (ls ss ls₁ ss₁ l : List ℕ) (o : Opened) (f : Fed) where
-  pub open-good : o ≡ settings_of l → o.refusal.number ≡ 0 → y ≡ fresh_of (started_of o.settings)
-      → lent_fed f ls₁ ss₁ ≡ fed_by (lent_report y ls ss) (read_records (room_of y) (take (length l - o.size) (drop o.size l)))
-      → lent_fed (fed f.reading (o.size + f.used)) ls₁ ss₁ ≡ fed_by (lent_report x ls ss) (read_settings l)
-  unfolding fold reported
-  open-good e z g t =
-      let u : lent_fed f ls₁ ss₁ ≡ fed_by (lent_report (fresh_of (started_of (settings_of l).settings)) ls ss) (read_behind l) = t ∙ rw (part_to_end, g, e) in
-      let v : (settings_of l).refusal.number ≡ 0 = rw e at z in
-      rw (settings-so l v, e) (ap (λ (h : LentFed). fed_with (fed_reading h) ((settings_of l).size + h.fed.used)) u)
+pub open-refused : (x : Report) (ls ss l : List ℕ) (w : Result Opened Refusal) (r : Refusal) → w ≡ opened_of (settings_of l) → w ≡ Err r
+    → lent_fed (fed (reading Refused x) (length l)) ls ss ≡ fed_by (lent_report x ls ss) (read_settings l)
+unfolding fold reported stage_of
+open-refused x ls ss l w r e f =
+    let g : (settings_of l).refusal.number ≡ 0 → ⊥ = err_read (settings_of l) r (sym f ∙ e) in rw (settings-bad l g)
 
-pub open-fits : (y : Report) (ls ss ls₁ ss₁ l : List ℕ) (o : Opened) (f : Fed) → o ≡ settings_of l
-    → lent_fed f ls₁ ss₁ ≡ fed_by (lent_report y ls ss) (read_records (room_of y) (take (length l - o.size) (drop o.size l)))
-    → length l * 1 < 2 ^ 63 → Fits w64 (o.size + f.used)
-open-fits y ls ss ls₁ ss₁ l o f e t h =
-    let a = open-within l o e in
-    let b : f.used ≤ length (drop o.size l) =
-    rw (ap (λ (h : LentFed). h.fed.used) (t ∙ ap (λ (m : List ℕ). fed_by (lent_report y ls ss) (read_records (room_of y) m)) (part_to_end o.size l)))
-    (records-used (room_of y) (drop o.size l)) in
-    record { fits = omega (arith, length-drop o.size l) }
+module _ (l : List ℕ) (w : Result Opened Refusal) (o : Opened) (e : w ≡ opened_of (settings_of l)) (i : w ≡ Ok o) where
+  read-as : ReadAs o (settings_of l)
+  read-as = ok-read (settings_of l) o (sym i ∙ e)
+
+  pub open-within : o.size ≤ length l
+  open-within = rw read-as.size (size_within l)
+
+  module _ (x y : Report) (ls ss ls₁ ss₁ : List ℕ) (f : Fed)
+      (t : lent_fed f ls₁ ss₁ ≡ fed_by (lent_report y ls ss) (read_records (room_of y) (take (length l - o.size) (drop o.size l)))) where
+    pub open-good : y ≡ fresh_of (started_of o.settings)
+        → lent_fed (fed f.reading (o.size + f.used)) ls₁ ss₁ ≡ fed_by (lent_report x ls ss) (read_settings l)
+    unfolding fold reported
+    open-good g =
+        let a = read-as in
+        let u : lent_fed f ls₁ ss₁ ≡ fed_by (lent_report (fresh_of (started_of (settings_of l).settings)) ls ss) (read_behind l) =
+        t ∙ rw (part_to_end, g, a.settings, a.size) in
+        rw (settings-so l a.good, a.size) (ap (λ (h : LentFed). fed_with (fed_reading h) ((settings_of l).size + h.fed.used)) u)
+
+    pub open-fits : length l * 1 < 2 ^ 63 → Fits w64 (o.size + f.used)
+    open-fits h =
+        let a = open-within in
+        let b : f.used ≤ length (drop o.size l) =
+        rw (ap (λ (h : LentFed). h.fed.used) (t ∙ ap (λ (m : List ℕ). fed_by (lent_report y ls ss) (read_records (room_of y) m)) (part_to_end o.size l)))
+        (records-used (room_of y) (drop o.size l)) in
+        record { fits = omega (arith, length-drop o.size l) }
 
 -- ---- the stages
 
@@ -90,14 +98,11 @@ module _ (s : Reading) (ls ss ls₁ ss₁ l : List ℕ) (f : Fed) where
   unfolding read_on at_stage
   advance-records e g = rw e g
 
-module _ (s : Reading) (ls ss l : List ℕ) (f : Fed) where
-  pub advance-done : s.stage ≡ Done → f ≡ fed s (length l) → lent_fed f ls ss ≡ fed_by (lent_report s.report ls ss) (read_on (at_of s) l)
-  unfolding read_on at_stage stage_of fold
-  advance-done e g = ap (λ (h : Fed). lent_fed h ls ss) (g ∙ ap (λ (t : Reading). fed t (length l)) (by_parts s Done e)) ∙ rw e
-
-  pub advance-refused : s.stage ≡ Refused → f ≡ fed s (length l) → lent_fed f ls ss ≡ fed_by (lent_report s.report ls ss) (read_on (at_of s) l)
-  unfolding read_on at_stage stage_of fold
-  advance-refused e g = ap (λ (h : Fed). lent_fed h ls ss) (g ∙ ap (λ (t : Reading). fed t (length l)) (by_parts s Refused e)) ∙ rw e
+pub advance-over : (s : Reading) (ls ss l : List ℕ) → (s.stage ≡ Done) ⊎ (s.stage ≡ Refused)
+    → lent_fed (fed s (length l)) ls ss ≡ fed_by (lent_report s.report ls ss) (read_on (at_of s) l)
+unfolding read_on at_stage stage_of fold
+advance-over s ls ss l (inl e) = ap (λ (t : Reading). lent_fed (fed t (length l)) ls ss) (by_parts s Done e) ∙ rw e
+advance-over s ls ss l (inr e) = ap (λ (t : Reading). lent_fed (fed t (length l)) ls ss) (by_parts s Refused e) ∙ rw e
 
 module _ (s : Reading) (n : ℕ) where
   pub waits-settings : s.stage ≡ Settings → ltb n 57 ≡ waits_at (at_of s) n
@@ -208,9 +213,6 @@ module _ (s : Reading) (ls ss ls₁ ss₁ l : List ℕ) (f : Fed) (e : lent_fed 
       ∙ ending-other (report_in now) (read_on (at_of s) l).at (length l - f.used) (λ (k : stage_of (read_on (at_of s) l).at ≡ Records). z (sym h ∙ stage-so ∙ k))
       ∙ sym finish-so
 
-  pub finish-settings : f.reading.stage ≡ Settings → lent_reading f.reading ls₁ ss₁ ≡ finish_of (lent_reading s ls ss) l
-  finish-settings h = other-stays Settings h (λ (k : Settings ≡ Records). let z : ◌≡◌ {A = ℕ} 0 1 = cc in omega arith)
-
   pub finish-records : (x : Report) → f.reading.stage ≡ Records → x ≡ end_of f.reading.report (length l - f.used)
       → lent_reading (reading Done x) ls₁ ss₁ ≡ finish_of (lent_reading s ls ss) l
   finish-records x h g =
@@ -218,27 +220,18 @@ module _ (s : Reading) (ls ss ls₁ ss₁ l : List ℕ) (f : Fed) (e : lent_fed 
       ∙ ending-records (report_in now) (read_on (at_of s) l).at (length l - f.used) (sym stage-so ∙ h)
       ∙ sym finish-so
 
-  pub finish-done : f.reading.stage ≡ Done → lent_reading f.reading ls₁ ss₁ ≡ finish_of (lent_reading s ls ss) l
-  finish-done h = other-stays Done h (λ (k : Done ≡ Records). let z : ◌≡◌ {A = ℕ} 0 1 = cc in omega arith)
-
-  pub finish-refused : f.reading.stage ≡ Refused → lent_reading f.reading ls₁ ss₁ ≡ finish_of (lent_reading s ls ss) l
-  finish-refused h = other-stays Refused h (λ (k : Refused ≡ Records). let z : ◌≡◌ {A = ℕ} 0 1 = cc in omega arith)
+  pub finish-other : (f.reading.stage ≡ Records → ⊥) → lent_reading f.reading ls₁ ss₁ ≡ finish_of (lent_reading s ls ss) l
+  finish-other z = other-stays f.reading.stage refl z
 
 -- ---- writing
 
 module _ (s : Reading) (w : Written) (a b : List ℕ) where
-  pub write-settings : s.stage ≡ Settings → Writes w a b 0 0 settings_refused → Writes w a b 0 0 (text_of s)
+  pub write-refused : (s.stage ≡ Settings) ⊎ (s.stage ≡ Refused) → Writes w a b 0 0 settings_refused → Writes w a b 0 0 (text_of s)
   unfolding text_at
-  write-settings e h = rw e h
+  write-refused (inl e) h = rw e h
+  write-refused (inr e) h = rw e h
 
-  pub write-records : s.stage ≡ Records → Writes w a b 0 0 (report_text s.report) → Writes w a b 0 0 (text_of s)
+  pub write-report : (s.stage ≡ Records) ⊎ (s.stage ≡ Done) → Writes w a b 0 0 (report_text s.report) → Writes w a b 0 0 (text_of s)
   unfolding text_at
-  write-records e h = rw e h
-
-  pub write_done : s.stage ≡ Done → Writes w a b 0 0 (report_text s.report) → Writes w a b 0 0 (text_of s)
-  unfolding text_at
-  write_done e h = rw e h
-
-  pub write-refused : s.stage ≡ Refused → Writes w a b 0 0 settings_refused → Writes w a b 0 0 (text_of s)
-  unfolding text_at
-  write-refused e h = rw e h
+  write-report (inl e) h = rw e h
+  write-report (inr e) h = rw e h

@@ -1,14 +1,14 @@
 -- The loop of `take_records`: what is still to be read makes of the report so far what all of it makes of the first.
 use mathlib.Core.Path.{◌≡◌, refl, ap, sym, ◌∙◌}
 use mathlib.Core.List.{List, [], ◌∷◌}
-use Prim.Native.Nat.{ℕ, zero, suc, ◌-◌, ◌≤◌, ◌<◌}
+use Prim.Native.Nat.{ℕ, zero, suc, ◌+◌, ◌-◌, ◌≤◌, ◌<◌}
 use native.Mathlib.Omega.{arith}
 use native.Mathlib.Numerals.{sub-one}
 use lib.ListN.{length, take, drop, length-drop}
+use borrow.Author.Tests.{ne_eqb}
 use Rattle.wire.proofs.Numbers.{part_to_end}
 use Rattle.feed.specs.Session.{Datagram}
-use Rattle.capture_records.specs.declared.records.Front.{Front}
-use Rattle.capture_records.specs.declared.records.Front.TheVariants.{Whole, Short}
+use Rattle.std.specs.Prelude.{Option, Some, None}
 use Rattle.capture_records.specs.Records.{most_records, record_size, datagram_of, record_words, record_in_front, datagrams_of, rest_of}
 use Rattle.capture_records.proofs.RecordLaws.{said-short}
 use Rattle.capture_records.proofs.FrontLaws.{front-is, datagrams-none, datagrams-some, datagrams-zero, rest-none, rest_some, rest-zero}
@@ -40,9 +40,9 @@ over_none : (x : LentReport) → over x [] ≡ x
 unfolding over
 over_none x = refl
 
-pub going_step : {x₀ : LentReport} {l₀ : List ℕ} {x : Report} {l ls ss ls₁ ss₁ : List ℕ} {left : ℕ} (p : Front) (k : ℕ) (y : Report)
+pub going_step : {x₀ : LentReport} {l₀ : List ℕ} {x : Report} {l ls ss ls₁ ss₁ : List ℕ} {left : ℕ} (p : Option ℕ) (k : ℕ) (y : Report)
     → Going x₀ l₀ (lent_report x ls ss) l left → 0 < left
-    → record_words p ≡ record_in_front l → p ≡ Whole k → lent_report y ls₁ ss₁ ≡ step_of (lent_report x ls ss) (take (k - 2) (drop 2 l))
+    → record_words p ≡ record_in_front l → p ≡ Some k → lent_report y ls₁ ss₁ ≡ step_of (lent_report x ls ss) (take (k - 2) (drop 2 l))
     → Going x₀ l₀ (lent_report y ls₁ ss₁) (take (length l - k) (drop k l)) (left - 1)
 going_step {left = zero} p k y g h e f s = absurd (omega arith)
 going_step {x₀} {l₀} {x} {l} {ls} {ss} {ls₁} {ss₁} {left = suc n} p k y g h e f s =
@@ -61,6 +61,26 @@ going_step {x₀} {l₀} {x} {l} {ls} {ss} {ls₁} {ss₁} {left = suc n} p k y 
       lengths = step-lengths x₁ (datagram_of l) ∙ g.lengths;
       slots = step-slots x₁ (datagram_of l) ∙ g.slots;
     })
+
+-- a record more leaves one fewer that may be read
+step-records : (x : LentReport) (d : Datagram) → x.report.records < most_records → (step_of x d).report.records ≡ x.report.records + 1
+unfolding step_of
+step-records x d h = let z : x.report.records ≡ most_records → ⊥ = λ e. omega arith in rw (ne_eqb _ _ z)
+
+module _ {x₀ : LentReport} {l₀ : List ℕ} {x : Report} {l ls ss ls₁ ss₁ : List ℕ} (p : Option ℕ) (k : ℕ) (y : Report)
+    (g : Going x₀ l₀ (lent_report x ls ss) l (most_records - x.records)) (h : x.records < most_records)
+    (e : record_words p ≡ record_in_front l) (f : p ≡ Some k)
+    (s : lent_report y ls₁ ss₁ ≡ step_of (lent_report x ls ss) (take (k - 2) (drop 2 l))) where
+  one-more : y.records ≡ x.records + 1
+  one-more = ap (λ (z : LentReport). z.report.records) s ∙ step-records (lent_report x ls ss) (take (k - 2) (drop 2 l)) h
+
+  pub going-next : Going x₀ l₀ (lent_report y ls₁ ss₁) (take (length l - k) (drop k l)) (most_records - y.records)
+  going-next =
+      let m : most_records - x.records - 1 ≡ most_records - y.records = let n = one-more in omega arith in
+      rw (← m) (going_step p k y g (omega arith) e f s)
+
+  pub going-fewer : most_records - y.records < most_records - x.records
+  going-fewer = let n = one-more in omega arith
 
 -- the loop ends where the record in front is short, or none may be read any more
 module _ (x₀ : LentReport) (l₀ : List ℕ) (x : LentReport) (l : List ℕ) (left : ℕ) (g : Going x₀ l₀ x l left) (d : datagrams_of left l ≡ []) (r : rest_of left l ≡ l) where
@@ -93,8 +113,8 @@ to-most x₀ x ds rest l₀ e = rw e
 -- ---- as the loop has them: x₀ with what was lent at first, x with what is lent now
 
 module _ {x₀ : Report} {ls₀ ss₀ l₀ : List ℕ} {x : Report} {ls ss l : List ℕ} where
-  pub going-stop : {left : ℕ} (p : Front) → Going (lent_report x₀ ls₀ ss₀) l₀ (lent_report x ls ss) l left → 0 < left
-      → record_words p ≡ record_in_front l → p ≡ Short
+  pub going-stop : {left : ℕ} (p : Option ℕ) → Going (lent_report x₀ ls₀ ss₀) l₀ (lent_report x ls ss) l left → 0 < left
+      → record_words p ≡ record_in_front l → p ≡ None
       → lent_fed (fed (reading Records x) (length l₀ - length l)) ls ss ≡ fed_by (lent_report x₀ ls₀ ss₀) (read_records (room_of x₀) l₀)
   going-stop {left = zero} p g h e f = absurd (omega arith)
   going-stop {left = suc n} p g h e f =

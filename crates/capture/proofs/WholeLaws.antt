@@ -14,7 +14,6 @@ use Rattle.wire.specs.Output.{wrote, written_words, write_refusal, write_answer,
 use Rattle.wire.specs.declared.refusal.Refusal.{Refusal}
 use Rattle.wire.specs.Output.{Written}
 use Rattle.std.specs.Prelude.{Ok}
-use Rattle.wire.specs.declared.output.Written.TheVariants as written
 use Rattle.wire.proofs.Words.{which-of}
 use Rattle.wire.proofs.Outputs.{no-write-refusal, wrote_so, wrote-front}
 use Rattle.wire.proofs.Cases.{below_or_not, zero_or_not}
@@ -252,7 +251,7 @@ unfolding write_answer
 said-room l bs z = rw z
 
 module _ (s : Reading) (w : Written) (l m : List ℕ) (h : Writes w l m 0 0 (text_of s)) where
-  pub printed-so : (k : ℕ) → w ≡ Ok k → length l ≡ room → Prints (record { text = m; size = k }) (text_of s)
+  printed-so : (k : ℕ) → w ≡ Ok k → length l ≡ room → Prints (record { text = m; size = k }) (text_of s)
   unfolding written_words
   printed-so k e n =
       let a : write_answer 0 l 0 (text_of s) ≡ says wrote (k ∷ []) = sym h.answers ∙ ap written_words e in
@@ -262,7 +261,7 @@ module _ (s : Reading) (w : Written) (l m : List ℕ) (h : Writes w l m 0 0 (tex
         within = omega (arith, o.room, o.size);
       }
 
-  pub printed-not : (r : Refusal) → w ≡ written.Refused r → length l ≡ room → length s.report.receiver.base.session ≡ session_size
+  printed-not : (r : Refusal) → w ≡ Err r → length l ≡ room → length s.report.receiver.base.session ≡ session_size
       → Prints (record { text = m; size = 0 }) (text_of s)
   unfolding written_words
   printed-not r e n ten =
@@ -271,3 +270,11 @@ module _ (s : Reading) (w : Written) (l m : List ℕ) (h : Writes w l m 0 0 (tex
       let v : refused ≡ answer wrote = which-of (sym (ap written_words e) ∙ h.answers ∙ a) in
       let z : ◌≡◌ {A = ℕ} 0 1 = cc in
       absurd (omega arith)
+
+  pub printed-all : (k : ℕ) → k ≡ result_unwrap_or w 0 → length l ≡ room → length s.report.receiver.base.session ≡ session_size
+      → Prints (record { text = m; size = k }) (text_of s)
+  printed-all k e n ten = go w refl
+    where
+      go : (v : Written) → w ≡ v → Prints (record { text = m; size = k }) (text_of s)
+      go (Ok i) f = let g : k ≡ i = e ∙ ap (λ (v : Written). result_unwrap_or v 0) f in rw g (printed-so i f n)
+      go (Err q) f = let g : k ≡ 0 = e ∙ ap (λ (v : Written). result_unwrap_or v 0) f in rw g (printed-not q f n ten)

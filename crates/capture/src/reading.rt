@@ -1,6 +1,7 @@
 // A capture that comes in pieces. What is there is fed; the bytes that were not used are kept, and fed again in front
 // of the next piece. The receiver's lengths and slots are lent to every call, as the one before left them.
 #![tactic(auto, using(crate::proofs::Rules::advancing, crate::proofs::Rules::feeding, crate::proofs::Rules::finishing, crate::proofs::Rules::printing, crate::proofs::Rules::starting, crate::proofs::Rules::telling, crate::proofs::Rules::writing))]
+
 ghost use Rattle.std.specs.Prelude.{◌≡◌, length};
 ghost use Rattle.wire.specs.Output.{Writes};
 ghost use Rattle.capture_events.specs.Events.{read_records, read_settings, read_on, waits_at};
@@ -11,7 +12,6 @@ ghost use Rattle.capture.specs.Whole.{CapturePromises};
 
 use capture_lines;
 use capture_records::records;
-use capture_records::records::Front;
 use capture_settings::settings;
 use capture_settings::settings::Settings;
 use capture_tally::report::Report;
@@ -22,7 +22,8 @@ use wire::kinds;
 use wire::kinds::{LENGTH_SIZE, MessageCount, SequenceNumber};
 use wire::refusal::Refusal;
 
-// What comes next of a capture: its settings, or records; or nothing, at its end or where its settings are refused.
+// What comes next of a capture: its settings, or records; or nothing, at its end or where its settings are refused. No
+// `Place` of `capture_events`, which says how many records may be read: here the report's records do.
 #[derive(Clone, Copy)]
 pub enum Stage {
     Settings,
@@ -38,7 +39,7 @@ pub struct Reading {
     pub report: Report,
 }
 
-// What a reading prints: so many bytes at the front.
+// What a reading prints: so many bytes at the front. There is no heap for a text of its own size.
 #[derive(Clone, Copy)]
 pub struct Printed {
     pub text: [u8; ROOM],
@@ -61,25 +62,18 @@ fn take_records(start: Report, lengths: &mut [u8], slots: &mut [u8], bytes: &[u8
 {
     let mut report = start;
     let mut rest = bytes;
-    let mut left = Report::MOST_RECORDS - start.records;
-    while 0 < left {
-        match records::read(rest) {
-            Front::Short => {
-                return Fed {
-                    reading: Reading {
-                        stage: Stage::Records,
-                        report,
-                    },
-                    used: bytes.len() - rest.len(),
-                };
-            }
-            Front::Whole { size } => {
-                let next = report.step(lengths, slots, &rest[LENGTH_SIZE..size]);
-                report = next;
-                rest = &rest[size..];
-                left -= 1;
-            }
-        }
+    while report.records < Report::MOST_RECORDS {
+        let Some(size) = records::read(rest) else {
+            return Fed {
+                reading: Reading {
+                    stage: Stage::Records,
+                    report,
+                },
+                used: bytes.len() - rest.len(),
+            };
+        };
+        report = report.step(lengths, slots, &rest[LENGTH_SIZE..size]);
+        rest = &rest[size..];
     }
     Fed {
         reading: Reading {
@@ -94,11 +88,8 @@ fn take_records(start: Report, lengths: &mut [u8], slots: &mut [u8], bytes: &[u8
 fn fresh(settings: Settings) -> Report
     ensures { result ≡ fresh_of (started_of settings) }
 {
-    let session = settings.session;
-    let next = settings.next;
-    let limit = settings.limit;
-    let receiver = early_condition_3::start(session, next, limit).receiver;
-    Report::new(receiver)
+    let Settings { session, next, limit } = settings;
+    Report::new(early_condition_3::start(session, next, limit).receiver)
 }
 
 // The settings in front, and the records after them. A report that had none stays, where the settings are bad.
@@ -106,23 +97,21 @@ fn open(report: Report, lengths: &mut [u8], slots: &mut [u8], bytes: &[u8]) -> F
     ensures { lent_fed result lengths.new slots.new
         ≡ fed_by (lent_report report lengths.old slots.old) (read_settings bytes.now) }
 {
-    let opened = settings::read(bytes);
-    if opened.refusal.number != 0 {
-        return Fed {
+    match settings::read(bytes) {
+        Ok(opened) => {
+            let fed = take_records(fresh(opened.settings), lengths, slots, &bytes[opened.size..]);
+            Fed {
+                used: opened.size + fed.used,
+                ..fed
+            }
+        }
+        Err(_) => Fed {
             reading: Reading {
                 stage: Stage::Refused,
                 report,
             },
             used: bytes.len(),
-        };
-    }
-    let settings = opened.settings;
-    let size = opened.size;
-    let fed = take_records(fresh(settings), lengths, slots, &bytes[size..]);
-    let reading = fed.reading;
-    Fed {
-        reading,
-        used: size + fed.used,
+        },
     }
 }
 
@@ -130,10 +119,7 @@ fn open(report: Report, lengths: &mut [u8], slots: &mut [u8], bytes: &[u8]) -> F
 fn end(report: Report, left: usize) -> Report
     ensures { result ≡ end_of report left }
 {
-    if left == 0 {
-        return report;
-    }
-    report.cut()
+    if left == 0 { report } else { report.cut() }
 }
 
 impl Reading {
@@ -158,23 +144,14 @@ impl Reading {
             ≡ fed_by (lent_report self.report lengths.old slots.old)
             (read_on (at_of self) bytes.now) }
     {
-        let stage = self.stage;
-        let report = self.report;
-        match stage {
-            Stage::Settings => open(report, lengths, slots, bytes),
-            Stage::Records => take_records(report, lengths, slots, bytes),
-            Stage::Done => self.pass(bytes),
-            Stage::Refused => self.pass(bytes),
-        }
-    }
-
-    // Bytes that change nothing: all are used.
-    fn pass(self, bytes: &[u8]) -> Fed
-        ensures { result ≡ fed self (length bytes.now) }
-    {
-        Fed {
-            reading: self,
-            used: bytes.len(),
+        match self.stage {
+            Stage::Settings => open(self.report, lengths, slots, bytes),
+            Stage::Records => take_records(self.report, lengths, slots, bytes),
+            // bytes that change nothing: all are used
+            Stage::Done | Stage::Refused => Fed {
+                reading: self,
+                used: bytes.len(),
+            },
         }
     }
 
@@ -182,26 +159,14 @@ impl Reading {
     fn waits(self, size: usize) -> bool
         ensures { result ≡ waits_at (at_of self) size }
     {
-        let stage = self.stage;
-        match stage {
-            Stage::Settings => size < settings::LONGEST,
-            Stage::Records => false,
-            Stage::Done => false,
-            Stage::Refused => false,
-        }
+        matches!(self.stage, Stage::Settings) && size < settings::LONGEST
     }
 
     // Whether nothing that follows changes it.
     pub fn is_over(self) -> bool
         ensures { result ≡ is_over self.stage }
     {
-        let stage = self.stage;
-        match stage {
-            Stage::Settings => false,
-            Stage::Records => false,
-            Stage::Done => true,
-            Stage::Refused => true,
-        }
+        matches!(self.stage, Stage::Done | Stage::Refused)
     }
 
     // Feeds some bytes, after which more may come.
@@ -224,18 +189,13 @@ impl Reading {
         ensures { lent_reading result lengths.new slots.new
             ≡ finish_of (lent_reading self lengths.old slots.old) bytes.now }
     {
-        let fed = self.advance(lengths, slots, bytes);
-        let reading = fed.reading;
-        let stage = reading.stage;
-        let report = reading.report;
-        match stage {
-            Stage::Settings => reading,
+        let Fed { reading, used } = self.advance(lengths, slots, bytes);
+        match reading.stage {
             Stage::Records => Reading {
                 stage: Stage::Done,
-                report: end(report, bytes.len() - fed.used),
+                report: end(reading.report, bytes.len() - used),
             },
-            Stage::Done => reading,
-            Stage::Refused => reading,
+            _ => reading,
         }
     }
 
@@ -244,13 +204,9 @@ impl Reading {
     pub fn write(self, out: &mut [u8]) -> Result<usize, Refusal>
         ensures { Writes result out.old out.new 0 0 (text_of self) }
     {
-        let stage = self.stage;
-        let report = self.report;
-        match stage {
-            Stage::Settings => capture_lines::put_refused(out, b"settings="),
-            Stage::Records => report_text::write_report(out, report),
-            Stage::Done => report_text::write_report(out, report),
-            Stage::Refused => capture_lines::put_refused(out, b"settings="),
+        match self.stage {
+            Stage::Settings | Stage::Refused => capture_lines::put_refused(out, b"settings="),
+            Stage::Records | Stage::Done => report_text::write_report(out, self.report),
         }
     }
 
@@ -259,9 +215,7 @@ impl Reading {
         ensures { Prints result (text_of self) }
     {
         let mut text = [0u8; ROOM];
-        match self.write(&mut text) {
-            Ok(size) => Printed { text, size },
-            Err(_) => Printed { text, size: 0 },
-        }
+        let size = self.write(&mut text).unwrap_or(0);
+        Printed { text, size }
     }
 }

@@ -2,6 +2,7 @@
 // keeps what it did not use. The receiver's lengths and slots are lent beside it. The program only reads, turns, and
 // stops where a turn says so.
 #![tactic(auto, using(crate::proofs::Rules::turning))]
+
 ghost use Rattle.std.specs.Prelude.{◌≡◌, ◌≤◌};
 ghost use Rattle.capture_events.specs.Turns.{most_kept};
 ghost use Rattle.capture.specs.Reading.{is_over};
@@ -13,7 +14,8 @@ use capture_events::there;
 use capture_records::buffer;
 use wire::kinds::ByteOffset;
 
-// How far a capture was read, and how many bytes are kept at the buffer's front.
+// How far a capture was read, and how many bytes are kept at the buffer's front. What is missing from a capture turns
+// likewise, with other memory lent to each turn: a trait for both would have longer laws than the turns have lines.
 #[derive(Clone, Copy)]
 pub struct Turning {
     pub reading: Reading,
@@ -35,8 +37,7 @@ impl Turning {
     pub fn is_over(self) -> bool
         ensures { result ≡ is_over self.reading.stage }
     {
-        let reading = self.reading;
-        reading.is_over()
+        self.reading.is_over()
     }
 
     // One turn, so many bytes having come behind those that were kept; none mean the end of the input, after which it
@@ -48,21 +49,18 @@ impl Turning {
         ensures little { result.have ≤ most_kept }
         ensures promises { CapturePromises }
     {
-        let reading = self.reading;
         let end = there(buf.len(), self.have, got);
         if got == 0 {
-            let finished = reading.finish(lengths, slots, &buf[..end]);
             return Turning {
-                reading: finished,
+                reading: self.reading.finish(lengths, slots, &buf[..end]),
                 have: 0,
             };
         }
-        let fed = reading.feed(lengths, slots, &buf[..end]);
-        let next = fed.reading;
+        let fed = self.reading.feed(lengths, slots, &buf[..end]);
         let kept = buffer::keep(buf, ByteOffset(fed.used), ByteOffset(end));
         Turning {
-            reading: next,
-            have: kept.size,
+            reading: fed.reading,
+            have: kept.unwrap_or(0),
         }
     }
 }

@@ -1,5 +1,6 @@
 -- The parts of an answer and of the request beside it, and two tallies together, as the code has them.
-use mathlib.Core.Path.{◌≡◌, ◌∙◌}
+use mathlib.Core.Path.{◌≡◌, refl, ◌∙◌}
+use mathlib.Core.Bool.{Bool}
 use mathlib.Core.List.{List}
 use Prim.Native.Nat.{ℕ}
 use Rattle.wire.specs.Bounds.{up_to}
@@ -9,19 +10,19 @@ use Rattle.wire.specs.declared.kinds.MessagePlace.{MessagePlace}
 use Rattle.wire.specs.declared.refusal.Refusal.{Refusal}
 use Rattle.early_receiver.specs.declared.early.Answer.{Answer}
 use Rattle.early_receiver.specs.declared.early.Answer.TheVariants.{Deliver, Old, Quiet, Ahead, Ended, Refused}
-use Rattle.early_receiver.specs.declared.early.Request.{Request}
-use Rattle.early_receiver.specs.declared.early.Request.TheVariants.{Nothing, Ask}
+use Rattle.early_receiver.specs.declared.early.Ask.{Ask}
+use Rattle.std.specs.Prelude.{if◌then◌else◌, Option, Some, None, is_some}
 use Rattle.early_receiver.specs.Answers.{early_words, request_words}
 use Rattle.capture_tally.specs.declared.tally.Tally.{Tally}
 use Rattle.capture_tally.specs.Tally.{tally, parts_in, asks_of, parts_of, plus_of}
 
-pub asks_nothing : (q : Request) → q ≡ Nothing → 0 ≡ asks_of (request_words q)
+asks : (q : Option Ask) → (if is_some q then 1 else 0) ≡ asks_of (request_words q)
 unfolding request_words asks_of
-asks_nothing q e = rw e
+asks None = refl
+asks (Some a) = refl
 
-pub asks-once : (q : Request) (f : SequenceNumber) (c : MessageCount) → q ≡ Ask f c → 1 ≡ asks_of (request_words q)
-unfolding request_words asks_of
-asks-once q f c e = rw e
+pub asks-so : (q : Option Ask) (b : Bool) (k : ℕ) → b ≡ is_some q → k ≡ (if b then 1 else 0) → k ≡ asks_of (request_words q)
+asks-so q b k e f = f ∙ rw e (asks q)
 
 -- one law for each answer; the words q of the request count as k
 module _ (a : Answer) (r : Tally) (q : List ℕ) (k : ℕ) where

@@ -1,5 +1,6 @@
 // The report, from record to record.
 #![tactic(auto, using(crate::proofs::Rules::reports))]
+
 ghost use Rattle.std.specs.Prelude.{◌≡◌};
 ghost use Rattle.capture_tally.specs.Report.{fresh_of, lent_report, step_of, cut_of};
 ghost use Rattle.capture_tally.specs.Sums.{Sums};
@@ -28,13 +29,7 @@ impl Report {
         Report {
             receiver,
             records: 0,
-            tally: Tally {
-                delivered: 0,
-                old: 0,
-                quiet: 0,
-                asked: 0,
-                refused: 0,
-            },
+            tally: Tally::NONE,
         }
     }
 
@@ -45,20 +40,14 @@ impl Report {
             ≡ step_of (lent_report self lengths.old slots.old) datagram.now }
         ensures sums { Sums }
     {
-        let records = self.records;
-        if records == Report::MOST_RECORDS {
+        if self.records == Report::MOST_RECORDS {
             return self;
         }
-        let receiver = self.receiver;
-        let tally = self.tally;
-        let taken = early::take(receiver, lengths, slots, datagram);
-        let answer = taken.answer;
-        let request = taken.request;
-        let next = taken.receiver;
+        let taken = early::take(self.receiver, lengths, slots, datagram);
         Report {
-            receiver: next,
-            records: records + 1,
-            tally: tally.plus(Tally::of(answer, request)),
+            receiver: taken.receiver,
+            records: self.records + 1,
+            tally: self.tally.plus(Tally::of(taken.answer, taken.request)),
         }
     }
 
@@ -67,22 +56,14 @@ impl Report {
     pub fn cut(self) -> Report
         ensures { result ≡ cut_of self }
     {
-        let read = self.records;
-        if read == Report::MOST_RECORDS {
+        if self.records == Report::MOST_RECORDS {
             return self;
         }
-        let receiver = self.receiver;
-        let so_far = self.tally;
+        let cut = Tally { refused: 1, ..Tally::NONE };
         Report {
-            receiver,
-            records: read + 1,
-            tally: so_far.plus(Tally {
-                delivered: 0,
-                old: 0,
-                quiet: 0,
-                asked: 0,
-                refused: 1,
-            }),
+            records: self.records + 1,
+            tally: self.tally.plus(cut),
+            ..self
         }
     }
 }

@@ -1,11 +1,11 @@
 // The five counts of a report, and the parts that one answer, and the request beside it, add to them.
 #![tactic(auto, using(crate::proofs::Rules::tallies))]
+
 ghost use Rattle.std.specs.Prelude.{◌≡◌};
 ghost use Rattle.early_receiver.specs.Answers.{early_words, request_words};
-ghost use Rattle.capture_tally.specs.Tally.{tally, asks_of, parts_of, plus_of};
+ghost use Rattle.capture_tally.specs.Tally.{parts_of, plus_of};
 
-use early_receiver::early::{Answer, Request};
-use wire::counts::sum;
+use early_receiver::early::{Answer, Ask};
 
 // Messages delivered, and datagrams that are old, quiet, draw a request, or are refused.
 #[derive(Clone, Copy)]
@@ -17,45 +17,30 @@ pub struct Tally {
     pub refused: u64,
 }
 
-fn counts(delivered: u64, old: u64, quiet: u64, asked: u64, refused: u64) -> Tally
-    ensures { result ≡ tally delivered old quiet asked refused }
-{
-    Tally {
-        delivered,
-        old,
-        quiet,
-        asked,
-        refused,
-    }
-}
-
-// A request is one, whatever answer it stands beside.
-fn asks(request: Request) -> u64
-    ensures { result ≡ asks_of (request_words request) }
-{
-    match request {
-        Request::Nothing => 0,
-        Request::Ask { from: _, count: _ } => 1,
-    }
-}
-
 impl Tally {
-    // What an answer and the request beside it add to each count.
-    pub fn of(answer: Answer, request: Request) -> Tally
+    // Nothing counted.
+    pub const NONE: Tally = Tally {
+        delivered: 0,
+        old: 0,
+        quiet: 0,
+        asked: 0,
+        refused: 0,
+    };
+
+    // What an answer and the request beside it add to each count: a request is one, whatever answer it stands beside.
+    pub fn of(answer: Answer, request: Option<Ask>) -> Tally
         ensures { result ≡ parts_of (early_words answer) (request_words request) }
     {
-        let asked = asks(request);
+        let asking = Tally {
+            asked: u64::from(request.is_some()),
+            ..Tally::NONE
+        };
         match answer {
-            Answer::Deliver {
-                first: _,
-                count,
-                skipped: _,
-            } => counts(count.0 as u64, 0, 0, asked, 0),
-            Answer::Old => counts(0, 1, 0, asked, 0),
-            Answer::Quiet => counts(0, 0, 1, asked, 0),
-            Answer::Ahead => counts(0, 0, 0, asked, 0),
-            Answer::Ended => counts(0, 0, 0, asked, 0),
-            Answer::Refused(_) => counts(0, 0, 0, asked, 1),
+            Answer::Deliver { count, .. } => Tally { delivered: u64::from(count.0), ..asking },
+            Answer::Old => Tally { old: 1, ..asking },
+            Answer::Quiet => Tally { quiet: 1, ..asking },
+            Answer::Ahead | Answer::Ended => asking,
+            Answer::Refused(_) => Tally { refused: 1, ..asking },
         }
     }
 
@@ -63,12 +48,12 @@ impl Tally {
     pub fn plus(self, other: Tally) -> Tally
         ensures { result ≡ plus_of self other }
     {
-        counts(
-            sum(self.delivered, other.delivered),
-            sum(self.old, other.old),
-            sum(self.quiet, other.quiet),
-            sum(self.asked, other.asked),
-            sum(self.refused, other.refused),
-        )
+        Tally {
+            delivered: self.delivered.saturating_add(other.delivered),
+            old: self.old.saturating_add(other.old),
+            quiet: self.quiet.saturating_add(other.quiet),
+            asked: self.asked.saturating_add(other.asked),
+            refused: self.refused.saturating_add(other.refused),
+        }
     }
 }
