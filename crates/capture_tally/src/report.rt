@@ -59,7 +59,10 @@ impl Report {
         if self.records == Report::MOST_RECORDS {
             return self;
         }
-        let cut = Tally { refused: 1, ..Tally::NONE };
+        let cut = Tally {
+            refused: 1,
+            ..Tally::NONE
+        };
         Report {
             records: self.records + 1,
             tally: self.tally.plus(cut),

@@ -36,11 +36,17 @@ impl Tally {
             ..Tally::NONE
         };
         match answer {
-            Answer::Deliver { count, .. } => Tally { delivered: u64::from(count.0), ..asking },
+            Answer::Deliver { count, .. } => Tally {
+                delivered: u64::from(count.0),
+                ..asking
+            },
             Answer::Old => Tally { old: 1, ..asking },
             Answer::Quiet => Tally { quiet: 1, ..asking },
             Answer::Ahead | Answer::Ended => asking,
-            Answer::Refused(_) => Tally { refused: 1, ..asking },
+            Answer::Refused(_) => Tally {
+                refused: 1,
+                ..asking
+            },
         }
     }
 

@@ -1,5 +1,6 @@
 // The lines of a report.
 #![tactic(auto, using(crate::proofs::Rules::reporting))]
+
 ghost use Rattle.std.specs.Prelude.{◌+◌, ◌≤◌, length};
 ghost use Rattle.wire.specs.Output.{Writes};
 ghost use Rattle.capture_lines.specs.Lines.{LaysLine, number_line, session_line};
@@ -7,7 +8,6 @@ ghost use Rattle.capture_text.specs.Text.{room, ended_line, receiver_text, tally
 
 use capture_tally::report::Report;
 use capture_tally::tally::Tally;
-use early_holding::holding::EarlyReceiver;
 use receiver::receiver::Receiver;
 use wire::kinds::{ByteOffset, SESSION_SIZE};
 use wire::output;
@@ -41,9 +41,10 @@ fn put_ended(out: &mut [u8], at: ByteOffset, ended: bool) -> Result<usize, Refus
     ensures { Writes result out.old out.new 0 at.0 (ended_line ended) }
 {
     if ended {
-        return capture_lines::put_line(out, at, b"ended=", b"yes");
+        capture_lines::put_line(out, at, b"ended=", b"yes")
+    } else {
+        capture_lines::put_line(out, at, b"ended=", b"no")
     }
-    capture_lines::put_line(out, at, b"ended=", b"no")
 }
 
 // The lines of the receiver, at the front.
@@ -51,8 +52,7 @@ fn put_receiver(out: &mut [u8], receiver: Receiver) -> ByteOffset
     requires { room ≤ length out.old }
     ensures { LaysLine result.0 out.old out.new 0 (receiver_text receiver) 60 }
 {
-    let name = receiver.session;
-    let a = put_name(out, name);
+    let a = put_name(out, receiver.session);
     let b = put_count(out, a, b"next=", receiver.next.0);
     capture_lines::behind(b, put_ended(out, b, receiver.ended))
 }
@@ -74,11 +74,8 @@ fn put_report(out: &mut [u8], report: Report) -> ByteOffset
     requires { room ≤ length out.old }
     ensures { LaysLine result.0 out.old out.new 0 (report_text report) 200 }
 {
-    let receiver: EarlyReceiver = report.receiver;
-    let base = receiver.base;
-    let tally = report.tally;
-    let a = put_receiver(out, base);
-    put_tally(out, a, tally)
+    let a = put_receiver(out, report.receiver.base);
+    put_tally(out, a, report.tally)
 }
 
 // Writes a report.
@@ -86,7 +83,6 @@ pub fn write_report(out: &mut [u8], report: Report) -> Result<usize, Refusal>
     ensures { Writes result out.old out.new 0 0 (report_text report) }
 {
     let mut text = [0u8; ROOM];
-    let end = put_report(&mut text, report);
-    let size = end.0;
+    let size = put_report(&mut text, report).0;
     output::put_bytes(out, ByteOffset(0), &text[..size])
 }
