@@ -13,7 +13,8 @@ use Rattle.wire.specs.Words.{answer, refused, says}
 use Rattle.wire.specs.Output.{wrote, written_words, write_refusal, write_answer, Writes}
 use Rattle.wire.specs.declared.refusal.Refusal.{Refusal}
 use Rattle.wire.specs.Output.{Written}
-use Rattle.std.specs.Prelude.{Ok}
+use Rattle.std.specs.Prelude.{Ok, Err}
+use Rattle.std.specs.Result.{result_unwrap_or}
 use Rattle.wire.proofs.Words.{which-of}
 use Rattle.wire.proofs.Outputs.{no-write-refusal, wrote_so, wrote-front}
 use Rattle.wire.proofs.Cases.{below_or_not, zero_or_not}

@@ -88,7 +88,11 @@ fn take_records(start: Report, lengths: &mut [u8], slots: &mut [u8], bytes: &[u8
 fn fresh(settings: Settings) -> Report
     ensures { result ≡ fresh_of (started_of settings) }
 {
-    let Settings { session, next, limit } = settings;
+    let Settings {
+        session,
+        next,
+        limit,
+    } = settings;
     Report::new(early_condition_3::start(session, next, limit).receiver)
 }
 
@@ -99,7 +103,12 @@ fn open(report: Report, lengths: &mut [u8], slots: &mut [u8], bytes: &[u8]) -> F
 {
     match settings::read(bytes) {
         Ok(opened) => {
-            let fed = take_records(fresh(opened.settings), lengths, slots, &bytes[opened.size..]);
+            let fed = take_records(
+                fresh(opened.settings),
+                lengths,
+                slots,
+                &bytes[opened.size..],
+            );
             Fed {
                 used: opened.size + fed.used,
                 ..fed
