@@ -1,16 +1,18 @@
 -- An answer w laid with the places of what it delivers of the datagram d.
 use Prim.Native.Nat.{ℕ, ◌+◌, ◌-◌, ◌*◌, ◌≤◌}
 use mathlib.Core.List.{List}
-use mathlib.Core.Bool.{true}
+use mathlib.Core.Bool.{Bool, true}
 use mathlib.Core.Path.{◌≡◌, ap, sym, ◌∙◌}
 use lib.ListN.{length, drop}
 use lib.Dec.{ltb}
+use Rattle.std.specs.Prelude.{Result}
+use Rattle.wire.specs.declared.refusal.Refusal.{Refusal}
 use Rattle.wire.specs.Output.{put}
 use Rattle.wire.specs.Words.{Words}
 use Rattle.moldudp64.specs.Blocks.{all_fit, after_blocks}
 use Rattle.receiver.specs.Table.{AnswerKind}
-use Rattle.host_answers.specs.Answers.{or_else, short, words_of, AnswersWith}
-use Rattle.host_answers.proofs.AnswerLaws.{success, no-success, has_room}
+use Rattle.host_answers.specs.Answers.{or_else, short, words_of, said_refusal, said_values, AnswersWith}
+use Rattle.host_answers.proofs.AnswerLaws.{success, no-success, has_room, kept-values}
 use Rattle.host_answers.proofs.LadderLaws.{first-zero}
 use Rattle.host_receiver.specs.Replies.{answer_number}
 use Rattle.exports_deliver.specs.Places.{places_at, places_behind, places_delivered, Finds}
@@ -40,16 +42,17 @@ pub lay-there : (w : Words AnswerKind) (d : List ℕ) (count skipped : ℕ) → 
 lay-there w d count skipped b f = b.there count skipped f
 
 -- a code of 0 is given only where the places have room
-pub lay-room : (ws ws' vs : List ℕ) (code q few n count : ℕ) → few ≡ or_else q (short (ltb n (2 * count))) → AnswersWith code ws ws' few vs → code ≡ 0 → 2 * count ≤ n
-lay-room ws ws' vs code q few n count o y z = has_room few q n (2 * count) o (first-zero few _ (sym y.returns ∙ z))
+pub lay-room : (ws ws' vs : List ℕ) (code q few n count : ℕ) (b : Bool) → b ≡ ltb n (2 * count) → few ≡ or_else q (short b) → AnswersWith code ws ws' few vs → code ≡ 0 → 2 * count ≤ n
+lay-room ws ws' vs code q few n count b e o y z = has_room few q n (2 * count) (rw e at o) (first-zero few _ (sym y.returns ∙ z))
 
--- q is the answer's refusal, and few it or 41 for too few places
-module _ (w : Words AnswerKind) (d : List ℕ) (count skipped : ℕ) (f : Finds count skipped w) (ws ws' vs ps : List ℕ) (code q few : ℕ) (a : q ≡ w.refusal) (v : vs ≡ words_of answer_number 4 w)
-    (o : few ≡ or_else q (short (ltb (length ps) (2 * count)))) (y : AnswersWith code ws ws' few vs) where
+-- said is the answer as a host gets it, and x the same or 41 for too few places
+module _ (w : Words AnswerKind) (d : List ℕ) (count skipped : ℕ) (f : Finds count skipped w) (ws ws' ps : List ℕ) (code : ℕ) (b : Bool) (eb : b ≡ ltb (length ps) (2 * count))
+    (said x : Result (List ℕ) Refusal) (a : said_refusal said ≡ w.refusal) (v : said_values 4 said ≡ words_of answer_number 4 w)
+    (o : said_refusal x ≡ or_else (said_refusal said) (short b)) (kept : said_refusal x ≡ 0 → x ≡ said) (y : AnswersWith code ws ws' (said_refusal x) (said_values 4 x)) where
   answered : AnswersWith code ws ws' (or_else w.refusal (short (ltb (length ps) (length (places_delivered w d))))) (words_of answer_number 4 w)
   answered =
       let n : length (places_delivered w d) ≡ 2 * count = ap length (found-places w count skipped d f) ∙ length-places count _ _ in
-      rw (n, ← a, ← o, ← v) y
+      rw (n, ← a, ← eb, ← o, ← v) (kept-values code 4 ws ws' said x kept y)
 
   pub lays-not : (code ≡ 0 → ⊥) → LaysAnswer code w d ws ws' ps ps
   lays-not z = record { answers = answered; places = no-success code _ ps z }

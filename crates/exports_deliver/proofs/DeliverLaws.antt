@@ -7,9 +7,12 @@ use lib.ListN.{length}
 use lib.Dec.{ltb}
 use borrow.Author.Tests.{lt-ltb, le-ltb}
 use Rattle.wire.proofs.Words.{refusal-of}
+use Rattle.std.specs.Prelude.{Result, Ok, Err}
+use Rattle.wire.specs.declared.refusal.Refusal.{Refusal}
 use Rattle.moldudp64.specs.declared.downstream.Downstream.{Downstream}
 use Rattle.moldudp64.specs.Downstream.{refusal_of, downstream_of, downstream_words}
-use Rattle.moldudp64.proofs.DownstreamLaws.{refusal-found, sound}
+use Rattle.moldudp64.proofs.DownstreamLaws.{refusal-found, read_well, sound}
+use Rattle.host_cursor.proofs.DatagramLaws.{unread-ground, unread-is}
 use Rattle.receiver.specs.declared.receiver.Receiver.{Receiver}
 use Rattle.receiver.specs.declared.receiver.Taken.{Taken}
 use Rattle.receiver.specs.Table.{answer_words}
@@ -38,22 +41,22 @@ not-delivered d l ws ps r z e =
       keeps = not_taken d l r z;
     }
 
-module _ (d l ws ps : List ℕ) (p : Downstream) (k : ℕ) (e : downstream_words p ≡ downstream_of d) (f : k ≡ (downstream_words p).refusal) where
-  unread : k ≡ refusal_of d
-  unread = refusal-found d p k f e
+module _ (d l ws ps : List ℕ) (p : Result Downstream Refusal) (e : downstream_words p ≡ downstream_of d) where
+  pub delivers-unread : (x : Refusal) → p ≡ Err x → DeliversDatagram x.number l l d ws ws ps ps
+  delivers-unread x f =
+      let unread = unread-ground d p e x f in
+      let z = unread-is d p e x f in
+      not-delivered d l ws ps x.number z (unread ∙ or-first (refusal_of d) _ (λ y. z (unread ∙ y)))
 
-  pub delivers-unread : (k ≡ 0 → ⊥) → DeliversDatagram k l l d ws ws ps ps
-  delivers-unread z = not-delivered d l ws ps k z (unread ∙ or-first (refusal_of d) _ (λ y. z (unread ∙ y)))
-
-  pub delivers-short : k ≡ 0 → length l < receiver_size → DeliversDatagram 41 l l d ws ws ps ps
-  delivers-short z h =
+  pub delivers-short : (y : Downstream) → p ≡ Ok y → length l < receiver_size → DeliversDatagram 41 l l d ws ws ps ps
+  delivers-short y f h =
       let lacks : 41 ≡ short (ltb (length l) receiver_size) = short-yes _ (lt-ltb (length l) receiver_size h) in
       not-delivered d l ws ps 41 (λ n. omega arith)
-      (lacks ∙ or-first _ _ (λ y. let n : ◌≡◌ {A = ℕ} 41 0 = lacks ∙ y in omega arith) ∙ or-next (refusal_of d) _ (sym unread ∙ z))
+      (lacks ∙ or-first _ _ (λ y. let n : ◌≡◌ {A = ℕ} 41 0 = lacks ∙ y in omega arith) ∙ or-next (refusal_of d) _ (read_well d p e y f))
 
 -- ---- one that was read as p, with no refusal, and taken as t
 
-module _ (d : List ℕ) (p : Downstream) (e : downstream_words p ≡ downstream_of d) (none : (downstream_words p).refusal ≡ 0) (l : List ℕ) (x : Receiver) (is : x ≡ receiver_in l) (t : Taken)
+module _ (d : List ℕ) (p : Result Downstream Refusal) (e : downstream_words p ≡ downstream_of d) (none : (downstream_words p).refusal ≡ 0) (l : List ℕ) (x : Receiver) (is : x ≡ receiver_in l) (t : Taken)
     (g : answer_words t.answer ≡ answer_read x d (downstream_words p)) where
   well : refusal_of d ≡ 0
   well = sym (refusal-found d p _ refl e) ∙ none

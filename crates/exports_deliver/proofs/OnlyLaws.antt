@@ -3,10 +3,11 @@ use Prim.Native.Nat.{ℕ}
 use mathlib.Core.List.{List, [], ◌∷◌}
 use mathlib.Core.Bool.{Bool}
 use mathlib.Core.Path.{◌≡◌, refl, ◌∙◌}
+use Rattle.std.specs.Prelude.{Result, Err}
+use Rattle.wire.specs.declared.refusal.Refusal.{Refusal}
 use Rattle.wire.proofs.Words.{refusal-of}
 use Rattle.moldudp64.specs.declared.downstream.Downstream.{Downstream}
 use Rattle.moldudp64.specs.Downstream.{refusal_of, downstream_of, downstream_words}
-use Rattle.moldudp64.proofs.DownstreamLaws.{refusal-found}
 use Rattle.receiver.specs.declared.receiver.Receiver.{Receiver}
 use Rattle.receiver.specs.declared.receiver.Answer.{Answer}
 use Rattle.receiver.specs.Table.{answer_words}
@@ -14,7 +15,7 @@ use Rattle.receiver.specs.Receiver.{refusal_for, answer_of, answer_read}
 use Rattle.receiver.proofs.ReadLaws.{read-as-whole}
 use Rattle.host_answers.specs.Answers.{or_else, short, is_one_of, RefusesOnly}
 use Rattle.host_answers.proofs.OnlyLaws.{only_ending, answers-only, only-within, within}
-use Rattle.host_cursor.proofs.DatagramLaws.{datagram_grounds, datagram-only}
+use Rattle.host_cursor.proofs.DatagramLaws.{datagram_grounds, datagram-only, unread-ground}
 use Rattle.exports_deliver.specs.Calls.{LaysAnswer}
 use Rattle.host_receiver.proofs.RefusalLaws.{take_grounds, said-refusal, receiver-only}
 
@@ -27,9 +28,9 @@ unfolding is_one_of
 short-only = refl
 
 -- of a datagram d, which the reader read as p
-module _ (d : List ℕ) (p : Downstream) (e : downstream_words p ≡ downstream_of d) where
-  pub unread-only : (k : ℕ) → k ≡ (downstream_words p).refusal → RefusesOnly k (11 ∷ 12 ∷ 13 ∷ 14 ∷ 15 ∷ 16 ∷ 17 ∷ 18 ∷ 20 ∷ 41 ∷ [])
-  unread-only k f = rw (refusal-found d p k f e) (read_only d)
+module _ (d : List ℕ) (p : Result Downstream Refusal) (e : downstream_words p ≡ downstream_of d) where
+  pub unread-only : (x : Refusal) → p ≡ Err x → RefusesOnly x.number (11 ∷ 12 ∷ 13 ∷ 14 ∷ 15 ∷ 16 ∷ 17 ∷ 18 ∷ 20 ∷ 41 ∷ [])
+  unread-only x f = rw (unread-ground d p e x f) (read_only d)
 
   -- the answer's refusal, 41 for too few places or words, and 41 for the state once more
   pub deliver-only : (r code : ℕ) (c : Bool) (x : Receiver) (ws ws' ps ps' : List ℕ) (k : Answer) → answer_words k ≡ answer_read x d (downstream_words p)

@@ -1,7 +1,7 @@
 // A datagram taken by the receiver and the places of all messages that it delivers, in one call, for hosts in other
 // languages. It has a crate of its own, so that the reader has one caller there and is compiled into it.
 // `include/eiderwagon.h` says what the function takes and answers.
-#![tactic(auto, using(crate::proofs::Rules::behind, crate::proofs::Rules::delivering, crate::proofs::Rules::finding, crate::proofs::Rules::passing))]
+#![tactic(auto, using(crate::proofs::Rules::behind, crate::proofs::Rules::calls, crate::proofs::Rules::delivering, crate::proofs::Rules::finding, crate::proofs::Rules::passing))]
 
 ghost use Rattle.std.specs.Prelude.{◌≡◌, [], ◌∷◌, true, ◌+◌, ◌-◌, ◌*◌, ◌≤◌, length, drop, ltb};
 ghost use Rattle.wire.specs.Bounds.{length_size};
@@ -10,7 +10,7 @@ ghost use Rattle.moldudp64.specs.Header.{header_size};
 ghost use Rattle.moldudp64.specs.Blocks.{block_length, all_fit, after_blocks};
 ghost use Rattle.moldudp64.specs.Downstream.{downstream_of, downstream_words};
 ghost use Rattle.receiver.specs.Table.{answer_words};
-ghost use Rattle.host_answers.specs.Answers.{or_else, short, RefusesOnly};
+ghost use Rattle.host_answers.specs.Answers.{RefusesOnly};
 ghost use Rattle.host_receiver.specs.Receiver.{receiver_size};
 ghost use Rattle.exports_deliver.specs.Places.{places_at, places_behind, PlacesAreMessages, EnoughPlaces, Finds};
 ghost use Rattle.exports_deliver.specs.Calls.{DeliversDatagram, BlocksThere, LaysAnswer};
@@ -78,10 +78,8 @@ fn behind_blocks(datagram: &[u8], blocks: u16) -> usize
         - length (after_blocks blocks (drop header_size datagram.now)) }
 {
     let mut at = header::SIZE;
-    let mut left = blocks;
-    while 0 < left {
+    for _ in 0..blocks {
         at += length_at(datagram, at) as usize + LENGTH_SIZE;
-        left -= 1;
     }
     at
 }
@@ -94,16 +92,14 @@ fn lay_places(datagram: &[u8], from: usize, count: u16, places: &mut [u64])
         ≡ put places.old 0 (places_at count from (drop from datagram.now)) }
 {
     let mut at = from;
-    let mut left = count;
     let mut word: usize = 0;
-    while 0 < left {
+    for _ in 0..count {
         let length = length_at(datagram, at) as usize;
         at += LENGTH_SIZE;
         places[word] = at as u64;
         places[word + 1] = length as u64;
         at += length;
         word += PLACE_WORDS;
-        left -= 1;
     }
 }
 
@@ -117,11 +113,11 @@ fn lay_behind(datagram: &[u8], count: u16, skipped: u16, places: &mut [u64])
     lay_places(datagram, behind_blocks(datagram, skipped), count, places);
 }
 
-// An answer's refusal, or 41 where an array of so many words is too short for the places of so many messages.
-fn or_few(refused: Refusal, lent: usize, count: u16) -> Refusal
-    ensures { result.number ≡ or_else refused.number (short (ltb lent (2 * count))) }
+// Whether an array of so many words is too short for the places of so many messages.
+fn few(lent: usize, count: u16) -> bool
+    ensures { result ≡ ltb lent (2 * count) }
 {
-    host_answers::or_short(refused, lent < PLACE_WORDS * count as usize)
+    lent < PLACE_WORDS * count as usize
 }
 
 // Answers by an answer's words, and lays the places of what it delivers: its blocks are there. Too few places are known
@@ -131,13 +127,11 @@ fn lay_answer(answer: Answer, datagram: &[u8], words: &mut [u64], places: &mut [
     ensures { LaysAnswer result (answer_words answer) datagram.now words.old words.new
         places.old places.new }
 {
-    let said = answers::answer_words(answer);
-    let values = said.words;
     let delivery = delivery_of(answer);
     let count = delivery.count.0;
     let skipped = delivery.skipped.0;
-    let refused = or_few(said.refusal, places.len(), count);
-    let code = host_answers::answer(words, refused, &values);
+    let said = host_answers::or_short(answers::answer_words(answer), few(places.len(), count));
+    let code = host_answers::answer(words, said);
     if code != 0 {
         return code;
     }
@@ -148,7 +142,7 @@ fn lay_answer(answer: Answer, datagram: &[u8], words: &mut [u64], places: &mut [
 // Takes a datagram that was read, with a state that is long enough.
 fn deliver_read(
     state: &mut [u8],
-    packet: Downstream,
+    packet: Result<Downstream, Refusal>,
     datagram: &[u8],
     words: &mut [u64],
     places: &mut [u64],
@@ -160,10 +154,8 @@ fn deliver_read(
     ensures refuses { RefusesOnly result (11 ∷ 12 ∷ 13 ∷ 14 ∷ 15 ∷ 16 ∷ 17 ∷ 18 ∷ 20 ∷ 41 ∷ []) }
 {
     let taken = host_receiver::read(state).take_read(packet, datagram);
-    let answer = taken.answer;
-    let after = taken.receiver;
-    let code = lay_answer(answer, datagram, words, places);
-    host_receiver::write(state, code, after)
+    let code = lay_answer(taken.answer, datagram, words, places);
+    host_receiver::write(state, code, taken.receiver)
 }
 
 // Takes a datagram, and lays the place of each message that it delivers. It is read before the state is: 11 to 16 need
@@ -184,9 +176,8 @@ pub extern "C" fn eiderwagon_receiver_deliver(
     ensures not_vacuous { HandedExample }
 {
     let packet = downstream::read(datagram);
-    let unread = downstream::refusal_in(packet);
-    if unread.number != 0 {
-        return unread.number as u32;
+    if let Err(unread) = packet {
+        return u32::from(unread.number);
     }
     if state.len() < host_receiver::SIZE {
         return host_answers::SHORT;

@@ -7,13 +7,14 @@ use native.Mathlib.Omega.{arith}
 use lib.ListN.{length}
 use lib.Dec.{ltb, eqb}
 use borrow.Author.Tests.{le-ltb}
-use Rattle.std.specs.Prelude.{if◌then◌else◌}
+use Rattle.std.specs.Prelude.{if◌then◌else◌, Result}
 use Rattle.wire.specs.Bounds.{largest_number}
 use Rattle.wire.specs.Words.{says}
 use Rattle.wire.specs.Output.{written_words, Writes}
 use Rattle.wire.specs.Output.{Written}
 use Rattle.moldudp64.specs.declared.downstream.Downstream.{Downstream}
-use Rattle.moldudp64.specs.declared.request.Request.{Request}
+use Rattle.moldudp64.specs.declared.request.Wanted.{Wanted}
+use Rattle.wire.specs.declared.refusal.Refusal.{Refusal}
 use Rattle.moldudp64.specs.Header.{header_size, largest_datagram, end_count, number_of, count_of}
 use Rattle.moldudp64.specs.Downstream.{run_out, downstream_words, downstream_of}
 use Rattle.moldudp64.specs.Request.{wanted, request_ground, request_refusal, request_words, request_of}
@@ -33,7 +34,7 @@ request_list = 47 ∷ 13 ∷ 48 ∷ 41 ∷ []
 abbrev ground_list : List ℕ
 ground_list = 13 ∷ 48 ∷ []
 
-pub read_only : (l : List ℕ) (x : Downstream) (r g : ℕ) (ws ws' vs : List ℕ) → AnswersWith r ws ws' g vs → g ≡ (downstream_words x).refusal → downstream_words x ≡ downstream_of l
+pub read_only : (l : List ℕ) (x : Result Downstream Refusal) (r g : ℕ) (ws ws' vs : List ℕ) → AnswersWith r ws ws' g vs → g ≡ (downstream_words x).refusal → downstream_words x ≡ downstream_of l
     → RefusesOnly r (11 ∷ 12 ∷ 13 ∷ 14 ∷ 15 ∷ 16 ∷ 41 ∷ [])
 unfolding is_one_of within
 read_only l x r g ws ws' vs a e f =
@@ -52,7 +53,7 @@ request-only l =
     (only_if (not (eqb (length l) header_size)) 47 (request_ground (number_of l) (count_of l)) request_list refl
     (only-within (request_ground (number_of l) (count_of l)) ground_list request_list (ground-only (number_of l) (count_of l)) refl))
 
-pub read-request-only : (l : List ℕ) (x : Request) (r g : ℕ) (ws ws' vs : List ℕ) → AnswersWith r ws ws' g vs → g ≡ (request_words x).refusal → request_words x ≡ request_of l
+pub read-request-only : (l : List ℕ) (x : Result Wanted Refusal) (r g : ℕ) (ws ws' vs : List ℕ) → AnswersWith r ws ws' g vs → g ≡ (request_words x).refusal → request_words x ≡ request_of l
     → RefusesOnly r (47 ∷ 13 ∷ 48 ∷ 41 ∷ [])
 unfolding is_one_of
 read-request-only l x r g ws ws' vs a e f = answers-only r g ws ws' vs request_list a (rw (e, f) (request-only l)) refl

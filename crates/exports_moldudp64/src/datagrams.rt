@@ -1,13 +1,13 @@
 // Datagrams, read.
 #![tactic(auto, using(crate::proofs::Rules::reads))]
+
 ghost use Rattle.std.specs.Prelude.{◌≡◌, [], ◌∷◌};
 ghost use Rattle.moldudp64.specs.Downstream.{downstream_words, downstream_of};
-ghost use Rattle.host_answers.specs.Answers.{words_of, RefusesOnly, Answers};
+ghost use Rattle.host_answers.specs.Answers.{said_refusal, said_values, words_of, RefusesOnly, Answers};
 ghost use Rattle.exports_moldudp64.specs.Datagrams.{kind_number, DatagramsApart};
 
 use moldudp64::downstream;
 use moldudp64::downstream::Downstream;
-use wire::refusal;
 use wire::refusal::Refusal;
 
 // What a datagram is, by number.
@@ -20,34 +20,16 @@ const END_OF_SESSION: u64 = 3;
 // The words of a datagram: what it is, its number and its count.
 const DATAGRAM_WORDS: usize = 3;
 
-// A datagram as a host gets it: its refusal, or its words.
-#[derive(Clone, Copy)]
-struct SaidDatagram {
-    refusal: Refusal,
-    words: [u64; DATAGRAM_WORDS],
-}
-
-fn datagram_words(read: Downstream) -> SaidDatagram
-    ensures { (result.refusal.number ≡ (downstream_words read).refusal)
-        × (result.words ≡ words_of kind_number 3 (downstream_words read)) }
+// A datagram as a host gets it: its words, or its refusal.
+#[tactic(auto, unfolding(moldudp64::specs::Downstream::downstream_words, host_answers::specs::Answers::said_refusal, host_answers::specs::Answers::said_values, host_answers::specs::Answers::words_at, host_answers::specs::Answers::padded, crate::specs::Datagrams::kind_number))]
+fn datagram_words(read: Result<Downstream, Refusal>) -> Result<[u64; DATAGRAM_WORDS], Refusal>
+    ensures { (said_refusal result ≡ (downstream_words read).refusal)
+        × (said_values 3 result ≡ words_of kind_number 3 (downstream_words read)) }
 {
-    match read {
-        Downstream::Data { first, count } => SaidDatagram {
-            refusal: refusal::NONE,
-            words: [DATA, first.0, count.0 as u64],
-        },
-        Downstream::Heartbeat { next } => SaidDatagram {
-            refusal: refusal::NONE,
-            words: [HEARTBEAT, next.0, 0],
-        },
-        Downstream::EndOfSession { next } => SaidDatagram {
-            refusal: refusal::NONE,
-            words: [END_OF_SESSION, next.0, 0],
-        },
-        Downstream::Refused(r) => SaidDatagram {
-            refusal: r,
-            words: [0; DATAGRAM_WORDS],
-        },
+    match read? {
+        Downstream::Data { first, count } => Ok([DATA, first.0, u64::from(count.0)]),
+        Downstream::Heartbeat { next } => Ok([HEARTBEAT, next.0, 0]),
+        Downstream::EndOfSession { next } => Ok([END_OF_SESSION, next.0, 0]),
     }
 }
 
@@ -59,7 +41,5 @@ pub extern "C" fn eiderwagon_mold_read(datagram: &[u8], words: &mut [u64]) -> u3
     ensures refuses { RefusesOnly result (11 ∷ 12 ∷ 13 ∷ 14 ∷ 15 ∷ 16 ∷ 41 ∷ []) }
     ensures tells_apart { DatagramsApart }
 {
-    let said = datagram_words(downstream::read(datagram));
-    let values = said.words;
-    host_answers::answer(words, said.refusal, &values)
+    host_answers::answer(words, datagram_words(downstream::read(datagram)))
 }

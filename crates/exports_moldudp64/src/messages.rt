@@ -1,5 +1,6 @@
 // The messages of a datagram: one by its place, or all in one walk with a cursor that the host keeps.
 #![tactic(auto, using(crate::proofs::Rules::messages))]
+
 ghost use Rattle.std.specs.Prelude.{◌≡◌, [], ◌∷◌};
 ghost use Rattle.moldudp64_messages.specs.Cursor.{locate_of, start_of};
 ghost use Rattle.host_answers.specs.Answers.{RefusesOnly, AnswersWith};
@@ -9,7 +10,6 @@ use host_answers::SHORT;
 use moldudp64_messages::cursor::{Cursor, Located};
 use moldudp64_messages::message;
 use wire::kinds::MessagePlace;
-use wire::refusal;
 
 // The words of a message: whether it is there, its offset and its length.
 const MESSAGE_WORDS: usize = 3;
@@ -31,8 +31,8 @@ pub extern "C" fn eiderwagon_mold_locate(datagram: &[u8], place: u16, words: &mu
         (located_words (locate_of datagram.now place)) }
     ensures refuses { RefusesOnly result (41 ∷ []) }
 {
-    let values = located_words(message::locate(datagram, MessagePlace(place)));
-    host_answers::answer(words, refusal::NONE, &values)
+    let found = message::locate(datagram, MessagePlace(place));
+    host_answers::answer(words, Ok(located_words(found)))
 }
 
 // Sets a cursor to the first message.
@@ -56,9 +56,8 @@ pub extern "C" fn eiderwagon_mold_next(cursor: &mut [u8], datagram: &[u8], words
     }
     let at = host_cursor::read(cursor);
     let found = at.locate(datagram);
-    let values = located_words(found);
     let then = at.next(datagram);
-    let code = host_answers::answer(words, refusal::NONE, &values);
+    let code = host_answers::answer(words, Ok(located_words(found)));
     if found.exists {
         return host_cursor::write(cursor, code, then);
     }

@@ -1,5 +1,6 @@
 // Datagrams and requests, written. Document 01 has no ground for a session of another size: it is 41 here.
 #![tactic(auto, using(crate::proofs::Rules::names))]
+
 ghost use Rattle.std.specs.Prelude.{[], ◌∷◌};
 ghost use Rattle.wire.specs.Bounds.{session_size};
 ghost use Rattle.wire.specs.Parts.{first_bytes};

@@ -9,9 +9,12 @@ use borrow.Author.Tests.{ne_eqb, lt-ltb, le-ltb}
 use Rattle.wire.specs.Bounds.{session_size}
 use Rattle.wire.specs.Refusals.{bad_setting}
 use Rattle.wire.specs.Parts.{first_bytes}
+use Rattle.std.specs.Prelude.{Result, Ok, Err}
+use Rattle.wire.specs.declared.refusal.Refusal.{Refusal}
 use Rattle.moldudp64.specs.declared.downstream.Downstream.{Downstream}
 use Rattle.moldudp64.specs.Downstream.{refusal_of, downstream_of, downstream_words}
-use Rattle.moldudp64.proofs.DownstreamLaws.{refusal-found}
+use Rattle.moldudp64.proofs.DownstreamLaws.{refusal-found, read_well}
+use Rattle.host_cursor.proofs.DatagramLaws.{unread-ground, unread-is}
 use Rattle.receiver.specs.declared.receiver.Receiver.{Receiver}
 use Rattle.receiver.specs.declared.receiver.Taken.{Taken}
 use Rattle.receiver.specs.Table.{answer_words}
@@ -29,31 +32,30 @@ pub starts-receiver : (s name : List ℕ) (n limit g h : ℕ) (x : Receiver) (r 
     → KeepsReceiver (on_code r) l m x → StartsReceiver r s n limit l m
 starts-receiver s name n limit g h x r l m a b c e f k = record { returns = f ∙ rw (e, b); keeps = rw (← a, ← c) k }
 
--- ---- a datagram d, which the reader read as p, with the refusal k
+-- ---- a datagram d, which the reader read as p
 
-module _ (d l ws : List ℕ) (p : Downstream) (k : ℕ) (e : downstream_words p ≡ downstream_of d) (f : k ≡ (downstream_words p).refusal) where
-  unread : k ≡ refusal_of d
-  unread = refusal-found d p k f e
-
-  pub takes-unread : (k ≡ 0 → ⊥) → TakesDatagram k l l d ws ws
+module _ (d l ws : List ℕ) (p : Result Downstream Refusal) (e : downstream_words p ≡ downstream_of d) where
+  pub takes-unread : (x : Refusal) → p ≡ Err x → TakesDatagram x.number l l d ws ws
   unfolding on_success
-  takes-unread z =
+  takes-unread x f =
+      let unread = unread-ground d p e x f in
+      let z = unread-is d p e x f in
       let n : refusal_of d ≡ 0 → ⊥ = λ y. z (unread ∙ y) in
       let first : refusal_of d ≡ state_ladder (refusal_of d) (ltb (length l) receiver_size) (answer_of (receiver_in l) d).refusal = or-first (refusal_of d) _ n in
       record {
         answers = record { returns = unread ∙ or-first (refusal_of d) (short (ltb (length ws) (length (words_of answer_number 4 (answer_of (receiver_in l) d))))) n ∙ ap (λ (g : ℕ). or_else g (short (ltb (length ws) (length (words_of answer_number 4 (answer_of (receiver_in l) d)))))) first; words = rw (ne_eqb _ _ z) };
-        keeps = not_taken d l k z;
+        keeps = not_taken d l x.number z;
       }
 
-  pub takes-short : k ≡ 0 → length l < receiver_size → TakesDatagram 41 l l d ws ws
+  pub takes-short : (y : Downstream) → p ≡ Ok y → length l < receiver_size → TakesDatagram 41 l l d ws ws
   unfolding on_success or_else short
-  takes-short z h =
+  takes-short y f h =
       record {
-        answers = record { returns = rw (← unread, z, lt-ltb (length l) receiver_size h); words = refl };
+        answers = record { returns = rw (read_well d p e y f, lt-ltb (length l) receiver_size h); words = refl };
         keeps = not_taken d l 41 (λ n. omega arith);
       }
 
-module _ (d l ws : List ℕ) (p : Downstream) (e : downstream_words p ≡ downstream_of d) (none : (downstream_words p).refusal ≡ 0) where
+module _ (d l ws : List ℕ) (p : Result Downstream Refusal) (e : downstream_words p ≡ downstream_of d) (none : (downstream_words p).refusal ≡ 0) where
   well : refusal_of d ≡ 0
   well = sym (refusal-found d p _ refl e) ∙ none
 

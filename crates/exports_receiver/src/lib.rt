@@ -20,6 +20,7 @@ use moldudp64_messages::cursor::Cursor;
 use receiver::delivery;
 use receiver::receiver::Receiver;
 use wire::kinds::{MessageCount, MessagePlace, SESSION_SIZE, SequenceNumber};
+use wire::refusal::Refusal;
 use wire::{parts, refusal};
 
 // Starts a receiver.
@@ -48,11 +49,16 @@ pub extern "C" fn eiderwagon_receiver_start(
         refusal::BAD_SETTING,
         started.refusal,
     );
-    host_receiver::write(state, refused.number as u32, receiver)
+    host_receiver::write(state, u32::from(refused.number), receiver)
 }
 
 // Takes a datagram that was read, with a state that is long enough.
-fn take_read(state: &mut [u8], packet: Downstream, datagram: &[u8], words: &mut [u64]) -> u32
+fn take_read(
+    state: &mut [u8],
+    packet: Result<Downstream, Refusal>,
+    datagram: &[u8],
+    words: &mut [u64],
+) -> u32
     requires { (downstream_words packet ≡ downstream_of datagram.now) × ((downstream_words packet).refusal ≡ 0)
         × (receiver_size ≤ length state.old) }
     ensures takes_datagram { TakesDatagram result state.old state.new datagram.now
@@ -60,12 +66,8 @@ fn take_read(state: &mut [u8], packet: Downstream, datagram: &[u8], words: &mut 
     ensures refuses { RefusesOnly result (11 ∷ 12 ∷ 13 ∷ 14 ∷ 15 ∷ 16 ∷ 17 ∷ 18 ∷ 20 ∷ 41 ∷ []) }
 {
     let taken = host_receiver::read(state).take_read(packet, datagram);
-    let answer = taken.answer;
-    let after = taken.receiver;
-    let said = answers::answer_words(answer);
-    let values = said.words;
-    let code = host_answers::answer(words, said.refusal, &values);
-    host_receiver::write(state, code, after)
+    let code = host_answers::answer(words, answers::answer_words(taken.answer));
+    host_receiver::write(state, code, taken.receiver)
 }
 
 // Takes a datagram. It is read before the state is: 11 to 16 need none, and a state that is long enough is read once.
@@ -81,9 +83,8 @@ pub extern "C" fn eiderwagon_receiver_take(
     ensures tells_apart { AnswerNumbersApart }
 {
     let packet = downstream::read(datagram);
-    let unread = downstream::refusal_in(packet);
-    if unread.number != 0 {
-        return unread.number as u32;
+    if let Err(unread) = packet {
+        return u32::from(unread.number);
     }
     if state.len() < host_receiver::SIZE {
         return host_answers::SHORT;

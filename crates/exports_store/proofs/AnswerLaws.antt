@@ -17,7 +17,6 @@ use Rattle.wire.specs.Bytes.{same_bytes}
 use Rattle.wire.specs.Output.{written_words, put, write_refusal, write_output, Writes}
 use Rattle.wire.specs.Output.{Written}
 use Rattle.std.specs.Prelude.{Ok, Err}
-use Rattle.wire.specs.declared.refusal.Refusal.{Refusal}
 use Rattle.wire.specs.Parts.{first_bytes}
 use Rattle.wire.proofs.Cases.{zero_or_not}
 use Rattle.wire.proofs.Numbers.{part_to_end}
@@ -27,7 +26,7 @@ use Rattle.moldudp64.specs.Header.{number_of}
 use Rattle.moldudp64.specs.Request.{request_refusal, request_session}
 use Rattle.packing.specs.Fit.{room_of, fits_alone}
 use Rattle.store.specs.Store.{Store, store, store_ground, in_store, length_at, answer_ground, answer_bytes}
-use Rattle.host_answers.specs.Answers.{or_else, short, lent_from, padded, behind_stateless, AnswersWith, AnswersWriting}
+use Rattle.host_answers.specs.Answers.{or_else, short, lent_from, padded, behind_stateless, said_refusal, AnswersWith, AnswersWriting}
 use Rattle.host_answers.proofs.AnswerLaws.{or-first, or-next, no-success, behind-own}
 use Rattle.host_answers.proofs.WritingLaws.{writing-plain}
 use Rattle.exports_store.specs.Answer.{named_store}
@@ -102,16 +101,15 @@ cut-ladder st size q l bs =
 never-zero : (g : ℕ) → or_else g output_short ≡ 0 → ⊥
 never-zero g e = zero_or_not ⊥ g (λ z. let f : output_short ≡ 0 = or-next g output_short z ∙ e in omega arith) (λ z. z (or-first g output_short z ∙ e))
 
--- the steps of `nameless`
-pub nameless-wrote : (w : Written) (size : ℕ) → w ≡ Ok size
-    → (written_words (Err (record { number = 41 }))).refusal ≡ behind_stateless true 48 (written_words w).refusal
-unfolding written_words behind_stateless
-nameless-wrote w size e = rw e
+-- a writer's refusal as it was said
+said-so : (w : Written) → (written_words w).refusal ≡ said_refusal w
+unfolding written_words said_refusal
+said-so (Ok n) = refl
+said-so (Err r) = refl
 
-pub nameless-refused : (w : Written) (x y : Refusal) → w ≡ Err x → y.number ≡ behind_stateless true 48 x.number
-    → (written_words (Err y)).refusal ≡ behind_stateless true 48 (written_words w).refusal
-unfolding written_words
-nameless-refused w x y e f = rw e f
+pub nameless-says : (w v : Written) → said_refusal v ≡ behind_stateless true 48 (said_refusal w)
+    → (written_words v).refusal ≡ behind_stateless true 48 (written_words w).refusal
+nameless-says w v e = rw (said-so w, said-so v) e
 
 -- nothing is laid into nothing
 into : (x : List ℕ) → put [] 0 x ≡ []

@@ -23,14 +23,7 @@ const LAST_OF_REQUEST: u8 = refusal::REQUEST_COUNT.number;
 fn nameless(written: Result<usize, Refusal>) -> Result<usize, Refusal>
     ensures { (written_words result).refusal ≡ behind_stateless true 48 (written_words written).refusal }
 {
-    match written {
-        Ok(size) => Err(refusal::OUTPUT_SHORT),
-        Err(r) => Err(host_answers::behind_stateless(
-            true,
-            LAST_OF_REQUEST,
-            r,
-        )),
-    }
+    host_answers::behind_stateless(true, LAST_OF_REQUEST, written)
 }
 
 // Answers a request with one packet of at most a size.

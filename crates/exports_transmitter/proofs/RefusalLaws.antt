@@ -59,9 +59,9 @@ pub start-only : (r g size n : ℕ) (ks d : List ℕ) (b : Bool) → g ≡ run_g
 unfolding is_one_of
 start-only r g size n ks d b e f = only_ending r g b start_list f (rw e (run_only size n ks d)) refl
 
-pub short-only : (r g size : ℕ) → g ≡ size_ground size → r ≡ or_else g (short true) → RefusesOnly r (19 ∷ 44 ∷ 13 ∷ 14 ∷ 52 ∷ 54 ∷ 41 ∷ [])
+pub short-only : (r size : ℕ) → r ≡ or_else (size_ground size) (short true) → RefusesOnly r (19 ∷ 44 ∷ 13 ∷ 14 ∷ 52 ∷ 54 ∷ 41 ∷ [])
 unfolding is_one_of within
-short-only r g size e f = only_ending r g true packet_list f (rw e (only-within (size_ground size) size_list packet_list (size-only size) refl)) refl
+short-only r size f = only_ending r (size_ground size) true packet_list f (only-within (size_ground size) size_list packet_list (size-only size) refl) refl
 
 module _ (code size n : ℕ) (ks d : List ℕ) (b : Bool) (w : Written) (ws ws' vs l m bs : List ℕ) (a : AnswersWith code ws ws' (or_else (written_words w).refusal (short b)) vs) where
   pub packet-only : (place : ℕ) → Writes w l m (transmit_ground size n ks d place) 0 bs → RefusesOnly code (19 ∷ 44 ∷ 13 ∷ 14 ∷ 52 ∷ 54 ∷ 41 ∷ [])

@@ -53,6 +53,7 @@ pub extern "C" fn eiderwagon_transmitter_packet(
 }
 
 // Starts the packets of a run one after another.
+#[tactic(auto, using(crate::proofs::Rules::starts))]
 #[unsafe(no_mangle)]
 pub extern "C" fn eiderwagon_transmitter_start(
     first: u64,
@@ -68,11 +69,11 @@ pub extern "C" fn eiderwagon_transmitter_start(
     ensures not_vacuous { HandedExample }
 {
     let started = turns::start(SequenceNumber(first), lengths, joined, size as usize);
-    let progress = started.progress;
-    host_transmitter::write(state, started.refusal.number as u32, progress)
+    host_transmitter::write(state, u32::from(started.refusal.number), started.progress)
 }
 
 // Writes the next packet.
+#[tactic(auto, using(crate::proofs::Rules::nexts))]
 #[unsafe(no_mangle)]
 pub extern "C" fn eiderwagon_transmitter_next(
     session: &[u8],
@@ -91,7 +92,10 @@ pub extern "C" fn eiderwagon_transmitter_next(
 {
     // the size alone needs no state
     if state.len() < host_transmitter::SIZE {
-        return host_answers::or_short(size::ground(size as usize), true).number as u32;
+        return match size::check(size as usize) {
+            Ok(()) => host_answers::SHORT,
+            Err(refused) => u32::from(refused.number),
+        };
     }
     let unnamed = session.len() != SESSION_SIZE;
     let from = host_answers::lent_from(unnamed | (words.len() < WRITTEN_WORDS), out.len());
@@ -104,8 +108,6 @@ pub extern "C" fn eiderwagon_transmitter_next(
         joined,
         size as usize,
     );
-    let written = turn.written;
-    let progress = turn.progress;
-    let code = host_answers::answer_written(words, unnamed, written);
-    host_transmitter::write(state, code, progress)
+    let code = host_answers::answer_written(words, unnamed, turn.written);
+    host_transmitter::write(state, code, turn.progress)
 }

@@ -1,10 +1,10 @@
 -- What a receiver that keeps early messages answers a host: words of its answer by the table, then those of its request;
 -- and where a message lies.
-use Rattle.std.specs.Prelude.{ℕ, ◌≤◌, List, [], ◌∷◌, ◌++◌, length}
+use Rattle.std.specs.Prelude.{ℕ, ◌≤◌, List, [], ◌∷◌, ◌++◌, length, Option}
 use Rattle.wire.specs.Words.{Words, Injective}
 use Rattle.receiver.specs.Table.{AnswerKind}
 use Rattle.early_receiver.specs.declared.early.Answer.{Answer}
-use Rattle.early_receiver.specs.declared.early.Request.{Request}
+use Rattle.early_receiver.specs.declared.early.Ask.{Ask}
 use Rattle.early_receiver.specs.Answers.{early_words, request_words}
 use Rattle.early_messages.specs.declared.message.Part.{Part}
 use Rattle.host_answers.specs.Answers.{flag, padded, words_of}
@@ -30,5 +30,5 @@ part_words p = flag p.exists ∷ flag p.held ∷ p.offset.0 ∷ p.length ∷ []
 -- ---- what is promised: the words tell all requests apart, and have room for each value
 
 pub record EarlyWordsApart : Type 0 where
-  pub requests : Injective (λ (x : Request). ask_words (request_words x))
+  pub requests : Injective (λ (x : Option Ask). ask_words (request_words x))
   pub values_fit : (x : Answer) → length (early_words x).values ≤ 3

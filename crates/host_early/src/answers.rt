@@ -1,12 +1,13 @@
 // What a receiver that keeps early messages answers, in words: by the table, and beside it a request.
 #![tactic(auto, using(crate::proofs::Rules::words))]
+
 ghost use Rattle.std.specs.Prelude.{◌≡◌};
 ghost use Rattle.early_receiver.specs.Answers.{early_words, request_words};
+ghost use Rattle.host_answers.specs.Answers.{said_refusal, said_values};
 ghost use Rattle.host_early.specs.Replies.{row_words, ask_words, part_words, EarlyWordsApart};
 
 use early_messages::message::Part;
-use early_receiver::early::{Answer, Request};
-use wire::refusal;
+use early_receiver::early::{Answer, Ask};
 use wire::refusal::Refusal;
 
 // What a receiver answers, by number.
@@ -30,15 +31,11 @@ pub const ANSWER_WORDS: usize = ROW_WORDS + REQUEST_WORDS;
 // Those of a message's part.
 const PART_WORDS: usize = 4;
 
-// An answer as a host gets it: its refusal, or its words.
-#[derive(Clone, Copy)]
-pub struct SaidAnswer {
-    pub refusal: Refusal,
-    pub words: [u64; ROW_WORDS],
-}
-
-pub fn answer_words(answer: Answer) -> SaidAnswer
-    ensures number_value { (result.refusal.number ≡ (early_words answer).refusal) × (result.words ≡ row_words (early_words answer)) }
+// An answer as a host gets it: its words, or its refusal.
+#[tactic(auto, using(crate::proofs::Rules::words), unfolding(early_receiver::specs::Answers::early_words, host_answers::specs::Answers::said_refusal, host_answers::specs::Answers::said_values, host_answers::specs::Answers::words_at, host_answers::specs::Answers::padded, host_receiver::specs::Replies::answer_number))]
+pub fn answer_words(answer: Answer) -> Result<[u64; ROW_WORDS], Refusal>
+    ensures number_value { (said_refusal result ≡ (early_words answer).refusal)
+        × (said_values 4 result ≡ row_words (early_words answer)) }
     ensures apart { EarlyWordsApart }
 {
     match answer {
@@ -46,40 +43,23 @@ pub fn answer_words(answer: Answer) -> SaidAnswer
             first,
             count,
             skipped,
-        } => SaidAnswer {
-            refusal: refusal::NONE,
-            words: [DELIVER, first.0, count.0 as u64, skipped.0 as u64],
-        },
-        Answer::Old => SaidAnswer {
-            refusal: refusal::NONE,
-            words: [OLD, 0, 0, 0],
-        },
-        Answer::Quiet => SaidAnswer {
-            refusal: refusal::NONE,
-            words: [QUIET, 0, 0, 0],
-        },
-        Answer::Ahead => SaidAnswer {
-            refusal: refusal::NONE,
-            words: [AHEAD, 0, 0, 0],
-        },
-        Answer::Ended => SaidAnswer {
-            refusal: refusal::NONE,
-            words: [ENDED, 0, 0, 0],
-        },
-        Answer::Refused(r) => SaidAnswer {
-            refusal: r,
-            words: [0; ROW_WORDS],
-        },
+        } => Ok([DELIVER, first.0, u64::from(count.0), u64::from(skipped.0)]),
+        Answer::Old => Ok([OLD, 0, 0, 0]),
+        Answer::Quiet => Ok([QUIET, 0, 0, 0]),
+        Answer::Ahead => Ok([AHEAD, 0, 0, 0]),
+        Answer::Ended => Ok([ENDED, 0, 0, 0]),
+        Answer::Refused(r) => Err(r),
     }
 }
 
 // The words of a request: whether there is one, the first number wanted, and how many.
-pub fn request_words(request: Request) -> [u64; REQUEST_WORDS]
+#[tactic(auto, unfolding(early_receiver::specs::Answers::request_words, crate::specs::Replies::ask_words, host_answers::specs::Answers::padded))]
+pub fn request_words(request: Option<Ask>) -> [u64; REQUEST_WORDS]
     ensures { result ≡ ask_words (request_words request) }
 {
     match request {
-        Request::Nothing => [0; REQUEST_WORDS],
-        Request::Ask { from, count } => [1, from.0, count.0 as u64],
+        None => [0; REQUEST_WORDS],
+        Some(ask) => [1, ask.from.0, u64::from(ask.count.0)],
     }
 }
 

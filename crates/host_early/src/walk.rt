@@ -1,5 +1,6 @@
 // A walk over what a datagram will deliver, as a host keeps it.
 #![tactic(auto, using(crate::proofs::Rules::walks))]
+
 ghost use Rattle.std.specs.Prelude.{◌≡◌, ◌≤◌, length, ltb};
 ghost use Rattle.moldudp64_messages.specs.Cursor.{cursor};
 ghost use Rattle.early_messages.specs.Walk.{walk};

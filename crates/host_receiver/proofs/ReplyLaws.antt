@@ -1,6 +1,5 @@
 -- The words of answers.
 use Prim.Native.Nat.{ℕ, ◌<◌}
-use mathlib.Core.List.{List}
 use mathlib.Core.Path.{◌≡◌, refl}
 use native.Mathlib.Omega.{arith}
 use lib.ListN.{length}
@@ -10,15 +9,7 @@ use Rattle.wire.proofs.Words.{read_back}
 use Rattle.receiver.specs.declared.receiver.Answer.{Answer}
 use Rattle.receiver.specs.declared.receiver.Answer.TheVariants as reply
 use Rattle.receiver.specs.Table.{AnswerKind, deliver, old, quiet, ask, ended, answer_words}
-use Rattle.host_answers.specs.Answers.{words_of}
 use Rattle.host_receiver.specs.Replies.{answer_number, AnswerNumbersApart}
-
--- an answer of a known case y
-pub answer-refusal : {x y : Answer} {g : ℕ} → x ≡ y → g ≡ (answer_words y).refusal → g ≡ (answer_words x).refusal
-answer-refusal e h = rw e h
-
-pub answer-words : {x y : Answer} {ws : List ℕ} → x ≡ y → ws ≡ words_of answer_number 4 (answer_words y) → ws ≡ words_of answer_number 4 (answer_words x)
-answer-words e h = rw e h
 
 -- the numbers tell answers apart: each is read back
 unfoldable reply-of : ℕ → AnswerKind

@@ -3,8 +3,5 @@ use borrow.Author.Rules.{rules}
 use mathlib.Core.Path.{refl}
 use Rattle.host_answers.proofs.AnswerLaws.{has_room}
 use Rattle.host_receiver.proofs.ReceiverLaws.{receiver-short, receiver-read, name-within, receiver-lays, receiver-not, receiver-laid, receiver-promises}
-use Rattle.host_receiver.proofs.ReplyLaws.{answer-refusal, answer-words}
 
 pub ruleset receivers = (receiver-short, receiver-read, name-within, receiver-lays, receiver-not, receiver-laid, has_room, receiver-promises, refl, rules)
-
-pub ruleset words = (answer-refusal, answer-words, refl, rules)

@@ -9,6 +9,8 @@ use Rattle.wire.specs.Output.{put}
 use Rattle.wire.proofs.Cases.{zero_or_not}
 use Rattle.wire.proofs.Outputs.{length-put}
 use Rattle.wire.proofs.Words.{refusal-of}
+use Rattle.std.specs.Prelude.{Result}
+use Rattle.wire.specs.declared.refusal.Refusal.{Refusal}
 use Rattle.moldudp64.specs.declared.downstream.Downstream.{Downstream}
 use Rattle.moldudp64.specs.Downstream.{refusal_of, downstream_of, downstream_words}
 use Rattle.receiver.specs.declared.receiver.Receiver.{Receiver}
@@ -29,7 +31,7 @@ pub not_taken : (d l : List ℕ) (r : ℕ) → (r ≡ 0 → ⊥) → KeepsReceiv
 not_taken d l r z = receiver-not (receiver_after (receiver_in l) d) l r (after-ten (receiver_in l) d (receiver-ten l)) z
 
 -- the reader read the datagram as p, and the receiver in the bytes took that
-module _ (d l : List ℕ) (p : Downstream) (e : downstream_words p ≡ downstream_of d) (x : Receiver) (is : x ≡ receiver_in l) (t : Taken) where
+module _ (d l : List ℕ) (p : Result Downstream Refusal) (e : downstream_words p ≡ downstream_of d) (x : Receiver) (is : x ≡ receiver_in l) (t : Taken) where
   pub taken-answer : answer_words t.answer ≡ answer_read x d (downstream_words p) → answer_words t.answer ≡ answer_of (receiver_in l) d
   taken-answer g = rw (← is) (g ∙ rw e (read-as-whole.answers x d))
 

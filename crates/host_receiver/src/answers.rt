@@ -1,11 +1,10 @@
 // What a receiver answers, in words.
 ghost use Rattle.std.specs.Prelude.{◌≡◌};
 ghost use Rattle.receiver.specs.Table.{answer_words};
-ghost use Rattle.host_answers.specs.Answers.{words_of};
+ghost use Rattle.host_answers.specs.Answers.{said_refusal, said_values, words_of};
 ghost use Rattle.host_receiver.specs.Replies.{answer_number};
 
 use receiver::receiver::Answer;
-use wire::refusal;
 use wire::refusal::Refusal;
 
 // What a receiver answers, by number.
@@ -22,45 +21,22 @@ const ENDED: u64 = 5;
 // The words of an answer: which it is, and its three values.
 const ANSWER_WORDS: usize = 4;
 
-// An answer as a host gets it: its refusal, or its words.
-#[derive(Clone, Copy)]
-pub struct SaidAnswer {
-    pub refusal: Refusal,
-    pub words: [u64; ANSWER_WORDS],
-}
-
-pub fn answer_words(answer: Answer) -> SaidAnswer
-    ensures { (result.refusal.number ≡ (answer_words answer).refusal)
-        × (result.words ≡ words_of answer_number 4 (answer_words answer)) }
+// An answer as a host gets it: its words, or its refusal.
+#[tactic(auto, unfolding(receiver::specs::Table::answer_words, host_answers::specs::Answers::said_refusal, host_answers::specs::Answers::said_values, host_answers::specs::Answers::words_at, host_answers::specs::Answers::padded, crate::specs::Replies::answer_number))]
+pub fn answer_words(answer: Answer) -> Result<[u64; ANSWER_WORDS], Refusal>
+    ensures { (said_refusal result ≡ (answer_words answer).refusal)
+        × (said_values 4 result ≡ words_of answer_number 4 (answer_words answer)) }
 {
     match answer {
         Answer::Deliver {
             first,
             count,
             skipped,
-        } => SaidAnswer {
-            refusal: refusal::NONE,
-            words: [DELIVER, first.0, count.0 as u64, skipped.0 as u64],
-        },
-        Answer::Old => SaidAnswer {
-            refusal: refusal::NONE,
-            words: [OLD, 0, 0, 0],
-        },
-        Answer::Quiet => SaidAnswer {
-            refusal: refusal::NONE,
-            words: [QUIET, 0, 0, 0],
-        },
-        Answer::Ask { from, count } => SaidAnswer {
-            refusal: refusal::NONE,
-            words: [ASK, from.0, count.0 as u64, 0],
-        },
-        Answer::Ended => SaidAnswer {
-            refusal: refusal::NONE,
-            words: [ENDED, 0, 0, 0],
-        },
-        Answer::Refused(r) => SaidAnswer {
-            refusal: r,
-            words: [0; ANSWER_WORDS],
-        },
+        } => Ok([DELIVER, first.0, u64::from(count.0), u64::from(skipped.0)]),
+        Answer::Old => Ok([OLD, 0, 0, 0]),
+        Answer::Quiet => Ok([QUIET, 0, 0, 0]),
+        Answer::Ask { from, count } => Ok([ASK, from.0, u64::from(count.0), 0]),
+        Answer::Ended => Ok([ENDED, 0, 0, 0]),
+        Answer::Refused(r) => Err(r),
     }
 }

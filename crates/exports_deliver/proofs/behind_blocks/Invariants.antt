@@ -1,0 +1,7 @@
+-- What is still to pass makes the whole.
+use Prim.Native.Nat.{◌-◌}
+use Rattle.exports_deliver.proofs.LayLaws.{Passing}
+use Rattle.exports_deliver.proofs.behind_blocks.Given as goal
+
+abbrev pub invariant-loop : goal.invariant-loop
+invariant-loop l = Passing l.datagram l.fn.blocks l.at (l.fn.blocks - l.counter)
