@@ -22,8 +22,7 @@ use Rattle.host_answers.proofs.OnlyLaws.{only_none, only-sized, only_ending, ans
 use Rattle.host_states.specs.States.{on_code}
 use Rattle.host_states.proofs.StateLaws.{keeps-step, keeps-more}
 use Rattle.host_session.specs.Session.{session_state_size}
-use Rattle.host_session.specs.Replies.{session_answer_number, sized, step_words, SessionNumbersApart}
-use Rattle.host_session.proofs.ReplyLaws.{answers_apart}
+use Rattle.host_session.specs.Replies.{session_answer_number, sized, step_words}
 use Rattle.host_answers.proofs.LadderLaws.{short-once}
 use Rattle.host_session.proofs.StepLaws.{took-nothing, step-ladder, ladder-only}
 use Rattle.host_session.proofs.HandsLaws.{hands_on}
@@ -62,13 +61,10 @@ start-refusal : (name : List ℕ) (n : ℕ) → RefusesOnly (client_start_refusa
 start-refusal name n =
     start-by (client_start_refusal name n) n _ (client-name-bad name n _ refl) (number-large name n _ refl) (client-start-0 name n _ refl)
 
-start-only : (r : ℕ) (s : List ℕ) (n : ℕ) (l m : List ℕ) → StartsClient r s n l m → RefusesOnly r start_grounds
+pub start-only : (r : ℕ) (s : List ℕ) (n : ℕ) (l m : List ℕ) → StartsClient r s n l m → RefusesOnly r start_grounds
 start-only r s n l m t =
     only_ending r _ _ start_grounds t.returns
     (only-sized (length s) session_size bad_setting _ start_grounds has-19 (start-refusal (first_bytes session_size s) n)) has-41
-
-pub start-promised : {r : ℕ} {s : List ℕ} {n : ℕ} {l m : List ℕ} → StartsClient r s n l m → StartsClient r s n l m × RefusesOnly r start_grounds
-start-promised {r} {s} {n} {l} {m} t = (t, start-only r s n l m t)
 
 -- ---- a step
 
@@ -97,16 +93,12 @@ module _ (d l ws ws' : List ℕ) (x : Client) (k : Stepped) (code h g : ℕ) (vs
       let same : r ≡ code = short-once _ _ code r (ltb (length l) session_state_size) _ answers.returns e in
       record { answers = rw same answers; keeps = rw (← a, ← s.size, ← s.leaves) (keeps-step r k.size n q) }
 
-step-only : (r : ℕ) (l m d ws ws' : List ℕ) → StepsAtClient r l m d ws ws' → RefusesOnly r step_grounds
+pub step-only : (r : ℕ) (l m d ws ws' : List ℕ) → StepsAtClient r l m d ws ws' → RefusesOnly r step_grounds
 unfolding is_one_of
 step-only r l m d ws ws' t = answers-only r _ ws ws' _ step_grounds t.answers (ladder-only (client-steps (client_in l) d) (ltb (length l) session_state_size) refl) refl
 
-client-hands-on : ClientHandsOn
+pub client-hands-on : ClientHandsOn
 unfolding ClientHandsOn
 client-hands-on =
     hands_on client_in client_bytes client_step StepsAtClient (λ d. (front_of Server d).refusal) step_grounds client-steps
     (λ r l m d ws ws' t. record { answers = t.answers; keeps = t.keeps })
-
-pub step-promised : {r : ℕ} {l m d ws ws' : List ℕ} → StepsAtClient r l m d ws ws'
-    → StepsAtClient r l m d ws ws' × (RefusesOnly r step_grounds × (ClientHandsOn × SessionNumbersApart))
-step-promised {r} {l} {m} {d} {ws} {ws'} t = (t, (step-only r l m d ws ws' t, (client-hands-on, answers_apart)))

@@ -20,14 +20,13 @@ pub extern "C" fn eiderwagon_client_start(session: &[u8], number: u64, state: &m
     ensures refuses { RefusesOnly result (19 ∷ 41 ∷ []) }
 {
     let started = Client::new(parts::first(session), SequenceNumber(number));
-    let client = started.client;
     let refused = host_answers::unless_sized(
         session.len(),
         SESSION_SIZE,
         refusal::BAD_SETTING,
         started.refusal,
     );
-    host_client::write(state, refused.number as u32, client)
+    host_client::write(state, u32::from(refused.number), started.client)
 }
 
 // Takes the packet at the front of a server's stream.
@@ -40,18 +39,14 @@ pub extern "C" fn eiderwagon_client_step(state: &mut [u8], stream: &[u8], words:
     ensures tells_apart { SessionNumbersApart }
 {
     let stepped = host_client::read(state).step(stream);
-    let answer = stepped.answer;
-    let after = stepped.client;
-    let said = replies::answer_words(answer, stepped.size);
-    let refused = host_answers::behind_stateless(
+    let said = host_answers::behind_stateless(
         state.len() < host_client::SIZE,
         LAST_OF_STREAM,
-        said.refusal,
+        replies::answer_words(stepped.answer, stepped.size),
     );
-    let values = said.words;
-    let code = host_answers::answer(words, refused, &values);
+    let code = host_answers::answer(words, said);
     if stepped.size == 0 {
         return code;
     }
-    host_client::write(state, code, after)
+    host_client::write(state, code, stepped.client)
 }

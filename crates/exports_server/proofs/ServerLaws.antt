@@ -25,8 +25,7 @@ use Rattle.host_answers.proofs.OnlyLaws.{only_if, only_none, only-sized, only-st
 use Rattle.host_states.specs.States.{on_code, name_in}
 use Rattle.host_states.proofs.StateLaws.{keeps-not, keeps-step, keeps-more}
 use Rattle.host_session.specs.Session.{session_state_size}
-use Rattle.host_session.specs.Replies.{session_answer_number, sized, step_words, SessionNumbersApart}
-use Rattle.host_session.proofs.ReplyLaws.{answers_apart}
+use Rattle.host_session.specs.Replies.{session_answer_number, sized, step_words}
 use Rattle.host_answers.proofs.LadderLaws.{short-once}
 use Rattle.host_session.proofs.StepLaws.{took-nothing, step-ladder, ladder-only}
 use Rattle.host_session.proofs.HandsLaws.{hands_on}
@@ -65,13 +64,10 @@ start-refusal : (name : List ℕ) (last : ℕ) → RefusesOnly (server_start_ref
 start-refusal name last =
     start-by (server_start_refusal name last) last _ (server-name-bad name last _ refl) (last-large name last _ refl) (server-start-0 name last _ refl)
 
-start-only : (r : ℕ) (s : List ℕ) (last : ℕ) (l m : List ℕ) → StartsServer r s last l m → RefusesOnly r start_grounds
+pub start-only : (r : ℕ) (s : List ℕ) (last : ℕ) (l m : List ℕ) → StartsServer r s last l m → RefusesOnly r start_grounds
 start-only r s last l m t =
     only_ending r _ _ start_grounds t.returns
     (only-sized (length s) session_size bad_setting _ start_grounds start-19 (start-refusal (first_bytes session_size s) last)) start-41
-
-pub start-promised : {r : ℕ} {s : List ℕ} {last : ℕ} {l m : List ℕ} → StartsServer r s last l m → StartsServer r s last l m × RefusesOnly r start_grounds
-start-promised {r} {s} {last} {l} {m} t = (t, start-only r s last l m t)
 
 -- ---- the last number
 
@@ -95,12 +91,9 @@ unfolding last_refusal
 last-refusal s last =
     only_if (ltb last s.last.0) 19 _ last_grounds last-19 (only_if (ltb largest_last last) 19 0 last_grounds last-19 (only_none last_grounds))
 
-last-only : (r last : ℕ) (l m : List ℕ) → MovesLast r last l m → RefusesOnly r last_grounds
+pub last-only : (r last : ℕ) (l m : List ℕ) → MovesLast r last l m → RefusesOnly r last_grounds
 last-only r last l m t =
     rw t.returns (only-state (too_large last) _ _ last_grounds (only_if (ltb largest_last last) 19 0 last_grounds last-19 (only_none last_grounds)) (last-refusal (server_in l) last) last-41)
-
-pub last-promised : {r last : ℕ} {l m : List ℕ} → MovesLast r last l m → MovesLast r last l m × RefusesOnly r last_grounds
-last-promised {r} {last} {l} {m} t = (t, last-only r last l m t)
 
 -- its name stays
 last-session : (s : Server) (last : ℕ) → (with_last s last).session ≡ s.session
@@ -189,18 +182,14 @@ has-41 : RefusesOnly 41 step_grounds
 unfolding is_one_of
 has-41 = refl
 
-step-only : (r : ℕ) (l m : List ℕ) (t : List Account) (d ws ws' : List ℕ) → StepsAtServer r l m t d ws ws' → RefusesOnly r step_grounds
+pub step-only : (r : ℕ) (l m : List ℕ) (t : List Account) (d ws ws' : List ℕ) → StepsAtServer r l m t d ws ws' → RefusesOnly r step_grounds
 step-only r l m t d ws ws' q =
     answers-only r _ ws ws' _ step_grounds q.answers
     (ladder-only (server-steps step_grounds has-steps (server_in l) d t) (ltb (length l) session_state_size) has-41) has-41
 
-server-hands-on : ServerHandsOn
+pub server-hands-on : ServerHandsOn
 unfolding ServerHandsOn
 server-hands-on t =
     hands_on server_in server_bytes (server_step t) (λ r l m d ws ws'. StepsAtServer r l m t d ws ws') (server_stateless t) step_grounds
     (λ s d. server-steps step_grounds has-steps s d t)
     (λ r l m d ws ws' q. record { answers = q.answers; keeps = q.keeps })
-
-pub step-promised : {r : ℕ} {l m : List ℕ} {t : List Account} {d ws ws' : List ℕ} → StepsAtServer r l m t d ws ws'
-    → StepsAtServer r l m t d ws ws' × (RefusesOnly r step_grounds × (ServerHandsOn × SessionNumbersApart))
-step-promised {r} {l} {m} {t} {d} {ws} {ws'} q = (q, (step-only r l m t d ws ws' q, (server-hands-on, answers_apart)))

@@ -21,14 +21,13 @@ pub extern "C" fn eiderwagon_server_start(session: &[u8], last: u64, state: &mut
     ensures refuses { RefusesOnly result (19 ∷ 41 ∷ []) }
 {
     let started = Server::new(parts::first(session), SequenceNumber(last));
-    let server = started.server;
     let refused = host_answers::unless_sized(
         session.len(),
         SESSION_SIZE,
         refusal::BAD_SETTING,
         started.refusal,
     );
-    host_server::write(state, refused.number as u32, server)
+    host_server::write(state, u32::from(refused.number), started.server)
 }
 
 // Moves the last number, as messages are added.
@@ -38,14 +37,13 @@ pub extern "C" fn eiderwagon_server_set_last(state: &mut [u8], last: u64) -> u32
     ensures refuses { RefusesOnly result (19 ∷ 41 ∷ []) }
 {
     if Server::LARGEST_LAST.0 < last {
-        return refusal::BAD_SETTING.number as u32;
+        return u32::from(refusal::BAD_SETTING.number);
     }
     if state.len() < host_server::SIZE {
         return host_answers::SHORT;
     }
     let moved = host_server::read(state).with_last(SequenceNumber(last));
-    let server = moved.server;
-    host_server::write(state, moved.refusal.number as u32, server)
+    host_server::write(state, u32::from(moved.refusal.number), moved.server)
 }
 
 // Takes the packet at the front of a client's stream.
@@ -63,18 +61,14 @@ pub extern "C" fn eiderwagon_server_step(
     ensures tells_apart { SessionNumbersApart }
 {
     let stepped = host_server::read(state).step(accounts, stream);
-    let answer = stepped.answer;
-    let after = stepped.server;
-    let said = replies::answer_words(answer, stepped.size);
-    let refused = host_answers::behind_stateless(
+    let said = host_answers::behind_stateless(
         state.len() < host_server::SIZE,
         LAST_OF_STREAM,
-        said.refusal,
+        replies::answer_words(stepped.answer, stepped.size),
     );
-    let values = said.words;
-    let code = host_answers::answer(words, refused, &values);
+    let code = host_answers::answer(words, said);
     if stepped.size == 0 {
         return code;
     }
-    host_server::keep(state, code, after)
+    host_server::keep(state, code, stepped.server)
 }
