@@ -9,9 +9,10 @@ use lib.Seq.{take_all, drop-length}
 use lib.Dec.{ltb, eqb}
 use borrow.Author.Tests.{ne_eqb, lt-ltb, le-ltb, ltb-true}
 use borrow.Rule.Slice.PartMut.{mid_of, put_mid}
-use Rattle.std.specs.Prelude.{if◌then◌else◌}
+use Rattle.std.specs.Prelude.{if◌then◌else◌, Result, Ok, Err, IfErr}
+use Rattle.wire.specs.declared.refusal.Refusal.{Refusal}
 use Rattle.wire.specs.Refusals.{output_short}
-use Rattle.wire.specs.Words.{answer}
+use Rattle.wire.specs.Words.{refused_words}
 use Rattle.wire.specs.Output.{put, write_output}
 use Rattle.wire.proofs.Cases.{below_or_not, zero_or_not}
 use Rattle.wire.proofs.Numbers.{part_to_end}
@@ -22,10 +23,10 @@ use Rattle.soupbintcp_server.specs.declared.server.Server.{Server}
 use Rattle.soupbintcp_server.specs.Server.{server_step}
 use Rattle.soupbintcp_server.proofs.ServerCases.{keeps}
 use Rattle.soupbintcp_reply.specs.declared.Replied.{Replied}
-use Rattle.soupbintcp_reply.specs.Reply.{reply_ground, reply_of, reply_refusal, reply_written, reply_output, Replies}
-use Rattle.soupbintcp_reply.proofs.ReplyLaws.{outcome-written, outcome-refused}
-use Rattle.host_answers.specs.Answers.{or_else, short, state_ladder, behind_stateless, lent_from, is_one_of, RefusesOnly, on_success, words_of, AnswersWith}
-use Rattle.host_answers.proofs.AnswerLaws.{or-first, or-next, or-short-no, success, no-success}
+use Rattle.soupbintcp_reply.specs.Reply.{reply_at, reply_ground, reply_of, reply_refusal, reply_written, reply_output, Replies}
+use Rattle.soupbintcp_reply.proofs.ReplyLaws.{outcome-written, outcome-refused, size-written, size-refused}
+use Rattle.host_answers.specs.Answers.{or_else, short, state_ladder, behind_stateless, lent_from, is_one_of, RefusesOnly, on_success, words_of, padded, said_refusal, said_values, AnswersWith}
+use Rattle.host_answers.proofs.AnswerLaws.{any-values, or-first, or-next, or-short-no, success, no-success}
 use Rattle.host_answers.proofs.OnlyLaws.{answers-only}
 use Rattle.host_states.specs.States.{on_code, on_step}
 use Rattle.host_states.proofs.StateLaws.{keeps-not, keeps-step, keeps-more}
@@ -37,7 +38,7 @@ use Rattle.host_session.proofs.HandsLaws.{length-words}
 use Rattle.host_server.specs.Server.{server_bytes, server_in, server_stateless, KeepsServer}
 use Rattle.host_server.proofs.ServerLaws.{length-server, server-ten, server-short}
 use Rattle.host_server.proofs.StepLaws.{HasSteps, server-steps, server-ground, closed-stays}
-use Rattle.exports_reply.specs.Calls.{replied, replied_words, RepliesAtServer, RefusedReplyChangesNothing}
+use Rattle.exports_reply.specs.Calls.{with_written, replied, replied_words, RepliesAtServer, RefusedReplyChangesNothing}
 use Rattle.exports_reply.proofs.ReplyLaws.{reply-steps, output-stays, short-same}
 
 abbrev pub reply_grounds : List ℕ
@@ -98,6 +99,45 @@ length-replied l t d o =
       length-append (words_of session_answer_number 5 (step_words (replied l t d o))) (reply_written (server_in l) (server_step t (server_in l) d) o ∷ []),
       length-words session_answer_number 5 (replied l t d o).reply.which ((replied l t d o).size ∷ (replied l t d o).reply.values),
     )
+
+abbrev six : List ℕ → ℕ → List ℕ
+six w v = get_or w 0 0 ∷ get_or w 1 0 ∷ get_or w 2 0 ∷ get_or w 3 0 ∷ get_or w 4 0 ∷ v ∷ []
+
+same-refusal : (b : Result (List ℕ) Refusal) (n : ℕ) → said_refusal (with_written b n) ≡ said_refusal b
+unfolding said_refusal with_written
+same-refusal (Ok ws) n = refl
+same-refusal (Err r) n = refl
+
+-- nothing is written behind a refusal
+same-values : (a : Result (List ℕ) Refusal) (n : ℕ) → ((r : Refusal) → a ≡ Err r → n ≡ 0) → said_values 6 (with_written a n) ≡ six (said_values 5 a) n
+unfolding said_values with_written padded
+same-values (Ok ws) n z = refl
+same-values (Err r) n z = rw (z r refl) refl
+
+-- a is what the step said, b what is left of it but for 41
+pub written-behind : (code n : ℕ) (ws ws' : List ℕ) (a b : Result (List ℕ) Refusal) → (said_refusal b ≡ 0 → b ≡ a) → ((r : Refusal) → a ≡ Err r → n ≡ 0)
+    → AnswersWith code ws ws' (said_refusal (with_written b n)) (said_values 6 (with_written b n))
+    → AnswersWith code ws ws' (said_refusal b) (six (said_values 5 a) n)
+written-behind code n ws ws' a b k z h =
+    let q : AnswersWith code ws ws' (said_refusal b) (said_values 6 (with_written b n)) = rw same-refusal at h in
+    zero_or_not _ (said_refusal b)
+    (λ y. let e : b ≡ a = k y in
+    let same : said_values 6 (with_written b n) ≡ six (said_values 5 a) n = ap (λ (c : Result (List ℕ) Refusal). said_values 6 (with_written c n)) e ∙ same-values a n z in
+    rw same at q)
+    (λ y. any-values code (said_refusal b) ws ws' (said_values 6 (with_written b n)) (six (said_values 5 a) n) y q)
+
+pub told-so : (P : Refusal → Type 0) (a : Result (List ℕ) Refusal) → IfErr a P → (r : Refusal) → a ≡ Err r → P r
+told-so P a h r e = rw e at h
+
+-- and a refused answer has no reply
+pub none-written : (k : Replied) (s : Server) (st : StepOutcome Server) (o m : List ℕ) (r : Refusal) → Replies k s st o m
+    → session_answer_words k.answer ≡ refused_words r → k.written ≡ 0
+unfolding reply_at
+none-written k s st o m r p e =
+    zero_or_not _ (reply_refusal s st o)
+    (λ y. let same : st.reply ≡ refused_words r = ap (λ (x : StepOutcome Server). x.reply) (sym (outcome-written s st o y)) ∙ sym p.answers ∙ e in
+    p.written ∙ size-written s st o y ∙ rw same refl)
+    (λ y. p.written ∙ size-refused s st o y)
 
 -- ---- the step at the server in the bytes l
 
@@ -296,7 +336,7 @@ module _ (l : List ℕ) (t : List Account) (d o o₁ ws ws' : List ℕ) (x : Ser
 
 -- ---- the refusals
 
-reply-only : (r : ℕ) (l m : List ℕ) (t : List Account) (d o o' ws ws' : List ℕ) → RepliesAtServer r l m t d o o' ws ws' → RefusesOnly r reply_grounds
+pub reply-only : (r : ℕ) (l m : List ℕ) (t : List Account) (d o o' ws ws' : List ℕ) → RepliesAtServer r l m t d o o' ws ws' → RefusesOnly r reply_grounds
 reply-only r l m t d o o' ws ws' q =
     answers-only r _ ws ws' _ reply_grounds q.answers (ladder-only (replied-steps l t d o) (ltb (length l) session_state_size) has-41) has-41
 
@@ -312,7 +352,3 @@ refused-reply r l m t d o o' ws ws' q z =
       output = q.output ∙ sym (no-success r _ o z);
       words = q.answers.words ∙ sym (no-success r _ ws z);
     }
-
-pub reply-promised : {r : ℕ} {l m : List ℕ} {t : List Account} {d o o' ws ws' : List ℕ} {P : Type 0} → P → RepliesAtServer r l m t d o o' ws ws'
-    → RepliesAtServer r l m t d o o' ws ws' × (RefusesOnly r reply_grounds × (RefusedReplyChangesNothing × P))
-reply-promised {r} {l} {m} {t} {d} {o} {o'} {ws} {ws'} p q = (q, (reply-only r l m t d o o' ws ws' q, (refused-reply, p)))

@@ -1,6 +1,7 @@
 -- What the exported step that writes its reply promises: the lent bytes l become m, the lent words ws become ws', and
 -- the lent output o becomes o'.
-use Rattle.std.specs.Prelude.{ℕ, List, [], ◌∷◌, ◌++◌, ◌≡◌, length, ltb}
+use Rattle.std.specs.Prelude.{ℕ, List, [], ◌∷◌, ◌++◌, ◌≡◌, length, get_or, ltb, Result, Ok, Err}
+use Rattle.wire.specs.declared.refusal.Refusal.{Refusal}
 use Rattle.login.specs.declared.account.Account.{Account}
 use Rattle.soupbintcp_session.specs.Answer.{StepOutcome}
 use Rattle.soupbintcp_server.specs.declared.server.Server.{Server}
@@ -39,3 +40,10 @@ pub record Unchanged (l m o o' ws ws' : List ℕ) : Type 0 where
 unfoldable pub RefusedReplyChangesNothing : Type 0
 RefusedReplyChangesNothing = (r : ℕ) (l m : List ℕ) (t : List Account) (d o o' ws ws' : List ℕ)
     → RepliesAtServer r l m t d o o' ws ws' → (r ≡ 0 → ⊥) → Unchanged l m o o' ws ws'
+
+-- ---- for private helpers alone; no public promise uses it
+
+-- the words of a step, and behind them how many bytes were written
+unfoldable pub with_written : Result (List ℕ) Refusal → ℕ → Result (List ℕ) Refusal
+with_written (Ok ws) n = Ok (get_or ws 0 0 ∷ get_or ws 1 0 ∷ get_or ws 2 0 ∷ get_or ws 3 0 ∷ get_or ws 4 0 ∷ n ∷ [])
+with_written (Err r) n = Err r

@@ -1,5 +1,6 @@
 // What a step of either end answers, in words.
-ghost use Rattle.std.specs.Prelude.{◌≡◌};
+ghost use Rattle.std.specs.Prelude.{◌≡◌, IfErr};
+ghost use Rattle.wire.specs.Words.{refused_words};
 ghost use Rattle.soupbintcp_session.specs.Answer.{session_answer_words};
 ghost use Rattle.host_answers.specs.Answers.{said_refusal, said_values, words_of};
 ghost use Rattle.host_session.specs.Replies.{session_answer_number, sized, SessionNumbersApart};
@@ -34,6 +35,7 @@ pub const ANSWER_WORDS: usize = 5;
 pub fn answer_words(answer: Answer, size: usize) -> Result<[u64; ANSWER_WORDS], Refusal>
     ensures number_value { (said_refusal result ≡ (session_answer_words answer).refusal)
         × (said_values 5 result ≡ words_of session_answer_number 5 (sized size (session_answer_words answer))) }
+    ensures told { IfErr result (λ r. session_answer_words answer ≡ refused_words r) }
     ensures tells_apart { SessionNumbersApart }
 {
     let taken = size as u64;
