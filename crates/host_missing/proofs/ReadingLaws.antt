@@ -8,6 +8,7 @@ use native.Mathlib.Nat.{min-eq_left}
 use lib.ListN.{length, get_or, take, drop, length-append}
 use lib.Dec.{eqb}
 use borrow.Author.Tests.{ne_eqb, le-ltb, lt-ltb}
+use mir.Val.{bool_byte}
 use Rattle.wire.specs.Bounds.{session_size}
 use Rattle.wire.specs.Output.{put}
 use Rattle.wire.specs.Parts.{first_bytes}
@@ -144,6 +145,10 @@ module _ (t n c : ℕ) (b : Bool) where
       let f₁ = put-behind l l₀ l₁ (little_bytes 8 t) (little_bytes 8 n) 12 20 (omega (arith, length-little 8 t)) (omega (arith, length-little 8 n)) e₀ e₁ in
       let f₂ = put-behind l l₁ l₂ _ (little_bytes 8 c) 12 28 (omega (arith, length-2)) (omega (arith, length-little 8 c)) f₁ e₂ in
       put-behind l l₂ l₃ _ (flag b ∷ []) 12 36 (omega (arith, length-3)) (omega arith) f₂ (rw g at e₃)
+
+pub byte-flag : (b : Bool) (f : ℕ) → f ≡ bool_byte b → f ≡ flag b
+byte-flag true f e = e
+byte-flag false f e = e
 
 missing-length : (x : Reading) → length x.notes.session ≡ session_size → length (missing_bytes x) ≡ missing_size
 unfolding missing_bytes

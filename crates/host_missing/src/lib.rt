@@ -3,7 +3,6 @@
 
 ghost use Rattle.std.specs.Prelude.{◌≡◌, ◌∷◌, ◌≤◌, min, length, ltb};
 ghost use Rattle.wire.specs.Output.{put};
-ghost use Rattle.capture_records.specs.Records.{most_records};
 ghost use Rattle.missing_ranges.specs.Notes.{missing};
 ghost use Rattle.host_answers.specs.Answers.{or_else, short, flag};
 ghost use Rattle.host_states.specs.States.{StatePromises, on_code};
@@ -12,7 +11,7 @@ ghost use Rattle.host_missing.specs.Reading.{missing_bytes, refused_reading, rea
 ghost use Rattle.host_missing.specs.Reading.{reading_of, LaysMissing};
 
 use capture_events::place::Place;
-use capture_records::records::MOST_RECORDS;
+use capture_records::records;
 use host_states::{CODE_AT, CODE_SIZE, MISSING, PHASE_SIZE, little};
 use missing_capture::reading::Reading;
 use missing_ranges::ranges::Missing;
@@ -58,14 +57,15 @@ fn place_of(opened: bool, stage: u8, left: u32) -> Place
 {
     if opened {
         if stage == RECORDS {
-            return Place::Records { left };
+            Place::Records { left }
+        } else {
+            Place::Settings
         }
-        return Place::Settings;
+    } else if stage == DONE {
+        Place::Done
+    } else {
+        Place::Refused
     }
-    if stage == DONE {
-        return Place::Done;
-    }
-    Place::Refused
 }
 
 fn stage_byte(place: Place) -> u8
@@ -73,7 +73,7 @@ fn stage_byte(place: Place) -> u8
 {
     match place {
         Place::Settings => SETTINGS,
-        Place::Records { left: _ } => RECORDS,
+        Place::Records { .. } => RECORDS,
         Place::Done => DONE,
         Place::Refused => REFUSED,
     }
@@ -84,32 +84,18 @@ fn left_of(place: Place) -> u32
     ensures { result ≡ left_of place }
 {
     match place {
-        Place::Settings => 0,
         Place::Records { left } => left,
-        Place::Done => 0,
-        Place::Refused => 0,
+        _ => 0,
     }
-}
-
-// More records than are read count as the most.
-fn records_of(number: u64) -> u32
-    ensures { result ≡ min number most_records }
-{
-    if (MOST_RECORDS as u64) < number {
-        return MOST_RECORDS;
-    }
-    number as u32
 }
 
 // Too few bytes: settings refused, and nothing noted.
 fn refused() -> Reading
     ensures { result ≡ refused_reading }
 {
-    let fresh = Reading::new();
-    let notes = fresh.notes;
     Reading {
         place: Place::Refused,
-        notes,
+        ..Reading::new()
     }
 }
 
@@ -121,7 +107,7 @@ pub fn read(state: &[u8]) -> Reading
         return refused();
     }
     let session_at = SESSION_AT.0;
-    let left = records_of(little::get64(state, LEFT_AT));
+    let left = records::at_most(little::get64(state, LEFT_AT));
     Reading {
         place: place_of(
             host_states::is_open(state, MISSING),
@@ -148,41 +134,26 @@ fn put_head(state: &mut [u8], first: u8, stage: u8, session: [u8; SESSION_SIZE])
     output::lay(state, SESSION_AT, &session);
 }
 
-// Whether ranges are refused, as a byte.
-fn refused_byte(refused: bool) -> u8
-    ensures { result ≡ flag refused }
-{
-    if refused { 1 } else { 0 }
-}
-
 // Lays the numbers behind them.
-fn put_ranges(state: &mut [u8], left: u32, refused: bool, closed: usize, highest: u64)
+fn put_ranges(state: &mut [u8], left: u32, missing: Missing)
     requires { missing_size ≤ length state.old }
-    ensures { state.new ≡ put state.old highest_at
-        (range_bytes left (missing refused closed highest)) }
+    ensures { state.new ≡ put state.old highest_at (range_bytes left missing) }
 {
-    little::put64(state, HIGHEST_AT, highest);
-    little::put64(state, LEFT_AT, left as u64);
-    little::put64(state, CLOSED_AT, closed as u64);
-    output::lay(state, REFUSED_AT, &[refused_byte(refused)]);
+    little::put64(state, HIGHEST_AT, missing.highest.0);
+    little::put64(state, LEFT_AT, u64::from(left));
+    little::put64(state, CLOSED_AT, missing.closed as u64);
+    output::lay(state, REFUSED_AT, &[u8::from(missing.refused)]);
 }
 
 // Lays all fields of a reading where there is room for them.
-fn put_fields(
-    state: &mut [u8],
-    place: Place,
-    session: [u8; SESSION_SIZE],
-    refused: bool,
-    closed: usize,
-    highest: u64,
-)
+fn put_fields(state: &mut [u8], reading: Reading)
     requires { missing_size ≤ length state.old }
-    ensures { LaysMissing state.old state.new
-        (reading_of place session (missing refused closed highest)) }
+    ensures { LaysMissing state.old state.new reading }
 {
+    let Reading { place, notes } = reading;
     let first = host_states::open_byte(MISSING, !place.is_over());
-    put_head(state, first, stage_byte(place), session);
-    put_ranges(state, left_of(place), refused, closed, highest);
+    put_head(state, first, stage_byte(place), notes.session);
+    put_ranges(state, left_of(place), notes.missing);
 }
 
 // Lays a reading, where the code is 0 and there is room: else the code, or 41.
@@ -192,20 +163,8 @@ pub fn write(state: &mut [u8], code: u32, reading: Reading) -> u32
     ensures promises { StatePromises KeepsMissing missing_size missing_bytes }
 {
     let kept = host_states::with_room(code, state.len(), SIZE);
-    if kept != 0 {
-        return kept;
+    if kept == 0 {
+        put_fields(state, reading);
     }
-    let place = reading.place;
-    let notes = reading.notes;
-    let session = notes.session;
-    let missing = notes.missing;
-    put_fields(
-        state,
-        place,
-        session,
-        missing.refused,
-        missing.closed,
-        missing.highest.0,
-    );
     kept
 }
