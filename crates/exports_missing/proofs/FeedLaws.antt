@@ -82,6 +82,21 @@ on-refusal : (code : ℕ) (f : Fed) → (code ≡ 0 → ⊥) → on_feed code f 
 unfolding on_feed
 on-refusal code f z = rw (ne_eqb code 0 z) refl
 
+-- whether it moves, as the code has it
+or-true : (b : Bool) → b || true ≡ true
+or-true true = refl
+or-true false = refl
+
+module _ (n : ℕ) (o : Bool) where
+  pub moved-used : (n ≡ 0 → ⊥) → not (eqb n 0) || o ≡ true
+  moved-used z = rw (ne_eqb n 0 z) refl
+
+  pub moved-over : o ≡ true → not (eqb n 0) || o ≡ true
+  moved-over e = rw e (or-true (not (eqb n 0)))
+
+  pub not-moved : n ≡ 0 → o ≡ false → not (eqb n 0) || o ≡ false
+  not-moved e f = rw (eq-eqb n 0 e, f) refl
+
 -- ---- a refusal changes nothing
 
 module _ (l es d : List ℕ) where

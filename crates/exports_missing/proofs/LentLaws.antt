@@ -6,6 +6,10 @@ use native.Mathlib.Omega.{arith}
 use lib.ListN.{length}
 use lib.Dec.{ltb, eqb}
 use borrow.Author.Tests.{lt-ltb, le-ltb, eq-eqb, ne_eqb}
+use Rattle.std.specs.Prelude.{Result, Ok, Err, ⊤}
+use Rattle.wire.specs.declared.refusal.Refusal.{Refusal}
+use Rattle.wire.specs.Words.{refused_by}
+use Rattle.wire.proofs.Refusing.{refuses-by, passes, no-ground, its-ground, a-ground}
 use Rattle.wire.proofs.Cases.{below_or_not}
 use Rattle.missing_ranges.specs.Notes.{room}
 use Rattle.host_answers.specs.Answers.{short, is_one_of, RefusesOnly}
@@ -15,17 +19,44 @@ use Rattle.host_missing.specs.Reading.{missing_size}
 use Rattle.exports_missing.specs.Calls.{edges_refusal, edges_ladder}
 
 module _ (l es : List ℕ) (k : ℕ) where
-  pub lent-short : k ≡ 41 → length l < missing_size → k ≡ edges_ladder l es
+  lent-short : k ≡ 41 → length l < missing_size → k ≡ edges_ladder l es
   unfolding short
   lent-short e h = e ∙ rw (lt-ltb (length l) missing_size h) (or-first 41 _ (λ z. omega arith))
 
-  pub lent-edges : k ≡ 19 → missing_size ≤ length l → (length es ≡ room → ⊥) → k ≡ edges_ladder l es
+  lent-edges : k ≡ 19 → missing_size ≤ length l → (length es ≡ room → ⊥) → k ≡ edges_ladder l es
   unfolding short edges_refusal
   lent-edges e h z = e ∙ rw (le-ltb (length l) missing_size h, ne_eqb (length es) room z) (or-next 0 19 refl)
 
   pub lent-good : k ≡ 0 → missing_size ≤ length l → length es ≡ room → k ≡ edges_ladder l es
   unfolding short edges_refusal
   lent-good e h z = e ∙ rw (le-ltb (length l) missing_size h, eq-eqb (length es) room z) (or-next 0 0 refl)
+
+-- as the check has them
+module _ (l es : List ℕ) where
+  pub check-short : length l < missing_size → Err (record { number = 41 }) ≡ refused_by (edges_ladder l es)
+  check-short h = refuses-by _ _ (lent-short l es 41 refl h) refl
+
+  pub check-edges : missing_size ≤ length l → (length es ≡ room → ⊥) → Err (record { number = 19 }) ≡ refused_by (edges_ladder l es)
+  check-edges h z = refuses-by _ _ (lent-edges l es 19 refl h z) refl
+
+  pub check-good : missing_size ≤ length l → length es ≡ room → Ok tt ≡ refused_by (edges_ladder l es)
+  check-good h z = passes _ (sym (lent-good l es 0 refl h z))
+
+-- what its answer tells: s is what it answered, and k the code of its refusal
+module _ (l es : List ℕ) (s : Result ⊤ Refusal) (e : s ≡ refused_by (edges_ladder l es)) where
+  module _ (r : Refusal) (f : s ≡ Err r) (k : ℕ) (n : k ≡ r.number) where
+    pub refused-ground : k ≡ edges_ladder l es
+    refused-ground = n ∙ its-ground _ r (sym f ∙ e)
+
+    pub refused-not : k ≡ 0 → ⊥
+    refused-not z = a-ground _ r (sym f ∙ e) (sym refused-ground ∙ z)
+
+  pub passed : ((r : Refusal) → s ≡ Err r → ⊥) → edges_ladder l es ≡ 0
+  passed z = go s refl
+    where
+      go : (t : Result ⊤ Refusal) → s ≡ t → edges_ladder l es ≡ 0
+      go (Ok u) f = no-ground _ u (sym f ∙ e)
+      go (Err r) f = absurd (z r f)
 
 -- where nothing is refused the state is long enough
 pub lent-room : (l es : List ℕ) → edges_ladder l es ≡ 0 → missing_size ≤ length l

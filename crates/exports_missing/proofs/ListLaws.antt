@@ -8,7 +8,7 @@ use lib.ListN.{length, drop, length-drop, drop_of_length-le}
 use lib.Dec.{ltb, leb, eqb}
 use borrow.Rule.Slice.PartMut.{mid_of, put_mid}
 use borrow.Author.Tests.{lt-ltb, le-ltb, ne_eqb}
-use Rattle.std.specs.Prelude.{if◌then◌else◌}
+use Rattle.std.specs.Prelude.{if◌then◌else◌, Option, is_some}
 use Rattle.wire.specs.Output.{written_words, write_refusal, Writes}
 use Rattle.wire.specs.Output.{Written}
 use Rattle.wire.proofs.Numbers.{part_to_end}
@@ -18,7 +18,7 @@ use Rattle.missing_ranges.specs.declared.ranges.Missing.{Missing}
 use Rattle.missing_ranges.specs.declared.listing.Listed.{Listed}
 use Rattle.missing_ranges.specs.Edges.{Range, total_from}
 use Rattle.missing_ranges.specs.Notes.{missing, lent, is_usable, ranges_in, total_in}
-use Rattle.missing_ranges.specs.Listing.{IsRange}
+use Rattle.missing_ranges.specs.Listing.{IsRange, first_of, last_of}
 use Rattle.missing_text.specs.Text.{room, room_ground}
 use Rattle.missing_capture.specs.declared.reading.Reading.{Reading}
 use Rattle.missing_capture.specs.Reading.{lent_reading, text_of}
@@ -95,11 +95,16 @@ module _ (l es ws ws' : List ℕ) (g : ℕ) (s : Missing) (r : ℕ) (e : g ≡ e
       let q₁ : t ≡ total_from 0 (ranges_of (lent_reading (reading_in l) es)) = q ∙ ap (total_from 0) ranges-are in
       rw (e, o, p₁, q₁) at a
 
-  pub lists-so : (place : ℕ) (y : Listed) (f : ℕ) → IsRange y (lent s es) place → f ≡ flag y.exists → AnswersWith r ws ws' g (f ∷ y.from.0 ∷ y.to.0 ∷ [])
-      → ListsRange r l es place ws ws'
-  lists-so place y f is v a =
-      let o : f ≡ flag (ltb place (length (ranges_in (lent s es)))) = v ∙ ap flag is.there in
-      rw ranges-are at (rw (e, o, is.first, is.last) at a)
+  pub lists-so : (place : ℕ) (y : Option Listed) (vs : List ℕ) → IsRange y (lent s es) place
+      → vs ≡ flag (is_some y) ∷ first_of y ∷ last_of y ∷ [] → AnswersWith r ws ws' g vs → ListsRange r l es place ws ws'
+  lists-so place y vs is v a =
+      let o : flag (is_some y) ≡ flag (ltb place (length (ranges_in (lent s es)))) = ap flag is.there in
+      rw ranges-are at (rw (e, v, o, is.first, is.last) at a)
+
+-- a refusal by what is lent
+pub answered-none : (l es ws vs : List ℕ) (g : ℕ) → (g ≡ 0 → ⊥) → g ≡ edges_ladder l es → AnswersWith g ws ws (edges_ladder l es) vs
+answered-none l es ws vs g z e =
+    record { returns = rw (← e) (or-first g _ z); words = no-success g _ ws z }
 
 pub answered-only : (l es ws ws' vs : List ℕ) (g r : ℕ) → g ≡ edges_ladder l es → AnswersWith r ws ws' g vs → RefusesOnly r (19 ∷ 41 ∷ [])
 unfolding is_one_of

@@ -1,9 +1,11 @@
 // What is missing from a capture, for hosts in other languages. `include/eiderwagon.h` says what each function takes
 // and answers.
-#![tactic(auto, using(crate::proofs::Rules::finishes, crate::proofs::Rules::lending, crate::proofs::Rules::listing, crate::proofs::Rules::lists, crate::proofs::Rules::starts, crate::proofs::Rules::texts))]
+#![tactic(auto, using(crate::proofs::Rules::lending, crate::proofs::Rules::listing))]
 
-ghost use Rattle.std.specs.Prelude.{◌≡◌, [], ◌∷◌, ◌≤◌, length};
-ghost use Rattle.host_answers.specs.Answers.{RefusesOnly};
+ghost use Rattle.std.specs.Prelude.{◌≡◌, [], ◌∷◌, ◌≤◌, length, is_some};
+ghost use Rattle.wire.specs.Words.{refused_by};
+ghost use Rattle.missing_ranges.specs.Listing.{first_of, last_of};
+ghost use Rattle.host_answers.specs.Answers.{flag, RefusesOnly};
 ghost use Rattle.host_missing.specs.Reading.{reading_in};
 ghost use Rattle.exports_missing.specs.Calls.{edges_ladder, StartsMissing, FeedsMissing, FinishesMissing};
 ghost use Rattle.exports_missing.specs.Calls.{is_opened, CountsMissing, ListsRange, WritesMissing, MissingHandsOn};
@@ -12,6 +14,7 @@ ghost use Rattle.exports_missing.specs.Calls.{listed_of};
 use capture_events::place::Place;
 use host_answers::{SHORT, WRITTEN_WORDS};
 use missing_capture::reading::Reading;
+use missing_ranges::listing::Listed;
 use missing_ranges::ranges::{Missing, ROOM};
 use wire::kinds::SequenceNumber;
 use wire::refusal;
@@ -21,16 +24,16 @@ use wire::refusal::Refusal;
 const FED_WORDS: usize = 2;
 
 // The refusal of a state that is too short, and then that of edges that aren't as many words as they are to be.
-fn lent_refusal(state: &[u8], edges: &[u64]) -> Refusal
-    ensures { result.number ≡ edges_ladder state.now edges.now }
+fn check(state: &[u8], edges: &[u64]) -> Result<(), Refusal>
+    ensures { result ≡ refused_by (edges_ladder state.now edges.now) }
 {
     if state.len() < host_missing::SIZE {
-        return refusal::OUTPUT_SHORT;
+        return Err(refusal::OUTPUT_SHORT);
     }
     if edges.len() != ROOM {
-        return refusal::BAD_SETTING;
+        return Err(refusal::BAD_SETTING);
     }
-    refusal::NONE
+    Ok(())
 }
 
 // Starts the reading of a capture in pieces.
@@ -56,9 +59,8 @@ pub extern "C" fn eiderwagon_missing_feed(
     ensures refuses { RefusesOnly result (19 ∷ 41 ∷ []) }
     ensures hands_on { MissingHandsOn }
 {
-    let refused = lent_refusal(state, edges);
-    if refused.number != 0 {
-        return refused.number as u32;
+    if let Err(refused) = check(state, edges) {
+        return u32::from(refused.number);
     }
     if words.len() < FED_WORDS {
         return SHORT;
@@ -76,12 +78,11 @@ fn feed(state: &mut [u8], edges: &mut [u64], bytes: &[u8], words: &mut [u64]) ->
 {
     let start = host_missing::read(state);
     let fed = start.feed(edges, bytes);
-    let reading = fed.reading;
-    let over = reading.is_over();
+    let over = fed.reading.is_over();
     let values = [fed.used as u64, host_answers::flag(over)];
-    let code = host_answers::answer(words, refusal::NONE, &values);
-    if (fed.used != 0) | over {
-        return host_missing::write(state, code, reading);
+    let code = host_answers::answer(words, Ok(values));
+    if fed.used != 0 || over {
+        return host_missing::write(state, code, fed.reading);
     }
     code
 }
@@ -97,9 +98,8 @@ pub extern "C" fn eiderwagon_missing_finish(
         edges.new bytes.now }
     ensures refuses { RefusesOnly result (19 ∷ 41 ∷ []) }
 {
-    let refused = lent_refusal(state, edges);
-    if refused.number != 0 {
-        return refused.number as u32;
+    if let Err(refused) = check(state, edges) {
+        return u32::from(refused.number);
     }
     let start = host_missing::read(state);
     let finished = start.finish(edges, bytes);
@@ -110,12 +110,7 @@ pub extern "C" fn eiderwagon_missing_finish(
 fn is_opened(place: Place) -> bool
     ensures { result ≡ is_opened place }
 {
-    match place {
-        Place::Settings => false,
-        Place::Records { left: _ } => true,
-        Place::Done => true,
-        Place::Refused => false,
-    }
+    matches!(place, Place::Records { .. } | Place::Done)
 }
 
 // The ranges that are listed: refused ones while no settings were read.
@@ -123,10 +118,8 @@ fn listed(state: &[u8]) -> Missing
     ensures { result ≡ listed_of (reading_in state.now) }
 {
     let reading = host_missing::read(state);
-    let place = reading.place;
-    let notes = reading.notes;
-    if is_opened(place) {
-        return notes.missing;
+    if is_opened(reading.place) {
+        return reading.notes.missing;
     }
     Missing {
         refused: true,
@@ -142,11 +135,24 @@ pub extern "C" fn eiderwagon_missing_count(state: &[u8], edges: &[u64], words: &
         words.new }
     ensures refuses { RefusesOnly result (19 ∷ 41 ∷ []) }
 {
+    if let Err(refused) = check(state, edges) {
+        return u32::from(refused.number);
+    }
     let missing = listed(state);
     let listing = host_answers::flag(missing.is_usable(edges));
     let count = missing.count(edges);
     let values = [listing, count as u64, missing.total(edges)];
-    host_answers::answer(words, lent_refusal(state, edges), &values)
+    host_answers::answer(words, Ok(values))
+}
+
+// Whether a range is there, and its numbers: 0 and 0 where it isn't.
+fn range_values(found: Option<Listed>) -> [u64; 3]
+    ensures { result ≡ flag (is_some found) ∷ first_of found ∷ last_of found ∷ [] }
+{
+    match found {
+        Some(range) => [1, range.from.0, range.to.0],
+        None => [0, 0, 0],
+    }
 }
 
 // The range at a place.
@@ -161,10 +167,11 @@ pub extern "C" fn eiderwagon_missing_range(
         words.new }
     ensures refuses { RefusesOnly result (19 ∷ 41 ∷ []) }
 {
-    let missing = listed(state);
-    let found = missing.range(edges, place as usize);
-    let values = [host_answers::flag(found.exists), found.from.0, found.to.0];
-    host_answers::answer(words, lent_refusal(state, edges), &values)
+    if let Err(refused) = check(state, edges) {
+        return u32::from(refused.number);
+    }
+    let found = listed(state).range(edges, place as usize);
+    host_answers::answer(words, Ok(range_values(found)))
 }
 
 // Writes what is missing so far, into an output with room for any text.
@@ -179,9 +186,8 @@ pub extern "C" fn eiderwagon_missing_write(
         words.old words.new }
     ensures refuses { RefusesOnly result (19 ∷ 41 ∷ []) }
 {
-    let refused = lent_refusal(state, edges);
-    if refused.number != 0 {
-        return refused.number as u32;
+    if let Err(refused) = check(state, edges) {
+        return u32::from(refused.number);
     }
     if words.len() < WRITTEN_WORDS {
         return SHORT;
