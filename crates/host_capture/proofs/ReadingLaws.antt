@@ -10,8 +10,7 @@ use lib.Seq.{drop-drop, take_at, length-take-le}
 use borrow.Rule.Slice.PartMut.{mid_of, put_mid}
 use borrow.Author.Tests.{eq-eqb, ne_eqb, le-ltb, lt-ltb}
 use Rattle.wire.specs.Bounds.{session_size}
-use Rattle.wire.specs.Output.{put, Writes}
-use Rattle.wire.specs.Output.{Written}
+use Rattle.wire.specs.Output.{put}
 use Rattle.wire.proofs.Numbers.{part_to_end}
 use Rattle.wire.proofs.Outputs.{length-put, put-room}
 use Rattle.capture_records.specs.Records.{most_records}
@@ -59,22 +58,6 @@ module _ (s : Stage) where
   pub byte-refused : s ≡ Refused → 0 ≡ stage_byte s
   unfolding stage_byte
   byte-refused e = rw e
-
-  pub open-settings : s ≡ Settings → true ≡ not (is_over s)
-  unfolding is_over
-  open-settings e = rw e
-
-  pub open-records : s ≡ Records → true ≡ not (is_over s)
-  unfolding is_over
-  open-records e = rw e
-
-  pub over_done : s ≡ Done → false ≡ not (is_over s)
-  unfolding is_over
-  over_done e = rw e
-
-  pub over-refused : s ≡ Refused → false ≡ not (is_over s)
-  unfolding is_over
-  over-refused e = rw e
 
 module _ (o : Bool) (b : ℕ) where
   pub stage-records : o ≡ true → b ≡ 2 → Records ≡ stage_of o b
@@ -364,9 +347,6 @@ pub reading-promises : StatePromises KeepsReading reading_size reading_bytes
 reading-promises = state-promises reading_size kept_reading_in reading_bytes
 
 -- ---- a fresh one, as `write_fresh` has it
-
-pub lengths-put : (l m bs : List ℕ) (x : Written) → Writes x l m 0 31 bs → m ≡ put l 31 bs
-lengths-put l m bs x w = w.leaves
 
 length_none : length no_lengths ≡ 128
 length_none = length-replicate {A = ℕ} 128 0

@@ -2,29 +2,21 @@
 // keeps early messages: its lengths are lent from there.
 #![tactic(auto, using(crate::proofs::Rules::readings, crate::proofs::Rules::stages))]
 
-ghost use Rattle.std.specs.Prelude.{◌≡◌, ◌≤◌, min, [], ◌∷◌, not, length, ltb};
+ghost use Rattle.std.specs.Prelude.{◌≡◌, ◌≤◌, [], ◌∷◌, length, ltb};
 ghost use Rattle.wire.specs.Output.{put};
-ghost use Rattle.early_holding.specs.Holding.{early};
-ghost use Rattle.capture_records.specs.Records.{most_records};
-ghost use Rattle.capture_tally.specs.Tally.{tally};
-ghost use Rattle.capture_tally.specs.Report.{report};
-ghost use Rattle.capture.specs.Reading.{reading, is_over};
 ghost use Rattle.host_answers.specs.Answers.{or_else, short};
-ghost use Rattle.host_states.specs.Little.{little_bytes};
 ghost use Rattle.host_states.specs.States.{StatePromises, on_code};
 ghost use Rattle.host_early.specs.Early.{head_bytes, no_lengths};
-ghost use Rattle.host_capture.specs.Reading.{tally_size, receiver_at, reading_lengths_at, reading_size, records_at};
+ghost use Rattle.host_capture.specs.Reading.{receiver_at, reading_lengths_at, reading_size, records_at};
 ghost use Rattle.host_capture.specs.Reading.{stage_of, stage_byte, count_bytes, tally_in, refused_reading};
 ghost use Rattle.host_capture.specs.Reading.{kept_reading, reading_bytes, reading_in, KeepsReading, LaysReading};
 
 use capture::reading::{Reading, Stage};
-use capture_records::records::MOST_RECORDS;
+use capture_records::records;
 use capture_tally::report::Report;
 use capture_tally::tally::Tally;
 use early_holding::holding::{EarlyReceiver, LENGTH_BYTES};
-use early_word::Held;
 use host_states::{CODE_AT, CODE_SIZE, PHASE_SIZE, READING, little};
-use receiver::receiver::Receiver;
 use wire::kinds::ByteOffset;
 use wire::{output, parts};
 
@@ -74,14 +66,15 @@ fn stage_of(opened: bool, stage: u8) -> Stage
 {
     if opened {
         if stage == RECORDS {
-            return Stage::Records;
+            Stage::Records
+        } else {
+            Stage::Settings
         }
-        return Stage::Settings;
+    } else if stage == DONE {
+        Stage::Done
+    } else {
+        Stage::Refused
     }
-    if stage == DONE {
-        return Stage::Done;
-    }
-    Stage::Refused
 }
 
 fn stage_byte(stage: Stage) -> u8
@@ -95,36 +88,13 @@ fn stage_byte(stage: Stage) -> u8
     }
 }
 
-fn is_open(stage: Stage) -> bool
-    ensures { result ≡ not (is_over stage) }
-{
-    match stage {
-        Stage::Settings => true,
-        Stage::Records => true,
-        Stage::Done => false,
-        Stage::Refused => false,
-    }
-}
-
-// More records than are read count as the most.
-fn records_of(number: u64) -> u32
-    ensures { result ≡ min number most_records }
-{
-    if (MOST_RECORDS as u64) < number {
-        return MOST_RECORDS;
-    }
-    number as u32
-}
-
 // Too few bytes: settings refused, and nothing read.
 fn refused() -> Reading
     ensures { result ≡ refused_reading }
 {
-    let fresh = Reading::new();
-    let report = fresh.report;
     Reading {
         stage: Stage::Refused,
-        report,
+        ..Reading::new()
     }
 }
 
@@ -156,39 +126,23 @@ pub fn read(state: &[u8]) -> Reading
         ),
         report: Report {
             receiver: host_early::read(&state[receiver_at..]),
-            records: records_of(little::get64(state, RECORDS_AT)),
+            records: records::at_most(little::get64(state, RECORDS_AT)),
             tally: read_tally(state),
         },
     }
 }
 
-// Lays a count at a place, where there is room for it.
-fn put_count(state: &mut [u8], at: ByteOffset, count: u64)
-    ensures { state.new ≡ put state.old at.0 (little_bytes tally_size count) }
-{
-    little::put64(state, at, count);
-}
-
 // Lays the records and the five counts, where there is room for them.
-fn put_counts(
-    state: &mut [u8],
-    records: u64,
-    delivered: u64,
-    old: u64,
-    quiet: u64,
-    asked: u64,
-    refused: u64,
-)
+fn put_counts(state: &mut [u8], records: u64, tally: Tally)
     requires { reading_size ≤ length state.old }
-    ensures { state.new ≡ put state.old records_at
-        (count_bytes records (tally delivered old quiet asked refused)) }
+    ensures { state.new ≡ put state.old records_at (count_bytes records tally) }
 {
-    put_count(state, RECORDS_AT, records);
-    put_count(state, DELIVERED_AT, delivered);
-    put_count(state, OLD_AT, old);
-    put_count(state, QUIET_AT, quiet);
-    put_count(state, ASKED_AT, asked);
-    put_count(state, REFUSED_AT, refused);
+    little::put64(state, RECORDS_AT, records);
+    little::put64(state, DELIVERED_AT, tally.delivered);
+    little::put64(state, OLD_AT, tally.old);
+    little::put64(state, QUIET_AT, tally.quiet);
+    little::put64(state, ASKED_AT, tally.asked);
+    little::put64(state, REFUSED_AT, tally.refused);
 }
 
 // Lays the code and the stage, where there is room for a reading.
@@ -208,35 +162,6 @@ fn put_receiver(state: &mut [u8], receiver: EarlyReceiver)
     host_early::write(&mut state[at..], receiver);
 }
 
-// Lays all fields of a reading but the lengths, where there is room for all.
-fn put_fields(
-    state: &mut [u8],
-    stage: Stage,
-    base: Receiver,
-    held: u64,
-    records: u32,
-    delivered: u64,
-    old: u64,
-    quiet: u64,
-    asked: u64,
-    refused: u64,
-)
-    requires { reading_size ≤ length state.old }
-    ensures { LaysReading state.old state.new
-        (reading stage (report (early base held) records (tally delivered old quiet asked refused))) }
-{
-    let first = host_states::open_byte(READING, is_open(stage));
-    put_head(state, first, stage_byte(stage));
-    put_receiver(
-        state,
-        EarlyReceiver {
-            base,
-            held: Held(held),
-        },
-    );
-    put_counts(state, records as u64, delivered, old, quiet, asked, refused);
-}
-
 // Lays a reading whose lengths stand there already.
 pub fn write(state: &mut [u8], reading: Reading)
     ensures { LaysReading state.old state.new reading }
@@ -244,24 +169,11 @@ pub fn write(state: &mut [u8], reading: Reading)
     if state.len() < SIZE {
         return;
     }
-    let stage = reading.stage;
-    let report = reading.report;
-    let receiver = report.receiver;
-    let base = receiver.base;
-    let held = receiver.held;
-    let tally = report.tally;
-    put_fields(
-        state,
-        stage,
-        base,
-        held.0,
-        report.records,
-        tally.delivered,
-        tally.old,
-        tally.quiet,
-        tally.asked,
-        tally.refused,
-    );
+    let Reading { stage, report } = reading;
+    let first = host_states::open_byte(READING, !reading.is_over());
+    put_head(state, first, stage_byte(stage));
+    put_receiver(state, report.receiver);
+    put_counts(state, u64::from(report.records), report.tally);
 }
 
 // Lays lengths of zero, where there is room for a reading.
@@ -281,10 +193,9 @@ pub fn write_fresh(state: &mut [u8], code: u32, reading: Reading) -> u32
     ensures promises { StatePromises KeepsReading reading_size reading_bytes }
 {
     let kept = host_states::with_room(code, state.len(), SIZE);
-    if kept != 0 {
-        return kept;
+    if kept == 0 {
+        clear_lengths(state);
+        write(state, reading);
     }
-    clear_lengths(state);
-    write(state, reading);
     kept
 }
