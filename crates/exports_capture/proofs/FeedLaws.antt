@@ -1,5 +1,5 @@
 -- A feed and a finish: what they answer and keep, and that a feed which uses no byte, and isn't over, changes nothing.
-use Prim.Native.Nat.{ℕ, ◌+◌, ◌-◌, ◌≤◌, ◌<◌}
+use Prim.Native.Nat.{ℕ, ◌+◌, ◌≤◌, ◌<◌}
 use mathlib.Core.List.{List, [], ◌∷◌, append_assoc}
 use mathlib.Core.Bool.{Bool, true, false, not, ◌||◌}
 use mathlib.Core.Path.{◌≡◌, refl, ap, ap₂, sym, ◌∙◌}
@@ -62,6 +62,21 @@ both-none false b e = (refl, e)
 
 abbrev moves : Fed → Bool
 moves f = not (eqb f.used 0) || is_over f.reading.stage
+
+-- whether it moves, as the code has it
+or-true : (b : Bool) → b || true ≡ true
+or-true true = refl
+or-true false = refl
+
+module _ (n : ℕ) (o : Bool) where
+  pub moved-used : (n ≡ 0 → ⊥) → not (eqb n 0) || o ≡ true
+  moved-used z = rw (ne_eqb n 0 z) refl
+
+  pub moved-over : o ≡ true → not (eqb n 0) || o ≡ true
+  moved-over e = rw e (or-true (not (eqb n 0)))
+
+  pub not-moved : n ≡ 0 → o ≡ false → not (eqb n 0) || o ≡ false
+  not-moved e f = rw (eq-eqb n 0 e, f) refl
 
 pub feed-stays : (x : LentReading) (l : List ℕ) → moves (feed_of x l).fed ≡ false → fed_reading (feed_of x l) ≡ x
 unfolding feed_of fold

@@ -2,13 +2,13 @@
 use borrow.Author.Rules.{rules}
 use Rattle.host_answers.proofs.WritingLaws.{lent-within, writing-plain}
 use Rattle.exports_capture.proofs.CaptureLaws.{short-only, starts-only, text-only, state-only, slots-only, none_only, starts-reading, text-short, text-reported}
-use Rattle.exports_capture.proofs.FeedLaws.{feeds-short, feeds-slots, feeds-words, finishes-short, finishes-slots, part-sized, part-long, feed-none, feeds-laid, feeds-more, finishes-so, reading-hands-on}
+use Rattle.exports_capture.proofs.FeedLaws.{feeds-short, feeds-slots, feeds-words, finishes-short, finishes-slots, part-sized, part-long, finishes-so, reading-hands-on}
 
 pub ruleset starts = (starts-only, starts-reading, rules)
 
 pub ruleset refusals = (state-only, slots-only, none_only, feeds-short, feeds-slots, feeds-words, reading-hands-on, rules)
 
-pub ruleset feeds = (part-sized, feed-none, feeds-laid, feeds-more, rules)
+pub ruleset feeds = (part-sized, rules)
 
 pub ruleset finishes = (state-only, slots-only, none_only, finishes-short, finishes-slots, part-long, finishes-so, rules)
 

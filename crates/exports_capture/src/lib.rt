@@ -65,15 +65,12 @@ fn feed(state: &mut [u8], slots: &mut [u8], bytes: &[u8], words: &mut [u64]) -> 
     ensures none { result ≡ 0 }
 {
     let start = host_capture::read(state);
-    let from = LENGTHS_AT.0;
-    let to = LENGTHS_TO;
-    let fed = start.feed(&mut state[from..to], slots, bytes);
-    let reading = fed.reading;
-    let over = reading.is_over();
+    let fed = start.feed(&mut state[LENGTHS_AT.0..LENGTHS_TO], slots, bytes);
+    let over = fed.reading.is_over();
     let values = [fed.used as u64, host_answers::flag(over)];
-    let code = host_answers::answer(words, refusal::NONE, &values);
-    if (fed.used != 0) | over {
-        host_capture::write(state, reading);
+    let code = host_answers::answer(words, Ok(values));
+    if fed.used != 0 || over {
+        host_capture::write(state, fed.reading);
     }
     code
 }
@@ -92,9 +89,7 @@ pub extern "C" fn eiderwagon_capture_finish(state: &mut [u8], slots: &mut [u8], 
         return BAD_SLOTS;
     }
     let start = host_capture::read(state);
-    let from = LENGTHS_AT.0;
-    let to = LENGTHS_TO;
-    let finished = start.finish(&mut state[from..to], slots, bytes);
+    let finished = start.finish(&mut state[LENGTHS_AT.0..LENGTHS_TO], slots, bytes);
     host_capture::write(state, finished);
     0
 }
