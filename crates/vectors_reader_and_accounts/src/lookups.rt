@@ -38,12 +38,10 @@ pub(crate) fn used(fields: &[u8]) -> usize {
 
 // What was found says of the entry.
 fn told(rt: &impl Print, found: Found, entry: Account) {
-    if found.too_many {
-        print::text(rt, b"too-many");
-    } else if account::is_known(found.account, entry) {
-        print::text(rt, b"known");
-    } else {
-        print::text(rt, b"unknown");
+    match found {
+        Err(_) => print::text(rt, b"too-many"),
+        Ok(Some(account)) if account::is_known(account, entry) => print::text(rt, b"known"),
+        Ok(_) => print::text(rt, b"unknown"),
     }
 }
 

@@ -53,16 +53,17 @@ fn told_answer(rt: &impl Print, answer: Answer) {
 
 // Prints an answer, how many bytes it took, and the server after it.
 fn told(rt: &impl Print, stepped: Stepped) {
-    let answer = stepped.answer;
-    let after = stepped.server;
-    let name = after.session;
-    let now = after.state;
+    let Stepped {
+        answer,
+        size,
+        server,
+    } = stepped;
     told_answer(rt, answer);
-    print::number(rt, b" size=", stepped.size as u64);
+    print::number(rt, b" size=", size as u64);
     print::text(rt, b" after ");
-    print::bytes(rt, &name);
-    print::number(rt, b" ", after.last.0);
-    told_state(rt, now);
+    print::bytes(rt, &server.session);
+    print::number(rt, b" ", server.last.0);
+    told_state(rt, server.state);
 }
 
 // The server that the fields tell, in any state.
@@ -72,7 +73,7 @@ fn server(fields: &[u8]) -> Server {
     let mut letter = [0u8; 1];
     parse::bytes(fields, b's', &mut letter);
     Server {
-        session: session,
+        session,
         last: SequenceNumber(parse::number(fields, b'm')),
         state: state(letter[0]),
     }
