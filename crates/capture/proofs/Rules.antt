@@ -27,3 +27,5 @@ pub ruleset writing = (write-refused, write-report, whole-report, printed_exampl
 pub ruleset turning = (start-turning, there-length, turn-ends, turn-keeps-all, turn-goes, turn-keeps, turn-little, capture-promises, rules)
 
 pub ruleset printing = (printed-all, refl, rules)
+
+pub ruleset readings = (advancing, feeding, finishing, printing, starting, telling, writing)

@@ -1,12 +1,13 @@
 // A capture that comes in pieces. What is there is fed; the bytes that were not used are kept, and fed again in front
 // of the next piece. The receiver's lengths and slots are lent to every call, as the one before left them.
-#![tactic(auto, using(crate::proofs::Rules::advancing, crate::proofs::Rules::feeding, crate::proofs::Rules::finishing, crate::proofs::Rules::printing, crate::proofs::Rules::starting, crate::proofs::Rules::telling, crate::proofs::Rules::writing))]
+#![tactic(auto, using(crate::proofs::Rules::readings))]
 
 ghost use Rattle.std.specs.Prelude.{◌≡◌, length};
 ghost use Rattle.wire.specs.Output.{Writes};
 ghost use Rattle.capture_events.specs.Events.{read_records, read_settings, read_on, waits_at};
 ghost use Rattle.capture_tally.specs.Report.{fresh_of, lent_report};
-ghost use Rattle.capture.specs.Reading.{fed, start_reading, lent_reading, lent_fed, started_of, room_of, at_of, is_over};
+ghost use Rattle.capture.specs.Reading.{fed, start_reading, lent_reading, lent_fed, started_of};
+ghost use Rattle.capture.specs.Reading.{room_of, at_of, is_over};
 ghost use Rattle.capture.specs.Reading.{fed_by, end_of, feed_of, finish_of, text_of, Prints};
 ghost use Rattle.capture.specs.Whole.{CapturePromises};
 

@@ -17,8 +17,8 @@ pub fn at_most(number: u64) -> u32
     u32::try_from(number).unwrap_or(MOST_RECORDS)
 }
 
-// How many bytes the record in front takes, its length with them, if all of them are there: the datagram is what follows
-// the length.
+// How many bytes the record in front takes, its length with them, if all of them are there: the datagram is what
+// follows the length.
 pub fn read(bytes: &[u8]) -> Option<usize>
     ensures result_value { record_words result ≡ record_in_front bytes.now }
     ensures promises { RecordPromises }

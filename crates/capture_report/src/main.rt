@@ -15,7 +15,8 @@ use early_holding::holding::{LENGTH_BYTES, SLOT_BYTES};
 use std::io::Read;
 
 // Turns until it is over, in a buffer that has room behind whatever is kept. A proved loop has to end, and nothing says
-// that the input does: there are more turns than any run takes.
+// that the input does: there are more turns than any run takes. The program of what is missing turns likewise, as other
+// memory is lent to its turns.
 fn read_all(input: &mut impl Read, lengths: &mut [u8], slots: &mut [u8], buf: &mut [u8]) -> Reading
     requires { most_kept < length buf.old }
     ensures { is_over result.stage ≡ true }

@@ -13,3 +13,5 @@ pub ruleset feeds = (part-sized, rules)
 pub ruleset finishes = (state-only, slots-only, none_only, finishes-short, finishes-slots, part-long, finishes-so, rules)
 
 pub ruleset texts = (lent-within, writing-plain, short-only, text-only, text-short, text-reported, rules)
+
+pub ruleset exported = (finishes, refusals, starts, texts)

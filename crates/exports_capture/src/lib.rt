@@ -1,5 +1,5 @@
 // Captures for hosts in other languages. `include/eiderwagon.h` says what each function takes and answers.
-#![tactic(auto, using(crate::proofs::Rules::finishes, crate::proofs::Rules::refusals, crate::proofs::Rules::starts, crate::proofs::Rules::texts))]
+#![tactic(auto, using(crate::proofs::Rules::exported))]
 
 ghost use Rattle.std.specs.Prelude.{◌≡◌, [], ◌∷◌, ◌≤◌, length, ltb};
 ghost use Rattle.capture.specs.Reading.{text_of};

@@ -51,7 +51,7 @@ const DONE: u8 = 3;
 const REFUSED: u8 = 0;
 
 // What is open takes records by one stage, so many at most, and settings by every other one; what isn't is done by one,
-// and else its settings are refused.
+// and else its settings are refused. A report's stage has no count, so that it has functions of its own.
 fn place_of(opened: bool, stage: u8, left: u32) -> Place
     ensures { result ≡ place_of opened stage left }
 {

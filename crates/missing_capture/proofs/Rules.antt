@@ -17,3 +17,5 @@ pub ruleset writing = (write-short, write-refused, write-ranges, rules)
 pub ruleset printing = (printed-all, rules)
 
 pub ruleset turning = (start-turning, there-length, turn-ends, turn-keeps-all, turn-goes, turn-keeps, turn-little, missing-capture-promises, rules)
+
+pub ruleset readings = (feeding, noting, printing, writing)

@@ -1,6 +1,6 @@
 // A capture that comes in pieces. What is there is fed; the bytes that were not used are kept, and fed again in front
 // of the next piece. The words of the edges are lent to every call, as the one before left them.
-#![tactic(auto, using(crate::proofs::Rules::feeding, crate::proofs::Rules::noting, crate::proofs::Rules::printing, crate::proofs::Rules::writing))]
+#![tactic(auto, using(crate::proofs::Rules::readings))]
 
 ghost use Rattle.std.specs.Prelude.{◌≡◌, drop};
 ghost use Rattle.wire.specs.Bounds.{length_size};

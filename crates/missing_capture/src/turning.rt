@@ -15,7 +15,8 @@ use capture_events::there;
 use capture_records::buffer;
 use wire::kinds::ByteOffset;
 
-// How far a capture was read, and how many bytes are kept at the buffer's front.
+// How far a capture was read, and how many bytes are kept at the buffer's front. A report's turns are likewise, with
+// other memory lent to each: a trait for both would have longer laws than the turns have lines.
 #[derive(Clone, Copy)]
 pub struct Turning {
     pub reading: Reading,

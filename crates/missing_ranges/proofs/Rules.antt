@@ -33,3 +33,5 @@ pub ruleset totals = (counting-start, counting-step, count_none, count-shut, cou
 pub ruleset counts = (list-none, list-twice, list-edges, list-more, list-last, list-part, list_open, list-shut, sum-none, sum-all, rules)
 
 pub ruleset lists = (no-range, range-twice, range-from, range-next, range-edge, range-closed, range-open, rules)
+
+pub ruleset ranging = (cuts, notes, plans, smalls, starts, usables)

@@ -1,5 +1,5 @@
 // The missing ranges, from one datagram's numbers to the next.
-#![tactic(auto, using(crate::proofs::Rules::cuts, crate::proofs::Rules::notes, crate::proofs::Rules::plans, crate::proofs::Rules::smalls, crate::proofs::Rules::starts, crate::proofs::Rules::usables))]
+#![tactic(auto, using(crate::proofs::Rules::ranging))]
 
 ghost use Rattle.std.specs.Prelude.{true, ◌≡◌, ◌+◌, ◌-◌, ◌%◌, ◌≤◌, length};
 ghost use Rattle.missing_ranges.specs.Notes.{missing, lent, is_usable, room, start_in, note_of};
@@ -12,7 +12,8 @@ use wire::kinds::SequenceNumber;
 // What is known of a session's numbers. The edges of its missing ranges stand in lent words.
 #[derive(Clone, Copy)]
 pub struct Missing {
-    // Nothing is noted: more ranges were needed than are kept or than the lent words hold, or it never started.
+    // Nothing is noted: more ranges were needed than are kept or than the lent words hold, or it never started. It is
+    // no Result: `note_of` promises what a refused state keeps beside it, and a host's bytes hold that.
     pub refused: bool,
     // The ranges that have both edges.
     pub closed: usize,

@@ -16,7 +16,8 @@ use missing_ranges::ranges::ROOM;
 use std::io::Read;
 
 // Turns until it is over, in a buffer that has room behind whatever is kept. A proved loop has to end, and nothing says
-// that the input does: there are more turns than any run takes.
+// that the input does: there are more turns than any run takes. The program of reports turns likewise, as other memory
+// is lent to its turns.
 fn read_all(input: &mut impl Read, edges: &mut [u64], buf: &mut [u8]) -> Reading
     requires { most_kept < length buf.old }
     ensures { is_over_at (at_of result.place) ≡ true }
