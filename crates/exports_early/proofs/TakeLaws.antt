@@ -14,7 +14,9 @@ use Rattle.wire.specs.Bytes.{same_bytes}
 use Rattle.wire.specs.Refusals.{bad_setting}
 use Rattle.wire.specs.Parts.{first_bytes}
 use Rattle.wire.specs.Output.{put}
-use Rattle.wire.specs.Words.{Words, Case, answer, refused}
+use Rattle.std.specs.Prelude.{⊤, Result, Ok, Err}
+use Rattle.wire.specs.Words.{Words, Case, answer, refused, refused_by}
+use Rattle.wire.proofs.Refusing.{checked, ground-of, has-ground}
 use Rattle.wire.proofs.Cases.{zero_or_not}
 use Rattle.wire.proofs.PartLaws.{name-ten}
 use Rattle.wire.proofs.Numbers.{part_to_end}
@@ -23,7 +25,7 @@ use Rattle.wire.specs.declared.refusal.Refusal.{Refusal}
 use Rattle.moldudp64.specs.declared.downstream.Downstream.{Downstream}
 use Rattle.moldudp64.specs.Header.{number_of}
 use Rattle.moldudp64.specs.Downstream.{DownstreamKind, data_packet, heartbeat, end_of_session, kind_of, messages_of, refusal_of, downstream_of, downstream_words}
-use Rattle.moldudp64.proofs.DownstreamLaws.{refusal-found}
+use Rattle.moldudp64.proofs.DownstreamLaws.{refusal-found, read_well}
 use Rattle.receiver.specs.Table.{AnswerKind, deliver, old, quiet, ask, ended}
 use Rattle.receiver.specs.Receiver.{receiver_start_refusal, name_by, refusal_for, table_row}
 use Rattle.early_holding.specs.declared.holding.EarlyReceiver.{EarlyReceiver}
@@ -39,9 +41,9 @@ use Rattle.early_receiver.specs.Settled.{Settles}
 use Rattle.early_receiver.proofs.ReadLaws.{early-read-as-whole}
 use Rattle.early_receiver.proofs.Promises.{early-promises}
 use Rattle.early_condition_3.proofs.StepLaws.{same_base}
-use Rattle.host_answers.specs.Answers.{or_else, short, on_success, unless_sized, state_ladder, is_one_of, RefusesOnly, AnswersWith}
+use Rattle.host_answers.specs.Answers.{or_else, short, on_success, unless_sized, state_ladder, is_one_of, said_refusal, said_values, RefusesOnly, AnswersWith}
 use Rattle.host_answers.proofs.OnlyLaws.{only_if, only-state, only-within, within, answers-only}
-use Rattle.host_cursor.proofs.DatagramLaws.{datagram_grounds, datagram-only}
+use Rattle.host_cursor.proofs.DatagramLaws.{datagram_grounds, datagram-only, unread-ground, unread-is}
 use Rattle.host_receiver.proofs.RefusalLaws.{take_grounds, receiver-only}
 use Rattle.host_answers.proofs.AnswerLaws.{or-first, or-next, or-none, length-padded}
 use Rattle.host_states.specs.States.{on_code}
@@ -130,9 +132,9 @@ module _ (x : Taken) (l ws ws₁ row : List ℕ) (q c : ℕ) (eq : q ≡ (early_
       }
 
   pub keep-done : (m ws₂ asked : List ℕ) (b : ℕ) → c ≡ 0 → asked ≡ ask_words (request_words x.request)
-      → AnswersWith b (mid_of 4 (length ws₁ - 4) ws₁) ws₂ 0 asked → LaysHead l m x.receiver
+      → AnswersWith b (mid_of 4 (length ws₁ - 4) ws₁) ws₂ (said_refusal (Ok asked)) (said_values 3 (Ok asked)) → LaysHead l m x.receiver
       → Answered c l m ws (put_mid 4 (length ws₁ - 4) ws₁ ws₂) x
-  unfolding on_success short
+  unfolding on_success short said_refusal said_values
   keep-done m ws₂ asked b z e w d =
       let n = length-row (early_words x.answer) in
       let k : length asked ≡ 3 = ap length e ∙ length-ask (request_words x.request) in
@@ -153,14 +155,23 @@ module _ (x : Taken) (l ws ws₁ row : List ℕ) (q c : ℕ) (eq : q ≡ (early_
 
 -- ---- the refusal before anything is taken
 
-pub refuse-so : (l ss d : List ℕ) (p : Downstream) (r : EarlyReceiver) (k x : Refusal) → downstream_words p ≡ downstream_of d → 157 ≤ length l → r ≡ early_in l
-    → k.number ≡ early_refusal_read (lent r (mid_of 29 128 l) ss) d (downstream_words p) → x.number ≡ or_else k.number (short true)
-    → x.number ≡ or_else (early_refusal (lent_in l ss) d) 41
-unfolding short
-refuse-so l ss d p r k x e h i f g =
+refuse-so : (l ss d : List ℕ) (p : Result Downstream Refusal) (r : EarlyReceiver) (e : downstream_words p ≡ downstream_of d) (h : 157 ≤ length l) (i : r ≡ early_in l)
+    (k : ℕ) → k ≡ early_refusal_read (lent r (mid_of 29 128 l) ss) d (downstream_words p) → k ≡ early_refusal (lent_in l ss) d
+refuse-so l ss d p r e h i k f =
     let n : lent r (mid_of 29 128 l) ss ≡ lent_in l ss = ap₂ (λ (a : EarlyReceiver) (b : List ℕ). lent a b ss) i (sym (lengths-long l h)) in
-    let s : k.number ≡ early_refusal (lent_in l ss) d = f ∙ rw (n, e) (early-read-as-whole.refuses (lent_in l ss) d) in
-    g ∙ rw s refl
+    f ∙ rw (n, e) (early-read-as-whole.refuses (lent_in l ss) d)
+
+-- its check passed: what is left is 41, or it is the refusal
+module _ (l ss d : List ℕ) (p : Result Downstream Refusal) (r : EarlyReceiver) (e : downstream_words p ≡ downstream_of d) (h : 157 ≤ length l) (i : r ≡ early_in l)
+    (c : Result ⊤ Refusal) (f : c ≡ refused_by (early_refusal_read (lent r (mid_of 29 128 l) ss) d (downstream_words p))) where
+  pub refuse-words : (u : ⊤) → c ≡ Ok u → 41 ≡ or_else (early_refusal (lent_in l ss) d) 41
+  refuse-words u k = or-next _ 41 (sym (refuse-so l ss d p r e h i _ refl) ∙ checked _ _ _ f k)
+
+  pub refuse-own : (x : Refusal) → c ≡ Err x → x.number ≡ or_else (early_refusal (lent_in l ss) d) 41
+  refuse-own x k =
+      let own = refuse-so l ss d p r e h i _ refl in
+      let same = ground-of _ _ _ f k ∙ own in
+      same ∙ or-first _ 41 (λ y. has-ground _ _ _ f k (own ∙ y))
 
 -- ---- a datagram d, which the reader read as p, at a state that is long enough
 
@@ -188,33 +199,32 @@ after-few l ss d = early-promises.only_held_bytes_change.lengths_stay (lent_in l
 pub not-kept : (l ss d : List ℕ) (r : ℕ) → (r ≡ 0 → ⊥) → KeepsKept (on_code r) l l (kept_after l ss d)
 not-kept l ss d r z = kept-not (lent_after (lent_in l ss) d).receiver (lent_after (lent_in l ss) d).lengths l (after-ten l ss d) (after-few l ss d) r z
 
-module _ (d l ss ws : List ℕ) (p : Downstream) (k : ℕ) (e : downstream_words p ≡ downstream_of d) (f : k ≡ (downstream_words p).refusal) where
-  unread : k ≡ refusal_of d
-  unread = refusal-found d p k f e
-
-  pub takes-unread : (k ≡ 0 → ⊥) → TakesLent k l l ss ss d ws ws
+module _ (d l ss ws : List ℕ) (p : Result Downstream Refusal) (e : downstream_words p ≡ downstream_of d) where
+  pub takes-unread : (x : Refusal) → p ≡ Err x → TakesLent x.number l l ss ss d ws ws
   unfolding on_success
-  takes-unread z =
+  takes-unread x f =
+      let unread = unread-ground d p e x f in
+      let z = unread-is d p e x f in
       let n : refusal_of d ≡ 0 → ⊥ = λ y. z (unread ∙ y) in
       let vs = said_words (early_answer (lent_in l ss) d) (request_of (lent_in l ss) d) in
       let first : refusal_of d ≡ state_ladder (refusal_of d) (ltb (length l) 157) (early_refusal (lent_in l ss) d) = or-first (refusal_of d) _ n in
       record {
         answers = record { returns = unread ∙ or-first (refusal_of d) (short (ltb (length ws) (length vs))) n ∙ ap (λ (g : ℕ). or_else g (short (ltb (length ws) (length vs)))) first; words = rw (ne_eqb _ _ z) refl };
-        keeps = not-kept l ss d k z;
+        keeps = not-kept l ss d x.number z;
         slots = rw (ne_eqb _ _ z) refl;
       }
 
-  pub takes-short : k ≡ 0 → length l < 157 → TakesLent 41 l l ss ss d ws ws
+  pub takes-short : (y : Downstream) → p ≡ Ok y → length l < 157 → TakesLent 41 l l ss ss d ws ws
   unfolding on_success or_else short
-  takes-short z h =
+  takes-short y f h =
       record {
-        answers = record { returns = rw (← unread, z, lt-ltb (length l) 157 h) refl; words = refl };
+        answers = record { returns = rw (read_well d p e y f, lt-ltb (length l) 157 h) refl; words = refl };
         keeps = not-kept l ss d 41 (λ n. omega arith);
         slots = refl;
       }
 
 -- with a state that is long enough the ladder is the receiver's own
-module _ (d l ss : List ℕ) (p : Downstream) (e : downstream_words p ≡ downstream_of d) (none : (downstream_words p).refusal ≡ 0) (room : 157 ≤ length l) where
+module _ (d l ss : List ℕ) (p : Result Downstream Refusal) (e : downstream_words p ≡ downstream_of d) (none : (downstream_words p).refusal ≡ 0) (room : 157 ≤ length l) where
   well : refusal_of d ≡ 0
   well = sym (refusal-found d p _ refl e) ∙ none
 
@@ -286,7 +296,7 @@ module _ (d l ss : List ℕ) (p : Downstream) (e : downstream_words p ≡ downst
         takes-so r (put_mid 29 128 l lt) m ws' (mid-put l lt 29 128 (omega arith) few) b
 
 -- with the receiver and the lengths as the code has them
-module _ (d l ss : List ℕ) (p : Downstream) (e : downstream_words p ≡ downstream_of d) (none : (downstream_words p).refusal ≡ 0) (room : 157 ≤ length l)
+module _ (d l ss : List ℕ) (p : Result Downstream Refusal) (e : downstream_words p ≡ downstream_of d) (none : (downstream_words p).refusal ≡ 0) (room : 157 ≤ length l)
     (q : EarlyReceiver) (is : q ≡ early_in l) (ws : List ℕ) (enough : 7 ≤ length ws) (x : Taken) where
   same-lent : lent q (take 128 (drop 29 l)) ss ≡ lent_in l ss
   same-lent = ap₂ (λ (a : EarlyReceiver) (b : List ℕ). lent a b ss) is (sym (lengths-long l room))
@@ -321,10 +331,10 @@ takes-only r l m ss st d ws ws' t =
     answers-only r _ ws ws' _ take_list t.answers
     (only-state (refusal_of d) (ltb (length l) 157) (early_refusal (lent_in l ss) d) take_list (only-within (refusal_of d) datagram_grounds take_list (datagram-only d) refl) (own-only (lent_in l ss) d) refl) refl
 
-pub unread-only : (d : List ℕ) (p : Downstream) (k : ℕ) → downstream_words p ≡ downstream_of d → k ≡ (downstream_words p).refusal
-    → RefusesOnly k (11 ∷ 12 ∷ 13 ∷ 14 ∷ 15 ∷ 16 ∷ 17 ∷ 18 ∷ 19 ∷ 20 ∷ 41 ∷ [])
+pub unread-only : (d : List ℕ) (p : Result Downstream Refusal) (x : Refusal) → downstream_words p ≡ downstream_of d → p ≡ Err x
+    → RefusesOnly x.number (11 ∷ 12 ∷ 13 ∷ 14 ∷ 15 ∷ 16 ∷ 17 ∷ 18 ∷ 19 ∷ 20 ∷ 41 ∷ [])
 unfolding is_one_of within
-unread-only d p k e f = rw (refusal-found d p k f e) (only-within (refusal_of d) datagram_grounds take_list (datagram-only d) refl)
+unread-only d p x e f = rw (unread-ground d p e x f) (only-within (refusal_of d) datagram_grounds take_list (datagram-only d) refl)
 
 pub short-only : RefusesOnly 41 (11 ∷ 12 ∷ 13 ∷ 14 ∷ 15 ∷ 16 ∷ 17 ∷ 18 ∷ 19 ∷ 20 ∷ 41 ∷ [])
 unfolding is_one_of

@@ -22,6 +22,7 @@ use wire::refusal::Refusal;
 use wire::{parts, refusal};
 
 // Starts a receiver.
+#[tactic(auto, using(crate::proofs::Rules::starts))]
 #[unsafe(no_mangle)]
 pub extern "C" fn eiderwagon_early_start(
     session: &[u8],
@@ -39,14 +40,13 @@ pub extern "C" fn eiderwagon_early_start(
         SequenceNumber(next),
         MessageCount(limit),
     );
-    let receiver = started.receiver;
     let refused = host_answers::unless_sized(
         session.len(),
         SESSION_SIZE,
         refusal::BAD_SETTING,
         started.refusal,
     );
-    host_early::write_fresh(state, refused.number as u32, receiver)
+    host_early::write_fresh(state, u32::from(refused.number), started.receiver)
 }
 
 // Takes a datagram. It is read before the state is: 11 to 16 need none.
@@ -62,9 +62,8 @@ pub extern "C" fn eiderwagon_early_take(
     ensures refuses { RefusesOnly result (11 ∷ 12 ∷ 13 ∷ 14 ∷ 15 ∷ 16 ∷ 17 ∷ 18 ∷ 19 ∷ 20 ∷ 41 ∷ []) }
 {
     let packet = downstream::read(datagram);
-    let unread = downstream::refusal_in(packet);
-    if unread.number != 0 {
-        return unread.number as u32;
+    if let Err(unread) = packet {
+        return u32::from(unread.number);
     }
     if state.len() < host_early::SIZE {
         return host_answers::SHORT;
@@ -76,7 +75,7 @@ pub extern "C" fn eiderwagon_early_take(
 fn take_read(
     state: &mut [u8],
     slots: &mut [u8],
-    packet: Downstream,
+    packet: Result<Downstream, Refusal>,
     datagram: &[u8],
     words: &mut [u64],
 ) -> u32
@@ -95,8 +94,7 @@ fn take_read(
     if !settled.applies {
         return take_lent(state, slots, packet, datagram, words);
     }
-    let taken = settled.taken;
-    keep(state, words, taken)
+    keep(state, words, settled.taken)
 }
 
 // The same with slots and lengths lent, by words that have room. It has two callers, so that it isn't compiled into the
@@ -104,7 +102,7 @@ fn take_read(
 fn take_lent(
     state: &mut [u8],
     slots: &mut [u8],
-    packet: Downstream,
+    packet: Result<Downstream, Refusal>,
     datagram: &[u8],
     words: &mut [u64],
 ) -> u32
@@ -121,21 +119,29 @@ fn take_lent(
 }
 
 // The refusal of a datagram that was read, or 41 where nothing else is refused but the words.
-fn refuse(state: &[u8], slots: &[u8], packet: Downstream, datagram: &[u8]) -> u32
+fn refuse(
+    state: &[u8],
+    slots: &[u8],
+    packet: Result<Downstream, Refusal>,
+    datagram: &[u8],
+) -> u32
     requires { (downstream_words packet ≡ downstream_of datagram.now) × (early_size ≤ length state.now) }
     ensures { result ≡ or_else
         (early_refusal (lent_in state.now slots.now) datagram.now) 41 }
 {
     let from = LENGTHS_AT.0;
     let to = host_early::SIZE;
-    let refused: Refusal = early::refusal_read(
+    let checked = early::check(
         host_early::read(state),
         packet,
         &state[from..to],
         slots,
         datagram,
     );
-    host_answers::or_short(refused, true).number as u32
+    match checked {
+        Ok(()) => host_answers::SHORT,
+        Err(refused) => u32::from(refused.number),
+    }
 }
 
 // Answers by words that have room, and lays the receiver, whose lengths stand there already.
@@ -144,18 +150,12 @@ fn keep(state: &mut [u8], words: &mut [u64], taken: Taken) -> u32
     ensures { Answered result state.old state.new words.old words.new
         taken }
 {
-    let answer = taken.answer;
-    let request = taken.request;
-    let after = taken.receiver;
-    let said = answers::answer_words(answer);
-    let row = said.words;
-    let code = host_answers::answer(words, said.refusal, &row);
+    let code = host_answers::answer(words, answers::answer_words(taken.answer));
     if code != 0 {
         return code;
     }
-    let asked = answers::request_words(request);
-    let behind = ROW_WORDS;
-    host_answers::answer(&mut words[behind..], refusal::NONE, &asked);
-    host_early::write(state, after);
+    let asked = answers::request_words(taken.request);
+    host_answers::answer(&mut words[ROW_WORDS..], Ok(asked));
+    host_early::write(state, taken.receiver);
     code
 }

@@ -8,6 +8,7 @@ use lib.ListN.{length}
 use lib.Dec.{ltb, eqb}
 use borrow.Rule.Slice.PartMut.{mid_of}
 use borrow.Author.Tests.{ne_eqb, eq-eqb, lt-ltb, le-ltb}
+use Rattle.std.specs.Prelude.{Ok, Err}
 use Rattle.wire.specs.declared.refusal.Refusal.{Refusal}
 use Rattle.wire.specs.declared.kinds.MessageCount.{MessageCount}
 use Rattle.wire.proofs.Cases.{zero_or_not}
@@ -19,8 +20,8 @@ use Rattle.early_messages.specs.declared.message.Part.{Part}
 use Rattle.early_messages.specs.declared.walk.Walk.{Walk}
 use Rattle.early_messages.specs.Delivery.{delivered_count, part_at}
 use Rattle.early_messages.specs.Walk.{start_walk, walk_part, walk_on}
-use Rattle.host_answers.specs.Answers.{or_else, short, flag, on_success, is_one_of, RefusesOnly, AnswersWith}
-use Rattle.host_answers.proofs.AnswerLaws.{or-next, or-short-no}
+use Rattle.host_answers.specs.Answers.{or_else, short, flag, on_success, is_one_of, said_refusal, said_values, RefusesOnly, AnswersWith}
+use Rattle.host_answers.proofs.AnswerLaws.{or-next, or-short-no, any-values}
 use Rattle.host_answers.proofs.OnlyLaws.{only_if, only_ending, answers-only}
 use Rattle.host_states.specs.States.{on_code, on_step}
 use Rattle.host_early.specs.Early.{early_in, lent_in}
@@ -67,20 +68,18 @@ module _ (l ss : List ℕ) (h : 157 ≤ length l) (r : EarlyReceiver) (is : r �
   same-lent : lent r (mid_of 29 128 l) ss ≡ lent_in l ss
   same-lent = ap₂ (λ (a : EarlyReceiver) (b : List ℕ). lent a b ss) is (sym (lengths-long l h))
 
-  pub counts-so : (d ws ws' : List ℕ) (k : Refusal) (c : MessageCount) (q : ℕ) → k.number ≡ slots_refusal ss
-      → c.0 ≡ min 65535 (delivered_count (lent r (mid_of 29 128 l) ss) d) → AnswersWith q ws ws' k.number (c.0 ∷ []) → CountsMessages q l ss d ws ws'
-  counts-so d ws ws' k c q e f a =
+  pub counts-so : (d ws ws' : List ℕ) (c : MessageCount) (k q : ℕ) → k ≡ c.0 → c.0 ≡ min 65535 (delivered_count (lent r (mid_of 29 128 l) ss) d) → AnswersWith q ws ws' (slots_refusal ss) (k ∷ []) → CountsMessages q l ss d ws ws'
+  counts-so d ws ws' c k q g f a =
       let few = counted-few (lent_in l ss) d in
       let n : c.0 ≡ min 65535 (delivered_count (lent_in l ss) d) = f ∙ ap (λ (x : Lent). min 65535 (delivered_count x d)) same-lent in
       let n : c.0 ≡ delivered_count (lent_in l ss) d = n ∙ capped (delivered_count (lent_in l ss) d) few in
-      rw (e ∙ long-ladder l ss h, n) at a
+      rw (long-ladder l ss h, g, n) at a
 
-  pub locates-so : (d ws ws' vs : List ℕ) (k : Refusal) (p : Part) (at q : ℕ) → k.number ≡ slots_refusal ss
-      → p ≡ part_at (lent r (mid_of 29 128 l) ss) d at → vs ≡ part_words p → AnswersWith q ws ws' k.number vs → LocatesMessage q l ss d at ws ws'
-  locates-so d ws ws' vs k p at q e f g a = rw (e ∙ long-ladder l ss h, g ∙ ap part_words (f ∙ ap (λ (x : Lent). part_at x d at) same-lent)) at a
+  pub locates-so : (d ws ws' vs : List ℕ) (p : Part) (at q : ℕ) → p ≡ part_at (lent r (mid_of 29 128 l) ss) d at → vs ≡ part_words p → AnswersWith q ws ws' (slots_refusal ss) vs → LocatesMessage q l ss d at ws ws'
+  locates-so d ws ws' vs p at q f g a = rw (long-ladder l ss h, g ∙ ap part_words (f ∙ ap (λ (x : Lent). part_at x d at) same-lent)) at a
 
-  pub walk-so : (d w w' : List ℕ) (k : Refusal) (x : Walk) (q : ℕ) → k.number ≡ slots_refusal ss → x ≡ start_walk (lent r (mid_of 29 128 l) ss) d
-      → q ≡ or_else k.number (short (ltb (length w) 21)) → KeepsWalk (on_code q) w w' x → SetsWalk q l ss d w w'
+  pub walk-so : (d w w' : List ℕ) (k : ℕ) (x : Walk) (q : ℕ) → k ≡ slots_refusal ss → x ≡ start_walk (lent r (mid_of 29 128 l) ss) d
+      → q ≡ or_else k (short (ltb (length w) 21)) → KeepsWalk (on_code q) w w' x → SetsWalk q l ss d w w'
   walk-so d w w' k x q e f g a =
       let s : x ≡ start_walk (lent_in l ss) d = f ∙ rw same-lent refl in
       record { returns = g ∙ rw (e ∙ long-ladder l ss h) refl; keeps = rw s at a }
@@ -114,20 +113,26 @@ pub step-only : (ss : List ℕ) (q c : ℕ) (b : Bool) (ws ws' vs : List ℕ) �
 unfolding is_one_of
 step-only ss q c b ws ws' vs a f = only_ending q c b (19 ∷ 41 ∷ []) f (told-only ss c ws ws' vs a) refl
 
-module _ (ss : List ℕ) (k : Refusal) (e : k.number ≡ slots_refusal ss) where
-  pub part-only : (q : ℕ) (ws ws' vs : List ℕ) → AnswersWith q ws ws' k.number vs → RefusesOnly q (19 ∷ 41 ∷ [])
+module _ (ss : List ℕ) (k : ℕ) (e : k ≡ slots_refusal ss) where
+  pub walk-only : (q : ℕ) (b : Bool) → q ≡ or_else k (short b) → RefusesOnly q (19 ∷ 41 ∷ [])
   unfolding is_one_of
-  part-only q ws ws' vs a = answers-only q k.number ws ws' vs (19 ∷ 41 ∷ []) a (rw e (slots-only ss)) refl
-
-  pub walk-only : (q : ℕ) (b : Bool) → q ≡ or_else k.number (short b) → RefusesOnly q (19 ∷ 41 ∷ [])
-  unfolding is_one_of
-  walk-only q b a = only_ending q k.number b (19 ∷ 41 ∷ []) a (rw e (slots-only ss)) refl
+  walk-only q b a = only_ending q k b (19 ∷ 41 ∷ []) a (rw e (slots-only ss)) refl
 
 -- ---- where a message lies, answered
 
-pub part-told : (ss ws ws' vs : List ℕ) (p : Part) (k : Refusal) (q : ℕ) → k.number ≡ slots_refusal ss → vs ≡ part_words p → AnswersWith q ws ws' k.number vs
+pub part-told : (ss ws ws' vs : List ℕ) (p : Part) (q : ℕ) → vs ≡ part_words p → AnswersWith q ws ws' (slots_refusal ss) vs
     → AnswersWith q ws ws' (slots_refusal ss) (part_words p)
-part-told ss ws ws' vs p k q e v a = rw (e, v) at a
+part-told ss ws ws' vs p q v a = rw v at a
+
+-- values that were said, or 19
+pub sized-right : (ss ws ws' vs : List ℕ) (n q : ℕ) → length ss ≡ 65536 → AnswersWith q ws ws' (said_refusal (Ok vs)) (said_values n (Ok vs)) → AnswersWith q ws ws' (slots_refusal ss) vs
+unfolding slots_refusal said_refusal said_values
+sized-right ss ws ws' vs n q e a = rw (eq-eqb _ _ e) a
+
+pub sized-wrong : (ss ws ws' vs : List ℕ) (n q : ℕ) → (length ss ≡ 65536 → ⊥)
+    → AnswersWith q ws ws' (said_refusal {A = List ℕ} (Err (record { number = 19 }))) (said_values n (Err (record { number = 19 }))) → AnswersWith q ws ws' (slots_refusal ss) vs
+unfolding slots_refusal said_refusal
+sized-wrong ss ws ws' vs n q e a = rw (ne_eqb _ _ e) (any-values q 19 ws ws' _ vs (λ z. omega arith) a)
 
 pub part-there : (l ss d : List ℕ) (r : EarlyReceiver) (x : Walk) (p : Part) → 157 ≤ length l → r ≡ early_in l → p ≡ walk_part (lent r (mid_of 29 128 l) ss) d x
     → p ≡ walk_part (lent_in l ss) d x

@@ -6,7 +6,7 @@
 pub mod walks;
 
 ghost use Rattle.std.specs.Prelude.{◌≡◌, [], ◌∷◌};
-ghost use Rattle.host_answers.specs.Answers.{RefusesOnly};
+ghost use Rattle.host_answers.specs.Answers.{RefusesOnly, AnswersWith};
 ghost use Rattle.host_early.specs.Slots.{slots_refusal};
 ghost use Rattle.exports_early_messages.specs.Calls.{CountsMessages, LocatesMessage};
 
@@ -15,16 +15,22 @@ use early_messages::message;
 use host_early::{LENGTHS_AT, answers};
 use wire::kinds::MessagePlace;
 use wire::refusal;
-use wire::refusal::Refusal;
 
-// The refusal of slots of another size.
-fn slots_refusal(slots: &[u8]) -> Refusal
-    ensures { result.number ≡ slots_refusal slots.now }
+// The code of slots of another size, or 0.
+fn slots_code(slots: &[u8]) -> u32
+    ensures { result ≡ slots_refusal slots.now }
 {
-    if slots.len() == SLOT_BYTES {
-        return refusal::NONE;
+    if slots.len() == SLOT_BYTES { 0 } else { u32::from(refusal::BAD_SETTING.number) }
+}
+
+// Answers values; 19 where the slots aren't of their size.
+fn answer_sized<const N: usize>(words: &mut [u64], slots: &[u8], values: [u64; N]) -> u32
+    ensures { AnswersWith result words.old words.new (slots_refusal slots.now) values.entry }
+{
+    if slots.len() != SLOT_BYTES {
+        return host_answers::answer::<N>(words, Err(refusal::BAD_SETTING));
     }
-    refusal::BAD_SETTING
+    host_answers::answer(words, Ok(values))
 }
 
 // How many messages a datagram will deliver.
@@ -45,7 +51,7 @@ pub extern "C" fn eiderwagon_early_count(
     let from = LENGTHS_AT.0;
     let to = host_early::SIZE;
     let count = message::count(host_early::read(state), &state[from..to], slots, datagram);
-    host_answers::answer(words, slots_refusal(slots), &[count.0 as u64])
+    answer_sized(words, slots, [u64::from(count.0)])
 }
 
 // Where the message at a place lies.
@@ -73,5 +79,5 @@ pub extern "C" fn eiderwagon_early_locate(
         datagram,
         MessagePlace(place),
     );
-    host_answers::answer(words, slots_refusal(slots), &answers::part_words(part))
+    answer_sized(words, slots, answers::part_words(part))
 }

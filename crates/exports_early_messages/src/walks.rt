@@ -2,13 +2,11 @@
 #![tactic(auto, using(crate::proofs::Rules::steps, crate::proofs::Rules::walks))]
 ghost use Rattle.std.specs.Prelude.{[], ◌∷◌, ◌≡◌, ◌≤◌, length};
 ghost use Rattle.early_messages.specs.Walk.{walk_part};
-ghost use Rattle.host_answers.specs.Answers.{RefusesOnly, AnswersWith};
+ghost use Rattle.host_answers.specs.Answers.{RefusesOnly};
 ghost use Rattle.host_early.specs.Early.{early_size, lent_in};
-ghost use Rattle.host_early.specs.Replies.{part_words};
-ghost use Rattle.host_early.specs.Slots.{slots_refusal};
 ghost use Rattle.exports_early_messages.specs.Calls.{SetsWalk, NextPart};
 
-use crate::slots_refusal;
+use crate::{answer_sized, slots_code};
 use early_messages::message::Part;
 use early_messages::walk;
 use early_messages::walk::Walk;
@@ -32,8 +30,7 @@ pub extern "C" fn eiderwagon_early_walk(
     let from = LENGTHS_AT.0;
     let to = host_early::SIZE;
     let start = walk::start(host_early::read(state), &state[from..to], slots, datagram);
-    let refused = slots_refusal(slots);
-    host_early::walk::write(cursor, refused.number as u32, start)
+    host_early::walk::write(cursor, slots_code(slots), start)
 }
 
 // Where the message at a walk lies, with a state that is long enough.
@@ -50,14 +47,6 @@ fn part_here(here: Walk, state: &[u8], slots: &[u8], datagram: &[u8]) -> Part
         slots,
         datagram,
     )
-}
-
-// Answers where a message lies; 19 where the slots aren't of their size.
-fn answer_part(part: Part, slots: &[u8], words: &mut [u64]) -> u32
-    ensures { AnswersWith result words.old words.new (slots_refusal slots.now)
-        (part_words part) }
-{
-    host_answers::answer(words, slots_refusal(slots), &answers::part_words(part))
 }
 
 // Answers the message at a walk, and moves the walk to the next one.
@@ -81,7 +70,7 @@ pub extern "C" fn eiderwagon_early_next(
     }
     let here = host_early::walk::read(cursor);
     let part = part_here(here, state, slots, datagram);
-    let code = answer_part(part, slots, words);
+    let code = answer_sized(words, slots, answers::part_words(part));
     if part.exists {
         return host_early::walk::write(cursor, code, walk::next(here, datagram));
     }
