@@ -11,13 +11,13 @@ returns-in-Err g c = said-refused _ _ [] c.in-Err.r _ _ c.in-Err.is c.if-r-ne0.t
 pub returns-then-words : goal.returns-then-words
 returns-then-words g c =
     elim c.match-said.branch [
-      in-Ok w ↦ said-short _ _ _ _ (laid-ok _ _ _ _ w.in-Ok.is w.values-is) (search rules) c.if-words.true
+      | in-Ok w ↦ said-short _ _ _ _ (laid-ok _ _ _ _ w.in-Ok.is w.values-is) (search rules) c.if-words.true
       | in-Err-2 w ↦ said-short _ _ _ _ (laid-zeros _ _ _ _ w.in-Err.is w.if-r-ne0.false w.values-is) (ap length w.values-is ∙ length-replicate _ _) c.if-words.true
     ]
 
 pub returns : goal.returns
 returns g c =
     elim c.match-said.branch [
-      in-Ok w ↦ said-laid _ _ _ _ _ (laid-ok _ _ _ _ w.in-Ok.is w.values-is) (search rules) c.if-words.false (search rules)
+      | in-Ok w ↦ said-laid _ _ _ _ _ (laid-ok _ _ _ _ w.in-Ok.is w.values-is) (search rules) c.if-words.false (search rules)
       | in-Err-2 w ↦ said-laid _ _ _ _ _ (laid-zeros _ _ _ _ w.in-Err.is w.if-r-ne0.false w.values-is) (ap length w.values-is ∙ length-replicate _ _) c.if-words.false (search rules)
     ]
