@@ -1,6 +1,6 @@
 // A datagram taken by the receiver that keeps early messages and the places of all messages that it delivers, in one
 // call, for hosts in other languages. `include/eiderwagon.h` says what the function takes and answers.
-#![tactic(auto, using(crate::proofs::Rules::delivering, crate::proofs::Rules::laying))]
+#![tactic(auto, using(crate::proofs::Rules::delivering, crate::proofs::Rules::lacking, crate::proofs::Rules::laying))]
 
 ghost use Rattle.std.specs.Prelude.{◌≡◌, [], ◌∷◌, ◌+◌, ◌*◌, ◌≤◌, length, ltb};
 ghost use Rattle.wire.specs.Output.{put};
@@ -49,15 +49,12 @@ fn lay_places(
         (places_delivered (lent receiver lengths.now slots.now) datagram.now) }
 {
     let mut here = start;
-    let mut left = start.left.0;
     let mut word: usize = 0;
-    while 0 < left {
+    for _ in 0..start.left.0 {
         let part = walk::locate(here, receiver, lengths, slots, datagram);
         lay_place(part, word, places);
-        let after = walk::next(here, datagram);
-        here = after;
+        here = walk::next(here, datagram);
         word += PLACE_WORDS;
-        left -= 1;
     }
 }
 
@@ -114,6 +111,7 @@ fn deliver_lent(
 
 // Takes a datagram, and lays the place of each message that it delivers. With a state that is too short, or too few
 // words, it is refused anyway.
+#[tactic(auto, using(crate::proofs::Rules::calls))]
 #[unsafe(no_mangle)]
 pub extern "C" fn eiderwagon_early_deliver(
     state: &mut [u8],
