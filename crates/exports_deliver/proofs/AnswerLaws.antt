@@ -1,7 +1,7 @@
 -- An answer w laid with the places of what it delivers of the datagram d.
 use Prim.Native.Nat.{ℕ, ◌+◌, ◌-◌, ◌*◌, ◌≤◌}
 use mathlib.Core.List.{List}
-use mathlib.Core.Bool.{Bool, true}
+use mathlib.Core.Bool.{true}
 use mathlib.Core.Path.{◌≡◌, ap, sym, ◌∙◌}
 use lib.ListN.{length, drop}
 use lib.Dec.{ltb}
@@ -11,7 +11,7 @@ use Rattle.wire.specs.Output.{put}
 use Rattle.wire.specs.Words.{Words}
 use Rattle.moldudp64.specs.Blocks.{all_fit, after_blocks}
 use Rattle.receiver.specs.Table.{AnswerKind}
-use Rattle.host_answers.specs.Answers.{or_else, short, words_of, said_refusal, said_values, AnswersWith}
+use Rattle.host_answers.specs.Answers.{or_else, short, said_refusal, said_values, words_of, AnswersWith}
 use Rattle.host_answers.proofs.AnswerLaws.{success, no-success, has_room, kept-values}
 use Rattle.host_answers.proofs.LadderLaws.{first-zero}
 use Rattle.host_receiver.specs.Replies.{answer_number}
@@ -42,17 +42,22 @@ pub lay-there : (w : Words AnswerKind) (d : List ℕ) (count skipped : ℕ) → 
 lay-there w d count skipped b f = b.there count skipped f
 
 -- a code of 0 is given only where the places have room
-pub lay-room : (ws ws' vs : List ℕ) (code q few n count : ℕ) (b : Bool) → b ≡ ltb n (2 * count) → few ≡ or_else q (short b) → AnswersWith code ws ws' few vs → code ≡ 0 → 2 * count ≤ n
-lay-room ws ws' vs code q few n count b e o y z = has_room few q n (2 * count) (rw e at o) (first-zero few _ (sym y.returns ∙ z))
+pub lay-room : (ws ws' vs : List ℕ) (code q n count : ℕ) (said : Result (List ℕ) Refusal) → said_refusal said ≡ or_else q (short (ltb n (2 * count)))
+    → AnswersWith code ws ws' (said_refusal said) vs → code ≡ 0 → 2 * count ≤ n
+lay-room ws ws' vs code q n count said o y z = has_room (said_refusal said) q n (2 * count) o (first-zero (said_refusal said) _ (sym y.returns ∙ z))
 
--- said is the answer as a host gets it, and x the same or 41 for too few places
-module _ (w : Words AnswerKind) (d : List ℕ) (count skipped : ℕ) (f : Finds count skipped w) (ws ws' ps : List ℕ) (code : ℕ) (b : Bool) (eb : b ≡ ltb (length ps) (2 * count))
-    (said x : Result (List ℕ) Refusal) (a : said_refusal said ≡ w.refusal) (v : said_values 4 said ≡ words_of answer_number 4 w)
-    (o : said_refusal x ≡ or_else (said_refusal said) (short b)) (kept : said_refusal x ≡ 0 → x ≡ said) (y : AnswersWith code ws ws' (said_refusal x) (said_values 4 x)) where
+-- own is what is said of the answer, and said it or 41 for too few places
+module _ (w : Words AnswerKind) (d : List ℕ) (count skipped : ℕ) (f : Finds count skipped w) (ws ws' ps : List ℕ) (code : ℕ) (own said : Result (List ℕ) Refusal)
+    (a : said_refusal own ≡ w.refusal) (v : said_values 4 own ≡ words_of answer_number 4 w)
+    (o : said_refusal said ≡ or_else (said_refusal own) (short (ltb (length ps) (2 * count)))) (kept : said_refusal said ≡ 0 → said ≡ own)
+    (reported : AnswersWith code ws ws' (said_refusal said) (said_values 4 said)) where
+  y : AnswersWith code ws ws' (said_refusal said) (said_values 4 own)
+  y = kept-values code 4 ws ws' own said kept reported
+
   answered : AnswersWith code ws ws' (or_else w.refusal (short (ltb (length ps) (length (places_delivered w d))))) (words_of answer_number 4 w)
   answered =
       let n : length (places_delivered w d) ≡ 2 * count = ap length (found-places w count skipped d f) ∙ length-places count _ _ in
-      rw (n, ← a, ← eb, ← o, ← v) (kept-values code 4 ws ws' said x kept y)
+      rw (n, ← a, ← o, ← v) y
 
   pub lays-not : (code ≡ 0 → ⊥) → LaysAnswer code w d ws ws' ps ps
   lays-not z = record { answers = answered; places = no-success code _ ps z }

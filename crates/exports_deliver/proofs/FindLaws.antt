@@ -1,5 +1,5 @@
 -- How much an answer delivers, and that so many blocks of its datagram are there.
-use Prim.Native.Nat.{ℕ, ◌+◌, ◌-◌}
+use Prim.Native.Nat.{ℕ, ◌+◌}
 use mathlib.Core.List.{List, [], ◌∷◌}
 use mathlib.Core.Bool.{true}
 use mathlib.Core.Path.{◌≡◌, refl, ap, sym, ◌∙◌}
@@ -8,7 +8,6 @@ use lib.ListN.{get_or, drop}
 use Rattle.wire.specs.Words.{Words, Case, answer, refused, says}
 use Rattle.wire.proofs.Cases.{zero_or_not}
 use Rattle.wire.proofs.Words.{which-of, values-of}
-use Rattle.wire.specs.declared.refusal.Refusal.{Refusal}
 use Rattle.wire.specs.declared.kinds.SequenceNumber.{SequenceNumber}
 use Rattle.wire.specs.declared.kinds.MessageCount.{MessageCount}
 use Rattle.wire.specs.declared.kinds.MessagePlace.{MessagePlace}
@@ -80,22 +79,14 @@ module _ (a : Answer) where
   unfolding answer_words
   finds-deliver first count skipped e = rw e (finds first.0 refl)
 
-  pub finds-old : a ≡ Old → Finds 0 0 (answer_words a)
+  pub finds-none : ((first : SequenceNumber) (count : MessageCount) (skipped : MessagePlace) → a ≡ Deliver first count skipped → ⊥) → Finds 0 0 (answer_words a)
   unfolding answer_words places_delivered_at
-  finds-old e = rw e (finds_none refl refl (λ d. refl))
-
-  pub finds-quiet : a ≡ Quiet → Finds 0 0 (answer_words a)
-  unfolding answer_words places_delivered_at
-  finds-quiet e = rw e (finds_none refl refl (λ d. refl))
-
-  pub finds-ask : (from : SequenceNumber) (count : MessageCount) → a ≡ Ask from count → Finds 0 0 (answer_words a)
-  unfolding answer_words places_delivered_at
-  finds-ask from count e = rw e (finds_none refl refl (λ d. refl))
-
-  pub finds-ended : a ≡ Ended → Finds 0 0 (answer_words a)
-  unfolding answer_words places_delivered_at
-  finds-ended e = rw e (finds_none refl refl (λ d. refl))
-
-  pub finds-refused : (r : Refusal) → a ≡ Refused r → Finds 0 0 (answer_words a)
-  unfolding answer_words places_delivered_at
-  finds-refused r e = rw e (finds_none refl refl (λ d. refl))
+  finds-none n = go a refl
+    where
+      go : (b : Answer) → a ≡ b → Finds 0 0 (answer_words a)
+      go (Deliver first count skipped) e = absurd (n first count skipped e)
+      go Old e = rw e (finds_none refl refl (λ d. refl))
+      go Quiet e = rw e (finds_none refl refl (λ d. refl))
+      go (Ask from count) e = rw e (finds_none refl refl (λ d. refl))
+      go Ended e = rw e (finds_none refl refl (λ d. refl))
+      go (Refused r) e = rw e (finds_none refl refl (λ d. refl))

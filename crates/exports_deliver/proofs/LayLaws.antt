@@ -45,12 +45,12 @@ module _ (d : List ℕ) (blocks at : ℕ) where
   pub passing-within : (left k : ℕ) → Passing d blocks at left → 0 < left → k ≡ block_length (drop at d) → at + (k + 2) ≤ length d
   passing-within left k s h e = let i = passing-one left s h in omega arith
 
-  pub passing_step : (left k : ℕ) → Passing d blocks at left → 0 < left → k ≡ block_length (drop at d) → Passing d blocks (at + (k + 2)) (left - 1)
+  pub passing_step : (left next k : ℕ) → Passing d blocks at left → 0 < left → k ≡ block_length (drop at d) → next ≡ left - 1 → Passing d blocks (at + (k + 2)) next
   unfolding after_blocks
-  passing_step zero k s h e = absurd (omega arith)
-  passing_step (suc n) k s h e =
+  passing_step zero next k s h e a = absurd (omega arith)
+  passing_step (suc n) next k s h e a =
       let on : after_block (drop at d) ≡ drop (at + (k + 2)) d = rw e (behind-one d at) in
-      rw sub-one (record { fit = rw on at (rest-fit n (drop at d) s.fit); rest = rw on at s.rest; within = passing-within (suc n) k s h e })
+      rw (a, sub-one) (record { fit = rw on at (rest-fit n (drop at d) s.fit); rest = rw on at s.rest; within = passing-within (suc n) k s h e })
 
   pub passing-end : (left : ℕ) → Passing d blocks at left → left ≤ 0 → at ≡ length d - length (after_blocks blocks (drop 20 d))
   unfolding after_blocks
@@ -98,11 +98,11 @@ module _ (d ps : List ℕ) (from count : ℕ) (out : List ℕ) (at word : ℕ) w
   pub laying-kept : (left : ℕ) → Laying d ps from count out at left word → length out ≡ length ps
   laying-kept left s = s.kept
 
-  pub laying-step : (left k : ℕ) → Laying d ps from count out at left word → 0 < left → k ≡ block_length (drop at d)
-      → Laying d ps from count (set (set out word (at + 2)) (word + 1) k) (at + 2 + k) (left - 1) (word + 2)
+  pub laying-step : (left next k behind : ℕ) → Laying d ps from count out at left word → 0 < left → k ≡ block_length (drop at d) → next ≡ left - 1 → behind ≡ word + 2
+      → Laying d ps from count (set (set out word (at + 2)) (word + 1) k) (at + 2 + k) next behind
   unfolding places_at
-  laying-step zero k s h e = absurd (omega arith)
-  laying-step (suc n) k s h e =
+  laying-step zero next k then s h e a b = absurd (omega arith)
+  laying-step (suc n) next k then s h e a b =
       let r = s.room in
       let on : at + block_size (drop at d) ≡ at + 2 + k = omega arith in
       let behind : after_block (drop at d) ≡ drop (at + 2 + k) d = behind-one d at ∙ ap (λ (i : ℕ). drop i d) on in
@@ -112,7 +112,7 @@ module _ (d ps : List ℕ) (from count : ℕ) (out : List ℕ) (at word : ℕ) w
       let two : set (set out word (at + 2)) (word + 1) k ≡ put out word ((at + 2) ∷ k ∷ []) = two-put out word (at + 2) k (omega arith) in
       let whole : put out word ((at + 2) ∷ k ∷ places_at n (at + 2 + k) (drop (at + 2 + k) d)) ≡ put ps 0 (places_at count from (drop from d)) =
       rw (on, behind, ← e) at s.makes in
-      rw sub-one
+      rw (a, sub-one, b)
       (record {
         room = omega arith;
         kept = q ∙ m ∙ s.kept;

@@ -1,9 +1,9 @@
 // A datagram taken by the receiver and the places of all messages that it delivers, in one call, for hosts in other
 // languages. It has a crate of its own, so that the reader has one caller there and is compiled into it.
 // `include/eiderwagon.h` says what the function takes and answers.
-#![tactic(auto, using(crate::proofs::Rules::behind, crate::proofs::Rules::calls, crate::proofs::Rules::delivering, crate::proofs::Rules::finding, crate::proofs::Rules::passing))]
+#![tactic(auto, using(crate::proofs::Rules::answering, crate::proofs::Rules::behind, crate::proofs::Rules::delivering, crate::proofs::Rules::finding, crate::proofs::Rules::laying, crate::proofs::Rules::passing))]
 
-ghost use Rattle.std.specs.Prelude.{◌≡◌, [], ◌∷◌, true, ◌+◌, ◌-◌, ◌*◌, ◌≤◌, length, drop, ltb};
+ghost use Rattle.std.specs.Prelude.{◌≡◌, [], ◌∷◌, true, ◌+◌, ◌-◌, ◌*◌, ◌≤◌, length, drop, Ok};
 ghost use Rattle.wire.specs.Bounds.{length_size};
 ghost use Rattle.wire.specs.Output.{put};
 ghost use Rattle.moldudp64.specs.Header.{header_size};
@@ -22,7 +22,6 @@ use moldudp64::downstream::Downstream;
 use moldudp64::{downstream, header};
 use receiver::receiver::Answer;
 use wire::kinds::{LENGTH_SIZE, MessageCount, MessagePlace};
-use wire::refusal::Refusal;
 
 // Words of a place: the offset of a message's first data byte in the datagram, and its length.
 const PLACE_WORDS: usize = 2;
@@ -39,16 +38,8 @@ fn delivery_of(answer: Answer) -> Delivery
     ensures { Finds result.count.0 result.skipped.0 (answer_words answer) }
 {
     match answer {
-        Answer::Deliver {
-            first: _,
-            count,
-            skipped,
-        } => Delivery { count, skipped },
-        Answer::Old => NOTHING,
-        Answer::Quiet => NOTHING,
-        Answer::Ask { from: _, count: _ } => NOTHING,
-        Answer::Ended => NOTHING,
-        Answer::Refused(_) => NOTHING,
+        Answer::Deliver { count, skipped, .. } => Delivery { count, skipped },
+        _ => NOTHING,
     }
 }
 
@@ -68,7 +59,7 @@ fn length_at(datagram: &[u8], at: usize) -> u16
 fn join(high: u8, low: u8) -> u16
     ensures { result ≡ high * 256 + low }
 {
-    (high as u16) * 256 + (low as u16)
+    u16::from(high) * 256 + u16::from(low)
 }
 
 // The place behind so many blocks, which are there.
@@ -79,7 +70,7 @@ fn behind_blocks(datagram: &[u8], blocks: u16) -> usize
 {
     let mut at = header::SIZE;
     for _ in 0..blocks {
-        at += length_at(datagram, at) as usize + LENGTH_SIZE;
+        at += usize::from(length_at(datagram, at)) + LENGTH_SIZE;
     }
     at
 }
@@ -92,14 +83,13 @@ fn lay_places(datagram: &[u8], from: usize, count: u16, places: &mut [u64])
         ≡ put places.old 0 (places_at count from (drop from datagram.now)) }
 {
     let mut at = from;
-    let mut word: usize = 0;
-    for _ in 0..count {
-        let length = length_at(datagram, at) as usize;
+    for index in 0..count {
+        let word = PLACE_WORDS * usize::from(index);
+        let length = usize::from(length_at(datagram, at));
         at += LENGTH_SIZE;
         places[word] = at as u64;
         places[word + 1] = length as u64;
         at += length;
-        word += PLACE_WORDS;
     }
 }
 
@@ -113,13 +103,6 @@ fn lay_behind(datagram: &[u8], count: u16, skipped: u16, places: &mut [u64])
     lay_places(datagram, behind_blocks(datagram, skipped), count, places);
 }
 
-// Whether an array of so many words is too short for the places of so many messages.
-fn few(lent: usize, count: u16) -> bool
-    ensures { result ≡ ltb lent (2 * count) }
-{
-    lent < PLACE_WORDS * count as usize
-}
-
 // Answers by an answer's words, and lays the places of what it delivers: its blocks are there. Too few places are known
 // before anything is laid.
 fn lay_answer(answer: Answer, datagram: &[u8], words: &mut [u64], places: &mut [u64]) -> u32
@@ -130,7 +113,8 @@ fn lay_answer(answer: Answer, datagram: &[u8], words: &mut [u64], places: &mut [
     let delivery = delivery_of(answer);
     let count = delivery.count.0;
     let skipped = delivery.skipped.0;
-    let said = host_answers::or_short(answers::answer_words(answer), few(places.len(), count));
+    let few = places.len() < PLACE_WORDS * usize::from(count);
+    let said = host_answers::or_short(answers::answer_words(answer), few);
     let code = host_answers::answer(words, said);
     if code != 0 {
         return code;
@@ -142,18 +126,17 @@ fn lay_answer(answer: Answer, datagram: &[u8], words: &mut [u64], places: &mut [
 // Takes a datagram that was read, with a state that is long enough.
 fn deliver_read(
     state: &mut [u8],
-    packet: Result<Downstream, Refusal>,
+    packet: Downstream,
     datagram: &[u8],
     words: &mut [u64],
     places: &mut [u64],
 ) -> u32
-    requires { (downstream_words packet ≡ downstream_of datagram.now) × ((downstream_words packet).refusal ≡ 0)
-        × (receiver_size ≤ length state.old) }
+    requires { (downstream_words (Ok packet) ≡ downstream_of datagram.now) × (receiver_size ≤ length state.old) }
     ensures delivers_datagram { DeliversDatagram result state.old state.new datagram.now
         words.old words.new places.old places.new }
     ensures refuses { RefusesOnly result (11 ∷ 12 ∷ 13 ∷ 14 ∷ 15 ∷ 16 ∷ 17 ∷ 18 ∷ 20 ∷ 41 ∷ []) }
 {
-    let taken = host_receiver::read(state).take_read(packet, datagram);
+    let taken = host_receiver::read(state).take_read(Ok(packet), datagram);
     let code = lay_answer(taken.answer, datagram, words, places);
     host_receiver::write(state, code, taken.receiver)
 }
@@ -175,10 +158,10 @@ pub extern "C" fn eiderwagon_receiver_deliver(
     ensures hands_on { HandsOn }
     ensures not_vacuous { HandedExample }
 {
-    let packet = downstream::read(datagram);
-    if let Err(unread) = packet {
-        return u32::from(unread.number);
-    }
+    let packet = match downstream::read(datagram) {
+        Ok(packet) => packet,
+        Err(r) => return u32::from(r.number),
+    };
     if state.len() < host_receiver::SIZE {
         return host_answers::SHORT;
     }

@@ -3,11 +3,12 @@ use Prim.Native.Nat.{ℕ}
 use mathlib.Core.List.{List, [], ◌∷◌}
 use mathlib.Core.Bool.{Bool}
 use mathlib.Core.Path.{◌≡◌, refl, ◌∙◌}
+use Rattle.wire.proofs.Words.{refusal-of}
 use Rattle.std.specs.Prelude.{Result, Err}
 use Rattle.wire.specs.declared.refusal.Refusal.{Refusal}
-use Rattle.wire.proofs.Words.{refusal-of}
 use Rattle.moldudp64.specs.declared.downstream.Downstream.{Downstream}
 use Rattle.moldudp64.specs.Downstream.{refusal_of, downstream_of, downstream_words}
+use Rattle.moldudp64.proofs.DownstreamLaws.{refusal-found}
 use Rattle.receiver.specs.declared.receiver.Receiver.{Receiver}
 use Rattle.receiver.specs.declared.receiver.Answer.{Answer}
 use Rattle.receiver.specs.Table.{answer_words}
@@ -16,7 +17,7 @@ use Rattle.receiver.proofs.ReadLaws.{read-as-whole}
 use Rattle.host_answers.specs.Answers.{or_else, short, is_one_of, RefusesOnly, AnswersWith}
 use Rattle.host_answers.proofs.OnlyLaws.{only_ending, answers-only, only-within, within}
 use Rattle.host_receiver.proofs.RefusalLaws.{said-refusal, receiver-only}
-use Rattle.host_cursor.proofs.DatagramLaws.{datagram_grounds, datagram-only, unread-ground}
+use Rattle.host_cursor.proofs.DatagramLaws.{datagram_grounds, datagram-only}
 
 abbrev take_list : List ℕ
 take_list = 11 ∷ 12 ∷ 13 ∷ 14 ∷ 15 ∷ 16 ∷ 17 ∷ 18 ∷ 20 ∷ 41 ∷ []
@@ -27,8 +28,8 @@ read_only d = only-within (refusal_of d) datagram_grounds take_list (datagram-on
 
 -- of a datagram d, which the reader read as p
 module _ (d : List ℕ) (p : Result Downstream Refusal) (e : downstream_words p ≡ downstream_of d) where
-  pub unread-only : (x : Refusal) → p ≡ Err x → RefusesOnly x.number (11 ∷ 12 ∷ 13 ∷ 14 ∷ 15 ∷ 16 ∷ 17 ∷ 18 ∷ 20 ∷ 41 ∷ [])
-  unread-only x f = rw (unread-ground d p e x f) (read_only d)
+  pub unread-only : (k : ℕ) → k ≡ (downstream_words p).refusal → RefusesOnly k (11 ∷ 12 ∷ 13 ∷ 14 ∷ 15 ∷ 16 ∷ 17 ∷ 18 ∷ 20 ∷ 41 ∷ [])
+  unread-only k f = rw (refusal-found d p k f e) (read_only d)
 
   pub take-only : (r code h : ℕ) (c : Bool) (x : Receiver) (ws ws' vs : List ℕ) (k : Answer) → answer_words k ≡ answer_read x d (downstream_words p)
       → h ≡ (answer_words k).refusal → AnswersWith code ws ws' h vs → r ≡ or_else code (short c)
@@ -38,6 +39,11 @@ module _ (d : List ℕ) (p : Result Downstream Refusal) (e : downstream_words p 
       let said : answer_words k ≡ answer_of x d = g ∙ rw e (read-as-whole.answers x d) in
       let same : h ≡ refusal_for x d = f ∙ refusal-of said ∙ said-refusal x d in
       only_ending r code c take_list q (answers-only code h ws ws' vs take_list t (rw same (receiver-only x d (read_only d))) refl) refl
+
+pub refused-only : (d : List ℕ) (x : Refusal) (k : ℕ) → downstream_words (Err x) ≡ downstream_of d → k ≡ x.number
+    → RefusesOnly k (11 ∷ 12 ∷ 13 ∷ 14 ∷ 15 ∷ 16 ∷ 17 ∷ 18 ∷ 20 ∷ 41 ∷ [])
+unfolding downstream_words
+refused-only d x k e f = unread-only d (Err x) e k f
 
 pub short-only : RefusesOnly 41 (11 ∷ 12 ∷ 13 ∷ 14 ∷ 15 ∷ 16 ∷ 17 ∷ 18 ∷ 20 ∷ 41 ∷ [])
 unfolding is_one_of

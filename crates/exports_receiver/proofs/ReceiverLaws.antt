@@ -13,8 +13,7 @@ use Rattle.std.specs.Prelude.{Result, Ok, Err}
 use Rattle.wire.specs.declared.refusal.Refusal.{Refusal}
 use Rattle.moldudp64.specs.declared.downstream.Downstream.{Downstream}
 use Rattle.moldudp64.specs.Downstream.{refusal_of, downstream_of, downstream_words}
-use Rattle.moldudp64.proofs.DownstreamLaws.{refusal-found, read_well}
-use Rattle.host_cursor.proofs.DatagramLaws.{unread-ground, unread-is}
+use Rattle.moldudp64.proofs.DownstreamLaws.{refusal-found, no_refusal, read-badly}
 use Rattle.receiver.specs.declared.receiver.Receiver.{Receiver}
 use Rattle.receiver.specs.declared.receiver.Taken.{Taken}
 use Rattle.receiver.specs.Table.{answer_words}
@@ -32,32 +31,41 @@ pub starts-receiver : (s name : List ℕ) (n limit g h : ℕ) (x : Receiver) (r 
     → KeepsReceiver (on_code r) l m x → StartsReceiver r s n limit l m
 starts-receiver s name n limit g h x r l m a b c e f k = record { returns = f ∙ rw (e, b); keeps = rw (← a, ← c) k }
 
--- ---- a datagram d, which the reader read as p
+-- ---- a datagram d, which the reader read as p, with the refusal k
 
-module _ (d l ws : List ℕ) (p : Result Downstream Refusal) (e : downstream_words p ≡ downstream_of d) where
-  pub takes-unread : (x : Refusal) → p ≡ Err x → TakesDatagram x.number l l d ws ws
+module _ (d l ws : List ℕ) (p : Result Downstream Refusal) (k : ℕ) (e : downstream_words p ≡ downstream_of d) (f : k ≡ (downstream_words p).refusal) where
+  unread : k ≡ refusal_of d
+  unread = refusal-found d p k f e
+
+  pub takes-unread : (k ≡ 0 → ⊥) → TakesDatagram k l l d ws ws
   unfolding on_success
-  takes-unread x f =
-      let unread = unread-ground d p e x f in
-      let z = unread-is d p e x f in
+  takes-unread z =
       let n : refusal_of d ≡ 0 → ⊥ = λ y. z (unread ∙ y) in
       let first : refusal_of d ≡ state_ladder (refusal_of d) (ltb (length l) receiver_size) (answer_of (receiver_in l) d).refusal = or-first (refusal_of d) _ n in
       record {
         answers = record { returns = unread ∙ or-first (refusal_of d) (short (ltb (length ws) (length (words_of answer_number 4 (answer_of (receiver_in l) d))))) n ∙ ap (λ (g : ℕ). or_else g (short (ltb (length ws) (length (words_of answer_number 4 (answer_of (receiver_in l) d)))))) first; words = rw (ne_eqb _ _ z) };
-        keeps = not_taken d l x.number z;
+        keeps = not_taken d l k z;
       }
 
-  pub takes-short : (y : Downstream) → p ≡ Ok y → length l < receiver_size → TakesDatagram 41 l l d ws ws
+  pub takes-short : k ≡ 0 → length l < receiver_size → TakesDatagram 41 l l d ws ws
   unfolding on_success or_else short
-  takes-short y f h =
+  takes-short z h =
       record {
-        answers = record { returns = rw (read_well d p e y f, lt-ltb (length l) receiver_size h); words = refl };
+        answers = record { returns = rw (← unread, z, lt-ltb (length l) receiver_size h); words = refl };
         keeps = not_taken d l 41 (λ n. omega arith);
       }
 
-module _ (d l ws : List ℕ) (p : Result Downstream Refusal) (e : downstream_words p ≡ downstream_of d) (none : (downstream_words p).refusal ≡ 0) where
+-- what was read as a refusal has one
+pub takes-refused : (d l ws : List ℕ) (x : Refusal) (k : ℕ) → downstream_words (Err x) ≡ downstream_of d → k ≡ x.number → TakesDatagram k l l d ws ws
+unfolding downstream_words
+takes-refused d l ws x k e f = takes-unread d l ws (Err x) k e f (λ z. read-badly d (Err x) e x refl (sym (refusal-found d (Err x) k f e) ∙ z))
+
+module _ (d l ws : List ℕ) (packet : Downstream) (e : downstream_words (Ok packet) ≡ downstream_of d) where
+  abbrev p : Result Downstream Refusal
+  p = Ok packet
+
   well : refusal_of d ≡ 0
-  well = sym (refusal-found d p _ refl e) ∙ none
+  well = sym (refusal-found d p _ refl e) ∙ no_refusal packet
 
   module _ (x : Receiver) (is : x ≡ receiver_in l) (t : Taken) (room : receiver_size ≤ length l)
       (g : answer_words t.answer ≡ answer_read x d (downstream_words p)) (h : t.receiver ≡ after_read x d (downstream_words p)) where

@@ -1,5 +1,5 @@
 -- A run of calls is the run of the receiver, and gives what it delivers.
-use Prim.Native.Nat.{ℕ, ◌+◌, ◌<◌, ◌≤◌}
+use Prim.Native.Nat.{ℕ, ◌<◌, ◌≤◌}
 use mathlib.Core.List.{List, [], ◌∷◌, ◌++◌}
 use mathlib.Core.Bool.{Bool, true, false}
 use mathlib.Core.Path.{◌≡◌, refl, ap, sym, ◌∙◌, subst}
@@ -14,7 +14,7 @@ use Rattle.wire.specs.Refusals.{bad_setting}
 use Rattle.wire.specs.Words.{says}
 use Rattle.wire.specs.Parts.{first_bytes}
 use Rattle.receiver.specs.declared.receiver.Receiver.{Receiver}
-use Rattle.receiver.specs.Table.{deliver, ended}
+use Rattle.receiver.specs.Table.{deliver}
 use Rattle.receiver.specs.Receiver.{refusal_for, receiver_start_refusal, start_receiver, answer_of, receiver_after}
 use Rattle.receiver.specs.Delivery.{messages_delivered, delivery_cursor, DeliveryVisits}
 use Rattle.feed.specs.Session.{Datagram, Message, Session, OfKind, AllOfKind, messages_from}

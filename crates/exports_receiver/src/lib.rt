@@ -2,7 +2,7 @@
 // `include/eiderwagon.h` says what each function takes and answers.
 #![tactic(auto, using(crate::proofs::Rules::cursors, crate::proofs::Rules::receivers))]
 
-ghost use Rattle.std.specs.Prelude.{◌≡◌, [], ◌∷◌, ◌≤◌, length};
+ghost use Rattle.std.specs.Prelude.{◌≡◌, [], ◌∷◌, ◌≤◌, length, Ok};
 ghost use Rattle.moldudp64.specs.Downstream.{downstream_of, downstream_words};
 ghost use Rattle.receiver.specs.Delivery.{delivery_cursor};
 ghost use Rattle.host_answers.specs.Answers.{RefusesOnly};
@@ -16,11 +16,9 @@ ghost use Rattle.exports_receiver.specs.Example.{HandedExample};
 use host_receiver::answers;
 use moldudp64::downstream;
 use moldudp64::downstream::Downstream;
-use moldudp64_messages::cursor::Cursor;
 use receiver::delivery;
 use receiver::receiver::Receiver;
 use wire::kinds::{MessageCount, MessagePlace, SESSION_SIZE, SequenceNumber};
-use wire::refusal::Refusal;
 use wire::{parts, refusal};
 
 // Starts a receiver.
@@ -42,30 +40,23 @@ pub extern "C" fn eiderwagon_receiver_start(
         SequenceNumber(next),
         MessageCount(limit),
     );
-    let receiver = started.receiver;
     let refused = host_answers::unless_sized(
         session.len(),
         SESSION_SIZE,
         refusal::BAD_SETTING,
         started.refusal,
     );
-    host_receiver::write(state, u32::from(refused.number), receiver)
+    host_receiver::write(state, u32::from(refused.number), started.receiver)
 }
 
 // Takes a datagram that was read, with a state that is long enough.
-fn take_read(
-    state: &mut [u8],
-    packet: Result<Downstream, Refusal>,
-    datagram: &[u8],
-    words: &mut [u64],
-) -> u32
-    requires { (downstream_words packet ≡ downstream_of datagram.now) × ((downstream_words packet).refusal ≡ 0)
-        × (receiver_size ≤ length state.old) }
+fn take_read(state: &mut [u8], packet: Downstream, datagram: &[u8], words: &mut [u64]) -> u32
+    requires { (downstream_words (Ok packet) ≡ downstream_of datagram.now) × (receiver_size ≤ length state.old) }
     ensures takes_datagram { TakesDatagram result state.old state.new datagram.now
         words.old words.new }
     ensures refuses { RefusesOnly result (11 ∷ 12 ∷ 13 ∷ 14 ∷ 15 ∷ 16 ∷ 17 ∷ 18 ∷ 20 ∷ 41 ∷ []) }
 {
-    let taken = host_receiver::read(state).take_read(packet, datagram);
+    let taken = host_receiver::read(state).take_read(Ok(packet), datagram);
     let code = host_answers::answer(words, answers::answer_words(taken.answer));
     host_receiver::write(state, code, taken.receiver)
 }
@@ -82,10 +73,10 @@ pub extern "C" fn eiderwagon_receiver_take(
     ensures refuses { RefusesOnly result (11 ∷ 12 ∷ 13 ∷ 14 ∷ 15 ∷ 16 ∷ 17 ∷ 18 ∷ 20 ∷ 41 ∷ []) }
     ensures tells_apart { AnswerNumbersApart }
 {
-    let packet = downstream::read(datagram);
-    if let Err(unread) = packet {
-        return u32::from(unread.number);
-    }
+    let packet = match downstream::read(datagram) {
+        Ok(packet) => packet,
+        Err(r) => return u32::from(r.number),
+    };
     if state.len() < host_receiver::SIZE {
         return host_answers::SHORT;
     }
@@ -104,6 +95,6 @@ pub extern "C" fn eiderwagon_receiver_walk(
         (delivery_cursor datagram.now count skipped) }
     ensures refuses { RefusesOnly result (41 ∷ []) }
 {
-    let first: Cursor = delivery::start(datagram, MessageCount(count), MessagePlace(skipped));
+    let first = delivery::start(datagram, MessageCount(count), MessagePlace(skipped));
     host_cursor::write(cursor, 0, first)
 }

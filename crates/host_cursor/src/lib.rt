@@ -32,16 +32,13 @@ const NO_MESSAGES: Cursor = Cursor {
 pub fn read(state: &[u8]) -> Cursor
     ensures { result ≡ cursor_in state.now }
 {
-    if state.len() < SIZE {
+    if state.len() < SIZE || !host_states::is_open(state, CURSOR) {
         return NO_MESSAGES;
     }
-    if host_states::is_open(state, CURSOR) {
-        return Cursor {
-            at: ByteOffset(little::get64(state, PLACE_AT) as usize),
-            left: MessageCount(little::get16(state, LEFT_AT)),
-        };
+    Cursor {
+        at: ByteOffset(little::get64(state, PLACE_AT) as usize),
+        left: MessageCount(little::get16(state, LEFT_AT)),
     }
-    NO_MESSAGES
 }
 
 // Lays the two numbers of a cursor where there is room for them.

@@ -65,10 +65,9 @@ pub fn write(state: &mut [u8], code: u32, receiver: Receiver) -> u32
     if kept != 0 {
         return kept;
     }
-    let session = receiver.session;
     put_fields(
         state,
-        session,
+        receiver.session,
         receiver.next.0,
         receiver.limit.0,
         receiver.ended,

@@ -32,16 +32,13 @@ const PAST_ALL: Progress = Progress {
 pub fn read(state: &[u8]) -> Progress
     ensures { result ≡ progress_in state.now }
 {
-    if state.len() < SIZE {
+    if state.len() < SIZE || !host_states::is_open(state, TRANSMITTER) {
         return PAST_ALL;
     }
-    if host_states::is_open(state, TRANSMITTER) {
-        return Progress {
-            messages: little::get64(state, MESSAGES_AT) as usize,
-            bytes: little::get64(state, BYTES_AT) as usize,
-        };
+    Progress {
+        messages: little::get64(state, MESSAGES_AT) as usize,
+        bytes: little::get64(state, BYTES_AT) as usize,
     }
-    PAST_ALL
 }
 
 // Lays the two numbers of a progress where there is room for them.

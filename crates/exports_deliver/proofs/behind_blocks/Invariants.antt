@@ -1,4 +1,4 @@
--- What is still to pass makes the whole.
+-- What is left behind the blocks from any of them on is what is left behind all.
 use Prim.Native.Nat.{◌-◌}
 use Rattle.exports_deliver.proofs.LayLaws.{Passing}
 use Rattle.exports_deliver.proofs.behind_blocks.Given as goal
