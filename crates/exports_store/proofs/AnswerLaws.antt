@@ -3,12 +3,12 @@
 use Prim.Native.Nat.{ℕ, ◌+◌, ◌-◌, ◌≤◌}
 use mathlib.Core.List.{List, [], ◌∷◌, append-nil}
 use mathlib.Core.Bool.{Bool, true, false, not, ◌||◌}
-use mathlib.Core.Path.{◌≡◌, refl, sym, ◌∙◌}
+use mathlib.Core.Path.{◌≡◌, refl, ap, sym, ◌∙◌}
 use native.Mathlib.Omega.{arith}
 use lib.ListN.{length, drop, drop_of_length-le, length-drop}
 use lib.Seq.{take_all, drop-length}
 use lib.Dec.{ltb, leb, eqb}
-use borrow.Author.Tests.{ne_eqb, not-true, not-false}
+use borrow.Author.Tests.{eq-eqb, ne_eqb}
 use borrow.Rule.Slice.PartMut.{mid_of, put_mid}
 use Rattle.std.specs.Prelude.{if◌then◌else◌}
 use Rattle.wire.specs.Refusals.{output_short, store_differs, not_in_store, message_long}
@@ -16,7 +16,6 @@ use Rattle.wire.specs.Bounds.{session_size}
 use Rattle.wire.specs.Bytes.{same_bytes}
 use Rattle.wire.specs.Output.{written_words, put, write_refusal, write_output, Writes}
 use Rattle.wire.specs.Output.{Written}
-use Rattle.std.specs.Prelude.{Ok, Err}
 use Rattle.wire.specs.Parts.{first_bytes}
 use Rattle.wire.proofs.Cases.{zero_or_not}
 use Rattle.wire.proofs.Numbers.{part_to_end}
@@ -30,22 +29,22 @@ use Rattle.host_answers.specs.Answers.{or_else, short, lent_from, padded, behind
 use Rattle.host_answers.proofs.AnswerLaws.{or-first, or-next, no-success, behind-own}
 use Rattle.host_answers.proofs.WritingLaws.{writing-plain}
 use Rattle.exports_store.specs.Answer.{named_store}
-use Rattle.exports_store.proofs.RefusalLaws.{store-at-most, request-at-most}
+use Rattle.exports_store.proofs.RefusalLaws.{written-said, store-at-most, request-at-most}
 
 -- ---- with a name
 
-is-ten : (s : List ℕ) → not (eqb (length s) session_size) ≡ false → eqb (length s) session_size ≡ true
-is-ten s e = not-false _ e
+is-ten : (s : List ℕ) → length s ≡ session_size → eqb (length s) session_size ≡ true
+is-ten s e = eq-eqb (length s) session_size e
 
 pub named-reported : (ws ws' l m : List ℕ) (w : Written) (r n from : ℕ) (s t ks d : List ℕ) (size : ℕ) (q : List ℕ) → t ≡ first_bytes session_size s
-    → from ≡ lent_from (not (eqb (length s) session_size) || ltb (length ws) 1) (length l) → not (eqb (length s) session_size) ≡ false
+    → from ≡ lent_from (not (eqb (length s) session_size) || ltb (length ws) 1) (length l) → length s ≡ session_size
     → AnswersWith r ws ws' (or_else (written_words w).refusal (short false)) (padded 1 (written_words w).values)
     → Writes w (mid_of from (length l - from) l) m (answer_ground (store t n ks d) size q) 0 (answer_bytes (store t n ks d) size q)
     → AnswersWriting r ws ws' l (put_mid from (length l - from) l m) (named_store s (store (first_bytes session_size s) n ks d) size q)
     (answer_bytes (store (first_bytes session_size s) n ks d) size q)
 unfolding named_store
 named-reported ws ws' l m w r n from s t ks d size q a e u h f =
-    rw (is-ten s u, ← a) (writing-plain ws l _ from _ w r ws' m h (rw u at e) f)
+    rw (is-ten s u, ← a) (writing-plain ws l _ from _ w r ws' m h (rw (is-ten s u) at e) f)
 
 -- ---- without one
 
@@ -101,16 +100,6 @@ cut-ladder st size q l bs =
 never-zero : (g : ℕ) → or_else g output_short ≡ 0 → ⊥
 never-zero g e = zero_or_not ⊥ g (λ z. let f : output_short ≡ 0 = or-next g output_short z ∙ e in omega arith) (λ z. z (or-first g output_short z ∙ e))
 
--- a writer's refusal as it was said
-said-so : (w : Written) → (written_words w).refusal ≡ said_refusal w
-unfolding written_words said_refusal
-said-so (Ok n) = refl
-said-so (Err r) = refl
-
-pub nameless-says : (w v : Written) → said_refusal v ≡ behind_stateless true 48 (said_refusal w)
-    → (written_words v).refusal ≡ behind_stateless true 48 (written_words w).refusal
-nameless-says w v e = rw (said-so w, said-so v) e
-
 -- nothing is laid into nothing
 into : (x : List ℕ) → put [] 0 x ≡ []
 into [] = put-empty [] 0
@@ -143,8 +132,11 @@ none_lent : (l : List ℕ) → mid_of (length l) (length l - length l) l ≡ []
 none_lent l = part_to_end (length l) l ∙ drop-length l
 
 module _ (ws ws' l m : List ℕ) (w w' : Written) (r : ℕ) (st : Store) (size : ℕ) (q vs bs : List ℕ)
-    (e : (written_words w').refusal ≡ behind_stateless true 48 (written_words w).refusal)
+    (said : said_refusal w' ≡ behind_stateless true 48 (said_refusal w))
     (a : AnswersWith r ws ws' (or_else (written_words w').refusal (short true)) vs) where
+  e : (written_words w').refusal ≡ behind_stateless true 48 (written_words w).refusal
+  e = rw (written-said w', written-said w) said
+
   cut-reported : Writes w [] m (answer_ground st size q) 0 bs
       → AnswersWriting r ws ws' l (put_mid (length l) (length l - length l) l m) (cut_ladder st size q) bs
   unfolding short
@@ -155,21 +147,21 @@ module _ (ws ws' l m : List ℕ) (w w' : Written) (r : ℕ) (st : Store) (size :
       let z : cut_ladder st size q ≡ 0 → ⊥ = never-zero _ in
       refused-so r _ ws ws' l _ bs vs (b.returns ∙ sym (or-first _ _ z)) z b (from_end l m (x.leaves ∙ into-nothing (answer_ground st size q) bs))
 
-isnt-ten : (s : List ℕ) → not (eqb (length s) session_size) ≡ true → eqb (length s) session_size ≡ false
-isnt-ten s e = not-true _ e
+isnt-ten : (s : List ℕ) → (length s ≡ session_size → ⊥) → eqb (length s) session_size ≡ false
+isnt-ten s e = ne_eqb (length s) session_size e
 
 lent-at-end : (from n : ℕ) (u b : Bool) → u ≡ true → from ≡ lent_from (u || b) n → from ≡ n
 unfolding lent_from
 lent-at-end from n u b e f = rw e at f
 
 pub nameless-reported : (ws ws' l m : List ℕ) (w w' : Written) (r n from : ℕ) (s t ks d : List ℕ) (size : ℕ) (q : List ℕ) → t ≡ first_bytes session_size s
-    → from ≡ lent_from (not (eqb (length s) session_size) || ltb (length ws) 1) (length l) → not (eqb (length s) session_size) ≡ true
-    → (written_words w').refusal ≡ behind_stateless true 48 (written_words w).refusal
+    → from ≡ lent_from (not (eqb (length s) session_size) || ltb (length ws) 1) (length l) → (length s ≡ session_size → ⊥)
+    → said_refusal w' ≡ behind_stateless true 48 (said_refusal w)
     → AnswersWith r ws ws' (or_else (written_words w').refusal (short true)) (padded 1 (written_words w').values)
     → Writes w (mid_of from (length l - from) l) m (answer_ground (store t n ks d) size q) 0 (answer_bytes (store t n ks d) size q)
     → AnswersWriting r ws ws' l (put_mid from (length l - from) l m) (named_store s (store (first_bytes session_size s) n ks d) size q)
     (answer_bytes (store (first_bytes session_size s) n ks d) size q)
 unfolding named_store
 nameless-reported ws ws' l m w w' r n from s t ks d size q a e u k h f =
-    let z : from ≡ length l = lent-at-end from (length l) _ _ u e in
+    let z : from ≡ length l = lent-at-end from (length l) _ _ (ap not (isnt-ten s u)) e in
     rw (isnt-ten s u, ← a, z) (cut-reported ws ws' l m w w' r (store t n ks d) size q _ _ k h (rw (z, none_lent l) at f))

@@ -8,6 +8,7 @@ use lib.Dec.{ltb, leb, eqb}
 use Rattle.wire.specs.Refusals.{output_short}
 use Rattle.wire.specs.Bytes.{same_bytes}
 use Rattle.wire.specs.Output.{written_words, write_refusal, Writes}
+use Rattle.std.specs.Prelude.{Ok, Err}
 use Rattle.wire.specs.Output.{Written}
 use Rattle.wire.proofs.Words.{refusal-of}
 use Rattle.wire.proofs.Outputs.{answer-refusal}
@@ -17,7 +18,7 @@ use Rattle.moldudp64.specs.Request.{request_ground, request_refusal, request_ses
 use Rattle.moldudp64_writer.specs.Writer.{add_up}
 use Rattle.packing.specs.Fit.{size_ground, least_size, largest_size, room_of, fits_alone}
 use Rattle.store.specs.Store.{Store, store, numbers_ground, store_ground, in_store, length_at, answer_ground}
-use Rattle.host_answers.specs.Answers.{or_else, short, is_one_of, behind_stateless, RefusesOnly, AnswersWith}
+use Rattle.host_answers.specs.Answers.{or_else, short, is_one_of, behind_stateless, said_refusal, RefusesOnly, AnswersWith}
 use Rattle.host_answers.proofs.OnlyLaws.{only_if, only-or, only-short, only-within, only-at-most, within, at_most, answers-only, reported-only}
 
 abbrev answer_list : List ℕ
@@ -73,6 +74,12 @@ pub answer-only : (r n : ℕ) (b : Bool) (w : Written) (ws ws' vs l m bs t ks d 
 unfolding is_one_of
 answer-only r n b w ws ws' vs l m bs t ks d size q a x = reported-only r _ b w ws ws' vs l m bs answer_list a x (ladder-only (store t n ks d) size q) refl
 
+-- what a writer's answer refuses
+pub written-said : (w : Written) → (written_words w).refusal ≡ said_refusal w
+unfolding written_words said_refusal
+written-said (Ok size) = refl
+written-said (Err x) = refl
+
 -- and where there is no name
 behind-only : (g : ℕ) → RefusesOnly g answer_list → RefusesOnly (behind_stateless true 48 g) answer_list
 unfolding behind_stateless is_one_of
@@ -83,11 +90,12 @@ unfolding write_refusal is_one_of
 writer_only st size q l bs = only_if (eqb (answer_ground st size q) 0) _ _ answer_list (only_if (leb (0 + length bs) (length l)) 0 output_short answer_list refl refl) (ladder-only st size q)
 
 pub nameless-only : (r n : ℕ) (w w' : Written) (ws ws' vs l m bs t ks d : List ℕ) (size : ℕ) (q : List ℕ)
-    → (written_words w').refusal ≡ behind_stateless true 48 (written_words w).refusal
+    → said_refusal w' ≡ behind_stateless true 48 (said_refusal w)
     → AnswersWith r ws ws' (or_else (written_words w').refusal (short true)) vs → Writes w l m (answer_ground (store t n ks d) size q) 0 bs
     → RefusesOnly r (19 ∷ 44 ∷ 47 ∷ 13 ∷ 48 ∷ 53 ∷ 51 ∷ 52 ∷ 41 ∷ [])
 unfolding is_one_of
-nameless-only r n w w' ws ws' vs l m bs t ks d size q e a x =
+nameless-only r n w w' ws ws' vs l m bs t ks d size q said a x =
+    let e : (written_words w').refusal ≡ behind_stateless true 48 (written_words w).refusal = rw (written-said w', written-said w) said in
     let f : (written_words w).refusal ≡ write_refusal (answer_ground (store t n ks d) size q) l 0 bs = refusal-of x.answers ∙ answer-refusal _ l 0 bs in
     let p : RefusesOnly (written_words w').refusal answer_list = rw (e, f) (behind-only _ (writer_only (store t n ks d) size q l bs)) in
     answers-only r _ ws ws' vs answer_list a (only-or (written_words w').refusal (short true) answer_list p (only-short true answer_list refl)) refl

@@ -1,30 +1,20 @@
 // A branch store for hosts in other languages. `include/eiderwagon.h` says what the function takes and answers.
 // Document 02 has no ground for a session of another size: it is 41 here.
-#![tactic(auto, using(crate::proofs::Rules::answers, crate::proofs::Rules::names))]
+#![tactic(auto, using(crate::proofs::Rules::answers))]
 
-ghost use Rattle.std.specs.Prelude.{[], ◌∷◌, true, ◌≡◌};
+ghost use Rattle.std.specs.Prelude.{[], ◌∷◌};
 ghost use Rattle.wire.specs.Bounds.{session_size};
-ghost use Rattle.wire.specs.Output.{written_words};
 ghost use Rattle.wire.specs.Parts.{first_bytes};
 ghost use Rattle.store.specs.Store.{store, answer_bytes};
-ghost use Rattle.host_answers.specs.Answers.{behind_stateless, RefusesOnly, AnswersWriting};
+ghost use Rattle.host_answers.specs.Answers.{RefusesOnly, AnswersWriting};
 ghost use Rattle.exports_store.specs.Answer.{named_store};
 
 use host_answers::WRITTEN_WORDS;
 use wire::kinds::{SESSION_SIZE, SequenceNumber};
-use wire::refusal::Refusal;
 use wire::{parts, refusal};
 
 // The last refusal that needs no name: those behind it in the ladder have larger numbers, or are 41 themselves.
 const LAST_OF_REQUEST: u8 = refusal::REQUEST_COUNT.number;
-
-// What a store without a name answers: 41 in place of every refusal behind the request's own. Nothing was lent to it to
-// write into.
-fn nameless(written: Result<usize, Refusal>) -> Result<usize, Refusal>
-    ensures { (written_words result).refusal ≡ behind_stateless true 48 (written_words written).refusal }
-{
-    host_answers::behind_stateless(true, LAST_OF_REQUEST, written)
-}
 
 // Answers a request with one packet of at most a size.
 #[unsafe(no_mangle)]
@@ -59,8 +49,10 @@ pub extern "C" fn eiderwagon_store_answer(
         size as usize,
         request,
     );
+    // without a name it is 41 in place of every refusal behind the request's own
     if unnamed {
-        return host_answers::answer_written(words, true, nameless(written));
+        let nameless = host_answers::behind_stateless(true, LAST_OF_REQUEST, written);
+        return host_answers::answer_written(words, true, nameless);
     }
     host_answers::answer_written(words, false, written)
 }

@@ -12,11 +12,11 @@ use Rattle.wire.specs.Bounds.{session_size}
 use Rattle.wire.specs.Refusals.{output_short}
 use Rattle.wire.specs.Output.{written_words, write_refusal, Writes}
 use Rattle.wire.specs.Output.{Written}
-use Rattle.wire.specs.Parts.{first_bytes}
-use Rattle.std.specs.Prelude.{⊤, Result, Ok, Err}
-use Rattle.wire.specs.declared.refusal.Refusal.{Refusal}
+use Rattle.std.specs.Prelude.{Result, Ok, Err, ⊤}
 use Rattle.wire.specs.Words.{refused_by}
-use Rattle.wire.proofs.Refusing.{checked, ground-of, has-ground}
+use Rattle.wire.specs.declared.refusal.Refusal.{Refusal}
+use Rattle.wire.proofs.Refusing.{checked, has-ground, ground-of}
+use Rattle.wire.specs.Parts.{first_bytes}
 use Rattle.wire.proofs.Cases.{zero_or_not}
 use Rattle.wire.proofs.Numbers.{part_to_end}
 use Rattle.packing.specs.Fit.{size_ground}
@@ -70,24 +70,28 @@ refused-so r g s ws o bs e z =
       output = no-success r _ o n;
     }
 
--- what the size's check leaves: 41, or its own refusal
-pub size-passes : (c : Result ⊤ Refusal) (u : ⊤) (size : ℕ) → c ≡ refused_by (size_ground size) → c ≡ Ok u → 41 ≡ or_else (size_ground size) (short true)
-unfolding short
-size-passes c u size e f = or-next (size_ground size) output_short (checked c u (size_ground size) e f)
-
-pub size-refuses : (c : Result ⊤ Refusal) (x : Refusal) (size : ℕ) → c ≡ refused_by (size_ground size) → c ≡ Err x → x.number ≡ or_else (size_ground size) (short true)
-size-refuses c x size e f =
-    ground-of c x (size_ground size) e f ∙ or-first (size_ground size) _ (has-ground c x (size_ground size) e f)
-
-pub next-short : (r size n : ℕ) (s ks d l o ws : List ℕ) → length l < progress_size → r ≡ or_else (size_ground size) (short true)
+pub next-short : (r g size n : ℕ) (s ks d l o ws : List ℕ) → length l < progress_size → g ≡ size_ground size → r ≡ or_else g (short true)
     → NextPacket r s size n ks d l l o o ws ws
-next-short r size n s ks d l o ws h f =
-    let g = size_ground size in
-    let q : state_ladder (size_ground size) true (next_ground size n ks d (progress_in l)) ≡ or_else g (short true) = short-ladder g _ in
+next-short r g size n s ks d l o ws h e f =
+    let q : state_ladder (size_ground size) true (next_ground size n ks d (progress_in l)) ≡ or_else g (short true) = rw (← e) (short-ladder g _) in
     record {
       answers = rw (lt-ltb (length l) progress_size h, q) (refused-so r _ s ws o _ f (never g));
       keeps = progress-not _ l r (λ z. never g (sym f ∙ z));
     }
+
+pub next-sized : (size n : ℕ) (s ks d l o ws : List ℕ) (w : Result ⊤ Refusal) (u : ⊤) → length l < progress_size → w ≡ refused_by (size_ground size) → w ≡ Ok u
+    → NextPacket 41 s size n ks d l l o o ws ws
+unfolding short
+next-sized size n s ks d l o ws w u h e f =
+    let z : size_ground size ≡ 0 = checked w u (size_ground size) e f in
+    next-short 41 0 size n s ks d l o ws h (sym z) (or-next 0 (short true) refl)
+
+pub next-unsized : (r size n : ℕ) (s ks d l o ws : List ℕ) (w : Result ⊤ Refusal) (x : Refusal) → length l < progress_size → w ≡ refused_by (size_ground size) → w ≡ Err x
+    → r ≡ x.number → NextPacket r s size n ks d l l o o ws ws
+next-unsized r size n s ks d l o ws w x h e f a =
+    let g = has-ground w x (size_ground size) e f in
+    let b : r ≡ size_ground size = a ∙ ground-of w x (size_ground size) e f in
+    next-short r (size_ground size) size n s ks d l o ws h refl (b ∙ or-first (size_ground size) (short true) g)
 
 -- ---- what a writer answered
 

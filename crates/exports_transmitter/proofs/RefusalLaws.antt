@@ -1,7 +1,12 @@
 -- Which refusals each function gives.
+use Rattle.std.specs.Prelude.{Result, Err, ⊤}
+use Rattle.wire.specs.Words.{refused_by}
+use Rattle.wire.specs.declared.refusal.Refusal.{Refusal}
+use Rattle.wire.proofs.Refusing.{ground-of}
+use mathlib.Core.Path.{◌∙◌}
 use Prim.Native.Nat.{ℕ}
 use mathlib.Core.List.{List, [], ◌∷◌}
-use mathlib.Core.Bool.{Bool, true, not}
+use mathlib.Core.Bool.{Bool, not}
 use mathlib.Core.Path.{◌≡◌, refl}
 use lib.ListN.{length}
 use lib.Dec.{ltb, leb, eqb}
@@ -59,9 +64,15 @@ pub start-only : (r g size n : ℕ) (ks d : List ℕ) (b : Bool) → g ≡ run_g
 unfolding is_one_of
 start-only r g size n ks d b e f = only_ending r g b start_list f (rw e (run_only size n ks d)) refl
 
-pub short-only : (r size : ℕ) → r ≡ or_else (size_ground size) (short true) → RefusesOnly r (19 ∷ 44 ∷ 13 ∷ 14 ∷ 52 ∷ 54 ∷ 41 ∷ [])
+pub short-only : RefusesOnly 41 (19 ∷ 44 ∷ 13 ∷ 14 ∷ 52 ∷ 54 ∷ 41 ∷ [])
+unfolding is_one_of
+short-only = refl
+
+pub unsized-only : (r size : ℕ) (w : Result ⊤ Refusal) (x : Refusal) → w ≡ refused_by (size_ground size) → w ≡ Err x → r ≡ x.number
+    → RefusesOnly r (19 ∷ 44 ∷ 13 ∷ 14 ∷ 52 ∷ 54 ∷ 41 ∷ [])
 unfolding is_one_of within
-short-only r size f = only_ending r (size_ground size) true packet_list f (only-within (size_ground size) size_list packet_list (size-only size) refl) refl
+unsized-only r size w x e f a =
+    rw (a ∙ ground-of w x (size_ground size) e f) (only-within (size_ground size) size_list packet_list (size-only size) refl)
 
 module _ (code size n : ℕ) (ks d : List ℕ) (b : Bool) (w : Written) (ws ws' vs l m bs : List ℕ) (a : AnswersWith code ws ws' (or_else (written_words w).refusal (short b)) vs) where
   pub packet-only : (place : ℕ) → Writes w l m (transmit_ground size n ks d place) 0 bs → RefusesOnly code (19 ∷ 44 ∷ 13 ∷ 14 ∷ 52 ∷ 54 ∷ 41 ∷ [])

@@ -1,6 +1,6 @@
 // The transmitter for hosts in other languages: a run of messages cut into packets, asked for by place or one after
 // another. `include/eiderwagon.h` says what each function takes and answers.
-#![tactic(auto, using(crate::proofs::Rules::packets))]
+#![tactic(auto, using(crate::proofs::Rules::nexts, crate::proofs::Rules::packets, crate::proofs::Rules::starts))]
 
 ghost use Rattle.std.specs.Prelude.{[], ◌∷◌};
 ghost use Rattle.wire.specs.Bounds.{session_size};
@@ -53,7 +53,6 @@ pub extern "C" fn eiderwagon_transmitter_packet(
 }
 
 // Starts the packets of a run one after another.
-#[tactic(auto, using(crate::proofs::Rules::starts))]
 #[unsafe(no_mangle)]
 pub extern "C" fn eiderwagon_transmitter_start(
     first: u64,
@@ -73,7 +72,6 @@ pub extern "C" fn eiderwagon_transmitter_start(
 }
 
 // Writes the next packet.
-#[tactic(auto, using(crate::proofs::Rules::nexts))]
 #[unsafe(no_mangle)]
 pub extern "C" fn eiderwagon_transmitter_next(
     session: &[u8],
@@ -94,7 +92,7 @@ pub extern "C" fn eiderwagon_transmitter_next(
     if state.len() < host_transmitter::SIZE {
         return match size::check(size as usize) {
             Ok(()) => host_answers::SHORT,
-            Err(refused) => u32::from(refused.number),
+            Err(r) => u32::from(r.number),
         };
     }
     let unnamed = session.len() != SESSION_SIZE;
