@@ -14,8 +14,7 @@ use Rattle.receiver.specs.Witnesses.{NotVacuous, NotWeak}
 use Rattle.soupbintcp_writer.specs.RoundTrips.{EveryPacketWritesBack, PayloadRoundTrip, LetterRoundTrip}
 use Rattle.soupbintcp_writer.specs.RoundTrips.{AcceptedRoundTrip, RejectedRoundTrip, LoginRoundTrip}
 use Rattle.login.specs.declared.account.Account.{Account}
-use Rattle.login.specs.declared.account.Found.{Found}
-use Rattle.login.specs.Account.{VerdictKind, verdict_on}
+use Rattle.login.specs.Account.{Found, found_records, VerdictKind, verdict_on}
 use Rattle.login.specs.Locks.{WrongLocks}
 use Rattle.login.specs.Statements.{AcceptedExactlyWhen, NeverAccepted, OnlyByARecord}
 use Rattle.soupbintcp_server.specs.declared.server.Server.{Server}
@@ -93,7 +92,7 @@ pub record Condition2 : Type 0 where
   -- no record that a caller made up lets in more than a table of that one record would
   pub only_by_a_record : OnlyByARecord
   pub only_by_its_record : (f : Found) (s : Server) (l : List ℕ)
-      → (step_with s (verdict_on f (entry_of l)) l).reply.which ≡ answer accepted → Accepts (f.account ∷ []) s l
+      → (step_with s (verdict_on f (entry_of l)) l).reply.which ≡ answer accepted → Accepts (found_records f) s l
   -- over a stream they are the payloads of U in order; the server's other rows; closed it takes no more; at either end
   -- a message is its packet's payload
   pub server_in_order : (table : List Account) (s : Server) (l : List ℕ)
