@@ -1,6 +1,6 @@
 -- The tender's three conditions by name: the statements that carry them, wherever they stand.
 use Rattle.std.specs.Prelude.{ℕ, ◌+◌, ◌≤◌, ◌≡◌, length}
-use mathlib.Core.List.{List, [], ◌∷◌, Memᴰ}
+use mathlib.Core.List.{List, Memᴰ}
 use Rattle.wire.specs.Bounds.{largest_number}
 use Rattle.wire.specs.Bytes.{joined}
 use Rattle.wire.specs.Words.{Words, answer}

@@ -2,7 +2,7 @@
 // of the next piece. The receiver's lengths and slots are lent to every call, as the one before left them.
 #![tactic(auto, using(crate::proofs::Rules::readings))]
 
-ghost use Rattle.std.specs.Prelude.{◌≡◌, length};
+ghost use Rattle.std.specs.Prelude.{◌≡◌};
 ghost use Rattle.wire.specs.Output.{Writes};
 ghost use Rattle.capture_events.specs.Events.{read_records, read_settings, read_on, waits_at};
 ghost use Rattle.capture_tally.specs.Report.{fresh_of, lent_report};

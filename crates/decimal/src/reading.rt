@@ -1,5 +1,6 @@
 // A number read digit by digit, the most significant first.
 #![tactic(auto, using(crate::proofs::Rules::readings))]
+
 ghost use Rattle.std.specs.Prelude.{◌≡◌};
 ghost use Rattle.decimal.specs.Decimal.{appended_words, append_of, AppendedApart};
 

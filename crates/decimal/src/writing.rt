@@ -1,5 +1,6 @@
 // A number as its digits, without leading zeros.
 #![tactic(auto, using(crate::proofs::Rules::writings))]
+
 ghost use Rattle.wire.specs.Output.{Writes};
 ghost use Rattle.decimal.specs.Decimal.{digits, SpellsNumbers};
 

@@ -13,8 +13,7 @@ use mir.Syntax.{w16, w64}
 use borrow.Author.Tests.{lt-ltb, le-ltb, le-leb, lt-leb, ltb-true, ltb-false, leb-false, not-true, not-false, eq-eqb, eqb-true, eqb-false}
 use Rattle.std.specs.Prelude.{if◌then◌else◌}
 use Rattle.wire.specs.Bytes.{bytes}
-use Rattle.wire.specs.Output.{put, Writes}
-use Rattle.wire.specs.Output.{Written}
+use Rattle.wire.specs.Output.{put}
 use Rattle.wire.specs.declared.kinds.SequenceNumber.{SequenceNumber}
 use Rattle.wire.proofs.Cases.{below_or_not}
 use Rattle.wire.proofs.Outputs.{length-put}

@@ -1,5 +1,5 @@
 -- What the receiver that keeps early messages holds in its slots, and what one message does to it.
-use Rattle.std.specs.Prelude.{ℕ, zero, suc, ◌+◌, ◌-◌, ◌*◌, ◌%◌, min, List, [], ◌∷◌, Bool, false, not, length, get_or, take, drop, set, ltb, leb, eqb, if◌then◌else◌}
+use Rattle.std.specs.Prelude.{ℕ, zero, suc, ◌+◌, ◌-◌, ◌*◌, ◌%◌, min, List, [], ◌∷◌, Bool, false, not, length, take, drop, ltb, leb, eqb, if◌then◌else◌}
 use Rattle.wire.specs.Bounds.{largest_number, count_size}
 use Rattle.wire.specs.Bytes.{number, bytes}
 use Rattle.wire.specs.Output.{put}

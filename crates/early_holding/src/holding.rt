@@ -1,7 +1,7 @@
 // A message kept in its slot, and how far the expected number moves.
 #![tactic(auto, using(crate::proofs::Rules::moves, crate::proofs::Rules::places, crate::proofs::Rules::stores))]
 
-ghost use Rattle.std.specs.Prelude.{◌≡◌, true, ◌+◌, ◌-◌, ◌<◌, ◌≤◌, min, length};
+ghost use Rattle.std.specs.Prelude.{◌≡◌, true, ◌+◌, ◌-◌, ◌<◌, min, length};
 ghost use Rattle.wire.specs.Bounds.{largest_count};
 ghost use Rattle.early_holding.specs.Holding.{slot_of, lent, early, is_held, keeps, keep, keep_one, move_to};
 

@@ -1,6 +1,6 @@
 -- Laws of the answers to an accepted datagram: which of the table's rows each is, and what the datagram then does.
 use Rattle.wire.specs.declared.refusal.Refusal.{Refusal}
-use Rattle.std.specs.Prelude.{Result, Ok, Err, ⊤}
+use Rattle.std.specs.Prelude.{Result, Ok, Err}
 use mathlib.Core.Path.{◌≡◌, refl, ap, ◌∙◌}
 use mathlib.Core.List.{List}
 use mathlib.Core.Bool.{Bool, true, false}
@@ -13,7 +13,6 @@ use Rattle.wire.specs.Words.{Words, Case, answer, refused}
 use Rattle.wire.specs.declared.kinds.SequenceNumber.{SequenceNumber}
 use Rattle.moldudp64.specs.declared.downstream.Downstream.{Downstream}
 use Rattle.moldudp64.specs.declared.downstream.Downstream.TheVariants.{Data, Heartbeat, EndOfSession}
-use Rattle.moldudp64.specs.declared.downstream.Downstream.TheVariants as found
 use Rattle.moldudp64.specs.Downstream.{DownstreamKind, data_packet, heartbeat, end_of_session, downstream_words}
 use Rattle.moldudp64_messages.specs.Cursor.{first_of}
 use Rattle.receiver.specs.declared.receiver.Receiver.{Receiver}

@@ -119,12 +119,7 @@ fn take_lent(
 }
 
 // The refusal of a datagram that was read, or 41 where nothing else is refused but the words.
-fn refuse(
-    state: &[u8],
-    slots: &[u8],
-    packet: Result<Downstream, Refusal>,
-    datagram: &[u8],
-) -> u32
+fn refuse(state: &[u8], slots: &[u8], packet: Result<Downstream, Refusal>, datagram: &[u8]) -> u32
     requires { (downstream_words packet ≡ downstream_of datagram.now) × (early_size ≤ length state.now) }
     ensures { result ≡ or_else
         (early_refusal (lent_in state.now slots.now) datagram.now) 41 }

@@ -9,7 +9,6 @@ use lib.Dec.{ltb, eqb}
 use borrow.Rule.Slice.PartMut.{mid_of}
 use borrow.Author.Tests.{ne_eqb, eq-eqb, lt-ltb, le-ltb}
 use Rattle.std.specs.Prelude.{Ok, Err}
-use Rattle.wire.specs.declared.refusal.Refusal.{Refusal}
 use Rattle.wire.specs.declared.kinds.MessageCount.{MessageCount}
 use Rattle.wire.proofs.Cases.{zero_or_not}
 use Rattle.early_holding.specs.declared.holding.EarlyReceiver.{EarlyReceiver}

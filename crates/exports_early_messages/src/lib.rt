@@ -20,7 +20,11 @@ use wire::refusal;
 fn slots_code(slots: &[u8]) -> u32
     ensures { result ≡ slots_refusal slots.now }
 {
-    if slots.len() == SLOT_BYTES { 0 } else { u32::from(refusal::BAD_SETTING.number) }
+    if slots.len() == SLOT_BYTES {
+        0
+    } else {
+        u32::from(refusal::BAD_SETTING.number)
+    }
 }
 
 // Answers values; 19 where the slots aren't of their size.

@@ -1,5 +1,6 @@
 // All that a datagram will deliver, in one walk, before it is taken.
 #![tactic(auto, using(crate::proofs::Rules::steps, crate::proofs::Rules::walks))]
+
 ghost use Rattle.std.specs.Prelude.{[], ◌∷◌, ◌≡◌, ◌≤◌, length};
 ghost use Rattle.early_messages.specs.Walk.{walk_part};
 ghost use Rattle.host_answers.specs.Answers.{RefusesOnly};

@@ -1,14 +1,14 @@
 // A reading of what is missing from a capture, as a host keeps it. The words of the edges are lent beside it.
 #![tactic(auto, using(crate::proofs::Rules::places, crate::proofs::Rules::readings))]
 
-ghost use Rattle.std.specs.Prelude.{◌≡◌, ◌∷◌, ◌≤◌, min, length, ltb};
+ghost use Rattle.std.specs.Prelude.{◌≡◌, ◌∷◌, ◌≤◌, length, ltb};
 ghost use Rattle.wire.specs.Output.{put};
 ghost use Rattle.missing_ranges.specs.Notes.{missing};
-ghost use Rattle.host_answers.specs.Answers.{or_else, short, flag};
+ghost use Rattle.host_answers.specs.Answers.{or_else, short};
 ghost use Rattle.host_states.specs.States.{StatePromises, on_code};
 ghost use Rattle.host_missing.specs.Reading.{highest_at, missing_size, place_of, stage_byte, left_of, range_bytes};
 ghost use Rattle.host_missing.specs.Reading.{missing_bytes, refused_reading, reading_in, KeepsMissing};
-ghost use Rattle.host_missing.specs.Reading.{reading_of, LaysMissing};
+ghost use Rattle.host_missing.specs.Reading.{LaysMissing};
 
 use capture_events::place::Place;
 use capture_records::records;

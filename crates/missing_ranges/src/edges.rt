@@ -1,7 +1,7 @@
 // Edges in lent words: the first n, rising where they are what `ranges` keeps.
 #![tactic(auto, using(crate::proofs::Rules::middles, crate::proofs::Rules::places, crate::proofs::Rules::replaces))]
 
-ghost use Rattle.std.specs.Prelude.{◌≡◌, ◌+◌, ◌≤◌, length, take, drop};
+ghost use Rattle.std.specs.Prelude.{◌≡◌, ◌+◌, ◌≤◌, length, take};
 ghost use Rattle.wire.specs.Output.{put};
 ghost use Rattle.missing_ranges.specs.Edges.{is_odd, place_past, place_of, middle, replaced};
 ghost use Rattle.missing_ranges.specs.Notes.{Fitting};

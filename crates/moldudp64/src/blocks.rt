@@ -1,5 +1,6 @@
 // The message blocks after a header: each a 2-byte length that doesn't count itself, and so many data bytes.
 #![tactic(auto, using(crate::proofs::Rules::blocks))]
+
 ghost use Rattle.std.specs.Prelude.{◌≡◌};
 ghost use Rattle.wire.specs.Words.{refused_by};
 ghost use Rattle.moldudp64.specs.Blocks.{block_size, blocks_refusal};

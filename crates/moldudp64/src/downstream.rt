@@ -1,5 +1,6 @@
 // Downstream packets, read: what a datagram says, or why it is refused.
 #![tactic(auto, using(crate::proofs::Rules::downstreams))]
+
 ghost use Rattle.std.specs.Prelude.{◌≡◌, ◌≤◌, length};
 ghost use Rattle.wire.specs.Words.{Injective};
 ghost use Rattle.wire.specs.Bytes.{same_bytes};

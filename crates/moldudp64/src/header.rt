@@ -1,5 +1,6 @@
 // The 20 bytes that start a downstream packet and are the whole of a request: session, sequence number, message count.
 #![tactic(auto, using(crate::proofs::Rules::headers))]
+
 ghost use Rattle.std.specs.Prelude.{◌≡◌, take};
 ghost use Rattle.wire.specs.Bounds.{session_size};
 ghost use Rattle.wire.specs.Bytes.{same_bytes};

@@ -1,10 +1,10 @@
 // Request packets, read.
 #![tactic(auto, using(crate::proofs::Rules::requests))]
+
 ghost use Rattle.std.specs.Prelude.{◌≡◌};
 ghost use Rattle.wire.specs.Words.{Injective};
 ghost use Rattle.wire.specs.Words.{refused_by};
-ghost use Rattle.moldudp64.specs.Header.{number_of, count_of};
-ghost use Rattle.moldudp64.specs.Request.{request_ground, request_refusal, request_words, request_of, request_session};
+ghost use Rattle.moldudp64.specs.Request.{request_ground, request_words, request_of, request_session};
 
 use crate::header;
 use wire::kinds::{MessageCount, SESSION_SIZE, SequenceNumber};

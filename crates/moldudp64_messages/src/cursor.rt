@@ -1,6 +1,7 @@
 // A cursor over the blocks of a datagram, so that all of its messages are visited in one walk. It is two numbers, which
 // anyone can make up or use with another datagram, so each function takes any cursor and any bytes.
 #![tactic(auto, using(crate::proofs::Rules::blocks, crate::proofs::Rules::locating, crate::proofs::Rules::moving, crate::proofs::Rules::starting))]
+
 ghost use Rattle.std.specs.Prelude.{◌≡◌, ◌-◌, ◌≤◌, length};
 ghost use Rattle.moldudp64_messages.specs.Cursor.{whole_block, cursor, located, advanced, advanced_by, first_of};
 ghost use Rattle.moldudp64_messages.specs.Cursor.{start_of, nowhere, part};

@@ -1,5 +1,6 @@
 // One message of a datagram, asked for by its place from 0. A caller that wants several walks with a cursor.
 #![tactic(auto, using(crate::proofs::Rules::placing))]
+
 ghost use Rattle.std.specs.Prelude.{◌≡◌};
 ghost use Rattle.moldudp64.specs.Downstream.{message_of};
 ghost use Rattle.moldudp64_messages.specs.Cursor.{advanced_by, start_of, locate_of, PartIsMessage};

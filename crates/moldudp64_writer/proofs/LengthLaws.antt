@@ -1,19 +1,18 @@
 -- The lengths of messages: their sum, one by one and part by part, against the bytes that they are to have.
-use mathlib.Core.Path.{◌≡◌, refl, ap, sym, ◌∙◌}
+use mathlib.Core.Path.{◌≡◌, refl}
 use mathlib.Core.List.{List, [], ◌∷◌}
-use mathlib.Core.Bool.{Bool, true, false, not}
-use Prim.Native.Nat.{ℕ, zero, suc, ◌+◌, ◌*◌, ◌-◌, ◌≤◌, ◌<◌, min}
+use mathlib.Core.Bool.{Bool, true, false}
+use Prim.Native.Nat.{ℕ, zero, suc, ◌+◌, ◌*◌, ◌-◌, ◌≤◌, ◌<◌}
 use native.Mathlib.Omega.{arith}
 use native.Mathlib.Numerals.{add-one}
-use lib.ListN.{length, get_or, take, drop, length-take, length-drop, drop_of_length-le}
+use lib.ListN.{length, get_or, take, drop, drop_of_length-le}
 use lib.Seq.{drop-cons}
-use lib.Dec.{leb, eqb}
-use borrow.Author.Tests.{le-leb, lt-leb, leb-true, leb-false, eq-eqb, ne_eqb, eqb-true, eqb-false, not-true, not-false}
+use lib.Dec.{eqb}
+use borrow.Author.Tests.{le-leb, lt-leb, eq-eqb, ne_eqb, eqb-true, eqb-false}
 use mir.Val.{Fits}
 use mir.Syntax.{w32}
-use Rattle.wire.proofs.Numbers.{part_to_end}
-use Rattle.std.specs.Prelude.{Option, Some, None}
-use Rattle.moldudp64_writer.specs.Writer.{total, add_up, left_after}
+use Rattle.std.specs.Prelude.{Some, None}
+use Rattle.moldudp64_writer.specs.Writer.{total, left_after}
 
 -- the first n and the others make all
 pub total-parts : (n : ℕ) (ks : List ℕ) → total (take n ks) + total (drop n ks) ≡ total ks

@@ -1,5 +1,5 @@
 -- Laws of the writers: l is the lent output at entry, m at exit, g a ground, bs the bytes, n a number, ks lengths, d data.
-use mathlib.Core.Path.{◌≡◌, refl, ap, sym, ◌∙◌}
+use mathlib.Core.Path.{◌≡◌, ap, sym}
 use mathlib.Core.List.{List}
 use mathlib.Core.Bool.{Bool, true, false, not}
 use Prim.Native.Nat.{ℕ, ◌+◌, ◌*◌, ◌≤◌, ◌<◌}
@@ -9,7 +9,6 @@ use lib.Dec.{ltb, eqb}
 use borrow.Author.Tests.{lt-ltb, le-ltb, ltb-false, eq-eqb, ne_eqb, eqb-true, eqb-false, not-false}
 use mir.Val.{Fits}
 use mir.Syntax.{w16, w64}
-use Rattle.wire.specs.declared.refusal.Refusal.{Refusal}
 use Rattle.std.specs.Prelude.{Ok, Err}
 use Rattle.wire.specs.Output.{put, Writes}
 use Rattle.wire.proofs.Outputs.{writes-ground, writes_short, writes-done, put-put, length-put}

@@ -1,5 +1,6 @@
 // The fields of a packet that is there whole, by its letter.
 #![tactic(auto, using(crate::proofs::Rules::parts, crate::proofs::Rules::packets))]
+
 ghost use Rattle.std.specs.Prelude.{◌≡◌, [], ◌∷◌, ◌+◌, get_or};
 ghost use Rattle.text_fields.specs.Number.{number_words};
 ghost use Rattle.soupbintcp.specs.Letters.{plain_of, packet_kind, packet_values};

@@ -1,5 +1,6 @@
 // The front of a stream: a packet, need more, or a refusal; and the parts of the packet there.
 #![tactic(auto, using(crate::proofs::Rules::fronts, crate::proofs::Rules::within))]
+
 ghost use Rattle.std.specs.Prelude.{◌≡◌};
 ghost use Rattle.soupbintcp.specs.Fields.{fields_words, fields_of};
 ghost use Rattle.soupbintcp.specs.Front.{front_words, front_of, FrontPromises, packet_bytes, login_part, payload_of};

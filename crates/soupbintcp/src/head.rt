@@ -1,5 +1,6 @@
 // The front of a stream as far as its length and letter tell: 21 to 24, need more, or a whole packet.
 #![tactic(auto, using(crate::proofs::Rules::heads))]
+
 ghost use Rattle.std.specs.Prelude.{◌≡◌};
 ghost use Rattle.soupbintcp.specs.Head.{head_words, head_of};
 

@@ -1,5 +1,6 @@
 // The table of letters: who sends each, and the lengths that it may have.
 #![tactic(auto, using(crate::proofs::Rules::table))]
+
 ghost use Rattle.std.specs.Prelude.{◌≡◌};
 ghost use Rattle.soupbintcp.specs.Letters.{row, letter_row, sent_in, allowed_in};
 

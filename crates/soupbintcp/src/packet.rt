@@ -1,5 +1,6 @@
 // What a logical packet says.
 #![tactic(auto, using(crate::proofs::Rules::packets))]
+
 ghost use Rattle.std.specs.Prelude.{◌≡◌};
 ghost use Rattle.soupbintcp.specs.Fields.{good_reason};
 

@@ -1,5 +1,6 @@
 // The scan over the packets in a buffer.
 #![tactic(auto, using(crate::proofs::Rules::scans))]
+
 ghost use Rattle.soupbintcp.specs.Scan.{Scans, ScanPromises};
 
 use crate::head::Head;

@@ -18,7 +18,6 @@ use Rattle.moldudp64_writer.proofs.LengthLaws.{total-parts}
 use Rattle.packing.specs.declared.fit.Fit.{Fit}
 use Rattle.packing.specs.Fit.{most_that_fit, fitting}
 use Rattle.packing.proofs.FitLaws.{is_most}
-use Rattle.store.specs.declared.pick.Picked.{Picked}
 use Rattle.store.specs.Steps.{wanted_lengths, TakesMost, pick_of}
 
 -- ---- parts of the lengths

@@ -1,5 +1,5 @@
 -- The steps of an answer, each over what it is given: for private helpers alone; no public promise uses it.
-use Rattle.std.specs.Prelude.{ℕ, ◌+◌, ◌-◌, ◌≤◌, min, List, Bool, true, false, not, length, take, drop, ◌≡◌, ltb, leb, eqb, if◌then◌else◌, Option, Some, None, Result, Ok, Err}
+use Rattle.std.specs.Prelude.{ℕ, ◌+◌, ◌-◌, ◌≤◌, min, List, Bool, false, not, length, take, drop, ◌≡◌, ltb, leb, eqb, if◌then◌else◌, Option, Some, None, Result, Ok, Err}
 use Rattle.wire.specs.declared.refusal.Refusal.{Refusal}
 use Rattle.wire.specs.Refusals.{bad_setting, lengths_differ, not_in_store, store_differs}
 use Rattle.wire.specs.Bytes.{same_bytes}

@@ -1,15 +1,13 @@
 -- Laws of the parts of a slice l.
 use mathlib.Core.Path.{◌≡◌, refl, ap, sym, ◌∙◌}
-use mathlib.Core.List.{List, [], ◌∷◌, append-nil}
+use mathlib.Core.List.{List, [], ◌∷◌}
 use Prim.Native.Nat.{ℕ, zero, suc, ◌+◌, ◌-◌, ◌≤◌, ◌<◌, min}
 use native.Mathlib.Omega.{arith}
 use lib.ListN.{length, get_or, take, drop, replicate, length-drop, drop_of_length-le}
 use lib.Seq.{take_all, take-nil, drop-cons, length-take-le}
 use borrow.Author.Tests.{le-ltb, lt-ltb}
 use Rattle.wire.proofs.Cases.{below_or_not}
-use Rattle.wire.specs.Output.{write_output}
 use Rattle.wire.specs.Parts.{first_bytes}
-use Rattle.wire.proofs.Outputs.{put-room}
 
 -- ---- the front without its own front
 

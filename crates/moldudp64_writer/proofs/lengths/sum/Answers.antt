@@ -1,5 +1,4 @@
 -- Each length is below 2^16.
-use native.Mathlib.Omega.{arith}
 use Rattle.moldudp64_writer.proofs.LengthLaws.{sum-next, sum-end}
 use Rattle.moldudp64_writer.proofs.lengths.sum.Goals as goal
 

@@ -12,7 +12,7 @@ returns-in_default c = record {
 pub returns-in-Sequenced-clause-result_value : goal.returns-in-Sequenced-clause-result_value
 returns-in-Sequenced-clause-result_value c =
     elim c.in-Sequenced.is [
-      inl w ↦ message-sequenced _ _ _ _ _ w.0 w.1 c.part.ensures
+      | inl w ↦ message-sequenced _ _ _ _ _ w.0 w.1 c.part.ensures
       | inr e ↦ message-unsequenced _ _ _ _ _ e c.part.ensures
     ]
 

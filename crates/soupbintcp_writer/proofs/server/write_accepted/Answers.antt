@@ -10,7 +10,7 @@ use Rattle.soupbintcp_writer.proofs.server.write_accepted.Goals.{then-not-is_ses
 pub returns-then-not-is_session-clause-writes : goal.returns-then-not-is_session-clause-writes
 returns-then-not-is_session-clause-writes c =
     elim c.then-not-is_session.branch [
-      then-not-is_session-via-then-not-is_session w ↦ accepted-no-session _ _ _ c.is_session.ensures _ _ w.if-not-is_session.true
+      | then-not-is_session-via-then-not-is_session w ↦ accepted-no-session _ _ _ c.is_session.ensures _ _ w.if-not-is_session.true
       | then-not-is_session-via-else-not-is_session+then-is_zero w ↦ accepted-no-number _ _ _ c.is_session.ensures _ _ _ w.is_zero.ensures w.if-is_zero.true
     ]
 

@@ -3,7 +3,7 @@ use Prim.Native.Nat.{◌-◌, ◌<◌, ◌+◌}
 use mathlib.Core.Path.{◌≡◌}
 use native.Mathlib.Omega.{arith}
 use Rattle.transmitter.proofs.Rules.{walks}
-use Rattle.transmitter.proofs.WalkLaws.{walking-end, walking-stop, walking-counts, walking-sums, walking-next}
+use Rattle.transmitter.proofs.WalkLaws.{walking-end, walking-stop, walking-next}
 use Rattle.transmitter.proofs.place.reach.Goals as goal
 
 pub returns-then-lengths-at : goal.returns-then-lengths-at
