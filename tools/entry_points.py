@@ -38,7 +38,7 @@ def faults_of(function, promises, refused, why, edits):
         yield "has a requires"
     if not promises:
         yield "promises nothing"
-    for lent in re.findall(r"(\w+): &(?:'\w+ )?mut\b|&(?:'\w+ )?mut (self)\b", function.signature):
+    for lent in re.findall(r"(\w+): &(?:'\w+ )?mut (?!impl\b)|&(?:'\w+ )?mut (self)\b", function.signature):
         if f"{''.join(lent)}′" not in " ".join(promises):
             yield f"lends `{''.join(lent)}`, of which no clause speaks"
     if refused < 2 and not why and not edits:

@@ -18,7 +18,7 @@ from sources import ROOT
 
 PAGES = sorted([*ROOT.glob("*.md"), *ROOT.glob("docs/*.md"), *ROOT.glob("hosts/*.md"), *ROOT.glob("hosts/program/*.md"), *ROOT.glob("captures/*.md")])
 # by other tools, tables for the most part; and old and new words side by side
-WIDE = {"ENTRY-POINTS.md", "MUTATIONS.md", "PORT.md"}
+WIDE = {"DESIGN-PASS.md", "ENTRY-POINTS.md", "MUTATIONS.md", "PORT.md"}
 COLUMNS = 100
 README_BYTES = 8192
 PRINTED = re.compile(r"(<!-- from (\S+): ([^>]+?) -->\n\n```text\n)(.*?)(```\n)", re.S)

@@ -1,7 +1,7 @@
 // The buffer of a program that reads a capture piece by piece.
 #![tactic(auto, using(crate::proofs::Rules::buffers))]
 
-ghost use Rattle.std.specs.Prelude.{◌≡◌, ◌+◌, ◌≤◌, length, take, is_some, unwrap_or};
+ghost use Rattle.std.specs.Prelude.{◌≡◌, ◌-◌, ◌≤◌, length, take, is_some, unwrap_or};
 ghost use Rattle.capture_records.specs.Buffer.{are_places, kept_size, kept_of};
 
 use std::io::Read;
@@ -24,11 +24,14 @@ pub fn keep(buf: &mut [u8], from: ByteOffset, to: ByteOffset) -> Option<usize>
     Some(end - first)
 }
 
-// Reads once behind the bytes that are kept, and answers how many came: none where the input ends or the read fails.
+// Reads once behind the bytes that are kept, and answers how many came: none where the input ends or the read fails, or
+// where the buffer has no more than what is kept.
 pub fn fill(input: &mut impl Read, buf: &mut [u8], have: usize) -> usize
-    requires { have ≤ length buf.old }
-    ensures room { have + result ≤ length buf.old }
+    ensures room { result ≤ length buf.old - have }
     ensures kept { take have buf.new ≡ take have buf.old }
 {
+    if buf.len() < have {
+        return 0;
+    }
     input.read(&mut buf[have..]).unwrap_or(0)
 }
