@@ -55,7 +55,7 @@ module _ (wanted last : ℕ) where
 -- ---- the decision: a is the record that was found for the entry e, k whether it opens to it, t the session rule, u the number rule
 
 module _ (e : Account) (l m : List ℕ) (wanted last : ℕ) where
-  pub decide-refused : (r : Refusal) → decision_words (Err r) ≡ decision_of (verdict_on (Err r) e) l wanted m last
+  pub decide-refused : (r : Refusal) → decision_words (Err (record { number = 19 })) ≡ decision_of (verdict_on (Err r) e) l wanted m last
   unfolding decision_words decision_at
   decide-refused r = rw (says-refused e r) refl
 

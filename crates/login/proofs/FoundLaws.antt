@@ -40,7 +40,7 @@ one-few None = omega arith
 one-few (Some x) = omega arith
 
 module _ (e : Account) where
-  pub says-refused : (r : Refusal) → verdict_on (Err r) e ≡ refuses r.number
+  pub says-refused : (r : Refusal) → verdict_on (Err r) e ≡ refuses bad_setting
   unfolding verdict_on
   says-refused r = refl
 

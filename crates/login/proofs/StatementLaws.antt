@@ -170,7 +170,7 @@ pub only_by_a_record : OnlyByARecord
 unfolding OnlyByARecord decision_at found_records
 only_by_a_record (Ok a) e asked wanted session last w =
     record { not_too_many = refl; rules = only_when (attempt_by (Ok a) e asked wanted session last) (rw (says-of-one e a) at w) }
-only_by_a_record (Err r) e asked wanted session last w = absurd (refused-out r.number (rw (says-refused e r) at w))
+only_by_a_record (Err r) e asked wanted session last w = absurd (refused-out 19 (rw (says-refused e r) at w))
 
 -- ---- a sound field has a letter or digit in front, and no zero byte
 

@@ -78,7 +78,7 @@ unfoldable pub found_records : Found → List Account
 found_records (Ok a) = option_to_list a
 found_records (Err r) = []
 
--- what was found says of an entry: a made-up record is no more than a table of one
+-- what was found says of an entry: a made-up record is no more than a table of one, and a made-up refusal is the table's
 unfoldable pub verdict_on : Found → Account → Words VerdictKind
 verdict_on (Ok a) e = lookup_of (option_to_list a) e
-verdict_on (Err r) e = refuses r.number
+verdict_on (Err r) e = refuses bad_setting

@@ -12,7 +12,7 @@ use crate::account::{Account, Found};
 use soupbintcp::packet;
 use wire::kinds::{SESSION_SIZE, SequenceNumber};
 use wire::refusal::Refusal;
-use wire::{compare, kinds};
+use wire::{compare, kinds, refusal};
 
 // What is decided on a login that was asked for, where it isn't refused.
 #[derive(Clone, Copy, Debug, PartialEq, Eq)]
@@ -48,8 +48,8 @@ fn grant(wanted: SequenceNumber, last: SequenceNumber) -> SequenceNumber
     }
 }
 
-// The decision: the account, then the session, then the number; or the refusal of the table. The record is compared with the entry here, so that no
-// caller's word for it is needed.
+// The decision: the account, then the session, then the number; or 19, whatever refused the lookup. The record is
+// compared with the entry here, so that no caller's word for it is needed.
 #[tactic(auto, using(crate::proofs::Rules::deciding))]
 pub fn decide(
     found: Found,
@@ -63,7 +63,10 @@ pub fn decide(
         session last.0 }
     ensures promises { LoginPromises }
 {
-    let known = found?.is_some_and(|account| account::is_known(account, entry));
+    let Ok(record) = found else {
+        return Err(refusal::BAD_SETTING);
+    };
+    let known = record.is_some_and(|account| account::is_known(account, entry));
     if !known {
         return Ok(Decision::Rejected {
             reason: packet::NOT_AUTHORIZED,

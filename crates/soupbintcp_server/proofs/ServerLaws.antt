@@ -167,7 +167,7 @@ waiting-L s p size f l r n y e d g o h i j k =
 
 -- ---- a step: f is what was found, e the entry in front, x the front of the stream l
 
-pub table-refused : (s : Server) (l : List ℕ) (f : Found) (y : Refusal) (r : Stepped) → f ≡ Err y → r ≡ goes_to (Refused y) 0 s
+pub table-refused : (s : Server) (l : List ℕ) (f : Found) (y : Refusal) (r : Stepped) → f ≡ Err y → r ≡ goes_to (Refused (record { number = 19 })) 0 s
     → ServerSteps r (step_with s (verdict_on f (entry_of l)) l)
 unfolding step_at session_answer_words
 table-refused s l f y r h g = rw (h, says-refused (entry_of l) y, g) (exactly _)

@@ -254,7 +254,7 @@ table-of-one (Err r) s l h = let z : ◌≡◌ {A = ℕ} 0 1 = cc in absurd (ome
 refused-out : (r : Refusal) (s : Server) (l : List ℕ) → (step_with s (verdict_on (Err r) (entry_of l)) l).reply.which ≡ answer reply.accepted → ⊥
 unfolding step_at
 refused-out r s l w =
-    let x : (refuses {K = reply.SessionAnswerKind} r.number).which ≡ answer reply.accepted = rw (says-refused (entry_of l) r) at w in
+    let x : (refuses {K = reply.SessionAnswerKind} 19).which ≡ answer reply.accepted = rw (says-refused (entry_of l) r) at w in
     let z : ◌≡◌ {A = ℕ} 0 1 = cc in
     omega arith
 

@@ -177,14 +177,15 @@ impl Server {
     }
 
     // The same from what a lookup found, so that the accounts may be kept in any form. The record is compared with the
-    // entry in front here: one that is made up is no more than a table of one.
+    // entry in front here: one that is made up is no more than a table of one, and a refusal that is made
+    // up no more than the table's.
     pub fn step_with(self, found: Found, stream: &[u8]) -> Stepped
         ensures server_steps { ServerSteps result (step_with self (verdict_on found (entry_of stream.now))
             stream.now) }
         ensures accepts { OnlyByTheRules result (found_records found) self stream.now }
     {
-        if let Err(r) = found {
-            return self.stay(Answer::Refused(r));
+        if let Err(_) = found {
+            return self.stay(Answer::Refused(refusal::BAD_SETTING));
         }
         match front::read(stream, Sender::Client) {
             Front::NeedMore => self.stay(Answer::NeedMore),

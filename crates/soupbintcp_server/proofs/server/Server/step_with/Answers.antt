@@ -1,5 +1,6 @@
 -- The table's refusal, then what the front says, and then the row of the packet there.
 use Rattle.soupbintcp_server.proofs.Rules.{recorded, server_fronts}
+use Rattle.soupbintcp_server.proofs.StatementLaws.{by-a-record}
 use Rattle.soupbintcp_server.proofs.server.Server.step_with.Goals as goal
 
 pub returns-in-Err-clause-server_steps : goal.returns-in-Err-clause-server_steps
@@ -22,3 +23,6 @@ returns-in-Whole-clause-server_steps c = search server_fronts
 
 pub returns-in-Whole-clause-accepts : goal.returns-in-Whole-clause-accepts
 returns-in-Whole-clause-accepts c = search recorded
+
+pub returns-in-Err-clause-accepts : goal.returns-in-Err-clause-accepts
+returns-in-Err-clause-accepts c = by-a-record _ _ _ _ (returns-in-Err-clause-server_steps c)
