@@ -140,6 +140,12 @@ module _ (r g : ℕ) (ws vs : List ℕ) where
   pub answered : (ws' : List ℕ) → r ≡ 0 → g ≡ 0 → length vs ≤ length ws → ws' ≡ put ws 0 vs → AnswersWith r ws ws' g vs
   answered ws' e z h w = record { returns = e ∙ rung-none g _ z (le-ltb _ _ h); words = success r ws' _ ws e w }
 
+-- the words of a slice laid in front
+pub laid-slice : (ws vs us : List ℕ) → us ≡ vs → length vs ≤ length ws → us ++ drop (length vs) ws ≡ put ws 0 vs
+laid-slice ws vs us e h =
+    let z : 0 + length vs ≡ length vs = omega arith in
+    rw e (sym (put-room ws 0 vs (omega arith) ∙ rw z refl))
+
 -- ---- an answer in values
 
 pub no-refusal : {A : Type 0} (vs : A) → 0 ≡ said_refusal (Ok vs)

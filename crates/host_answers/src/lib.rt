@@ -98,6 +98,20 @@ pub fn answer<const N: usize>(words: &mut [u64], said: Result<[u64; N], Refusal>
     0
 }
 
+// The same of values whose number isn't known beforehand, beside a refusal, its number 0 where there is none.
+pub fn answer_slice(words: &mut [u64], refused: Refusal, values: &[u64]) -> u32
+    ensures { AnswersWith result words.old words.new refused.number values.now }
+{
+    if refused.number != 0 {
+        return u32::from(refused.number);
+    }
+    if words.len() < values.len() {
+        return SHORT;
+    }
+    words[..values.len()].copy_from_slice(values);
+    0
+}
+
 // Answers what a writer answered, where other lent memory than words and output may be too short: how many bytes it
 // wrote, or its refusal.
 pub fn answer_written(words: &mut [u64], lacks: bool, written: Result<usize, Refusal>) -> u32
