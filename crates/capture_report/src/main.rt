@@ -14,6 +14,14 @@ use capture_text::report_text::ROOM;
 use early_holding::holding::{LENGTH_BYTES, SLOT_BYTES};
 use std::io::Read;
 
+// Reads once behind the bytes that are kept, where there is room for one more at the least, and answers how many came:
+// none where the input ends or the read fails.
+fn fill(input: &mut impl Read, buf: &mut [u8], have: usize) -> usize
+    requires { have < length buf.old }
+{
+    buffer::fill(input, buf, have)
+}
+
 // Turns until it is over, in a buffer that has room behind whatever is kept. A proved loop has to end, and nothing says
 // that the input does: there are more turns than any run takes. The program of what is missing turns likewise, as other
 // memory is lent to its turns.
@@ -23,7 +31,7 @@ fn read_all(input: &mut impl Read, lengths: &mut [u8], slots: &mut [u8], buf: &m
 {
     let mut state = Turning::new();
     for _ in 0..u64::MAX {
-        let got = buffer::fill(input, buf, state.have);
+        let got = fill(input, buf, state.have);
         state = state.turn(lengths, slots, buf, got);
         if state.is_over() {
             return state.reading;

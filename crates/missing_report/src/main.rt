@@ -15,6 +15,14 @@ use missing_capture::turning::Turning;
 use missing_ranges::ranges::ROOM;
 use std::io::Read;
 
+// Reads once behind the bytes that are kept, where there is room for one more at the least, and answers how many came:
+// none where the input ends or the read fails.
+fn fill(input: &mut impl Read, buf: &mut [u8], have: usize) -> usize
+    requires { have < length buf.old }
+{
+    buffer::fill(input, buf, have)
+}
+
 // Turns until it is over, in a buffer that has room behind whatever is kept. A proved loop has to end, and nothing says
 // that the input does: there are more turns than any run takes. The program of reports turns likewise, as other memory
 // is lent to its turns.
@@ -24,7 +32,7 @@ fn read_all(input: &mut impl Read, edges: &mut [u64], buf: &mut [u8]) -> Reading
 {
     let mut state = Turning::new();
     for _ in 0..u64::MAX {
-        let got = buffer::fill(input, buf, state.have);
+        let got = fill(input, buf, state.have);
         state = state.turn(edges, buf, got);
         if state.is_over() {
             return state.reading;
