@@ -19,5 +19,12 @@ for crate in $crates; do
     (cd "$room/$crate" && ar x "$OLDPWD/crates/$crate/out/lib$crate.a")
 done
 ar rcs "$room/libeiderwagon.a" "$room"/*/*.o
+
+# what hosts/README.md says of it, and docs/ASSUMPTIONS.md
+needed=$(nm -u "$room/libeiderwagon.a" | awk '$1 == "U" { print $2 }' | sort -u | xargs)
+if [ "$needed" != memcpy ]; then
+    echo "tools/host_library.sh: the library needs $needed, and was to need memcpy alone" >&2
+    exit 1
+fi
 mv "$room/libeiderwagon.a" "$library"
 echo "built target/staticlib/libeiderwagon.a: $(nm --defined-only -g "$library" | grep -c ' T eiderwagon_') functions"

@@ -1,2 +1,3 @@
 pub mod HoldingLaws
 pub mod Rules
+pub mod CopyLaws

@@ -12,8 +12,7 @@ use Rattle.wire.specs.declared.refusal.Refusal.{Refusal}
 use Rattle.wire.specs.Output.{Written}
 use Rattle.std.specs.Prelude.{Ok, Err}
 use Rattle.wire.proofs.Words.{which-of}
-use borrow.Rule.Slice.PartMut.{put_mid}
-use Rattle.wire.proofs.Outputs.{put-room, length-put, wrote_so, wrote-front, laid-bytes}
+use Rattle.wire.proofs.Outputs.{put-room, length-put, wrote_so, wrote-front}
 use Rattle.decimal.specs.Decimal.{digits}
 use Rattle.decimal.proofs.SpellLaws.{length_digits}
 use Rattle.text_fields.specs.Letters.{space}
@@ -65,14 +64,11 @@ module _ (l m : List ℕ) (n k : ℕ) (w : Writes (Ok k) l m 0 0 (digits n)) whe
   laid-digits : take k m ≡ digits n
   laid-digits = rw w.leaves (wrote-front 0 l (digits n) k laid)
 
-  -- behind the spaces that are left of 20: y is the end of the field, f, after them
-  pub justified : (f y : List ℕ) → f ≡ replicate number_field_size space → y ≡ take k m
-      → put_mid (number_field_size - k) (length f - (number_field_size - k)) f y ≡ number_field n
-  justified f y s e =
+  -- behind the spaces that are left of 20: g is the field of spaces, f, with the digits y laid at its end
+  pub justified : (f g y : List ℕ) → f ≡ replicate number_field_size space → y ≡ take k m → g ≡ put f (number_field_size - k) y → g ≡ number_field n
+  justified f g y s e p =
       let z = (wrote_so 0 l 0 (digits n) k laid).size in
-      let b : length f ≡ number_field_size = ap length s ∙ length-replicate number_field_size space in
-      let h = laid-small in
-      laid-bytes _ _ _ _ _ (e ∙ laid-digits) (omega arith) (omega arith) ∙ rw (s, z) (field_put n)
+      p ∙ rw (s, e, laid-digits, z) (field_put n)
 
 pub field-laid : (r : Written) (l m : List ℕ) (at n : ℕ) (f : List ℕ) → f ≡ number_field n → Writes r l m 0 at f → Writes r l m 0 at (number_field n)
 field-laid r l m at n f e w = rw e at w

@@ -75,7 +75,11 @@ pub fn field(number: SequenceNumber) -> [u8; NUMBER_FIELD_SIZE]
     let mut field = [letters::SPACE; NUMBER_FIELD_SIZE];
     let mut text = [0u8; NUMBER_FIELD_SIZE];
     if let Ok(size) = writing::put(&mut text, ByteOffset(0), number.0) {
-        field[NUMBER_FIELD_SIZE - size..].copy_from_slice(&text[..size]);
+        output::lay(
+            &mut field,
+            ByteOffset(NUMBER_FIELD_SIZE - size),
+            &text[..size],
+        );
     }
     field
 }

@@ -1,4 +1,4 @@
--- The loop of `put_bytes`: d is the output at entry, s the source, out the output after i bytes.
+-- The loop of `lay`: d is the output at entry, s the source, out the output after i bytes.
 use mathlib.Core.Path.{◌≡◌, refl, sym, ◌∙◌}
 use mathlib.Core.List.{List}
 use Prim.Native.Nat.{ℕ, ◌+◌, ◌-◌, ◌≤◌, ◌<◌}

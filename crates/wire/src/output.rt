@@ -21,7 +21,9 @@ pub fn room(lent: usize, at: ByteOffset, size: usize) -> Result<(), Refusal>
     Ok(())
 }
 
-// Lays bytes where they have room, and nothing where they haven't.
+// Lays bytes where they have room, and nothing where they haven't. Byte by byte: `copy_from_slice` makes the library for
+// hosts need the C library's `memmove`.
+#[tactic(auto, using(crate::proofs::Rules::copies))]
 pub fn lay(out: &mut [u8], at: ByteOffset, src: &[u8])
     ensures after { out.new ≡ put out.old at.0 src.now }
     ensures laws { OutputLaws }
@@ -29,7 +31,9 @@ pub fn lay(out: &mut [u8], at: ByteOffset, src: &[u8])
     let from = at.0;
     let size = src.len();
     if room(out.len(), at, size).is_ok() {
-        out[from..from + size].copy_from_slice(src);
+        for i in 0..size {
+            out[from + i] = src[i];
+        }
     }
 }
 

@@ -3,17 +3,17 @@ use mathlib.Core.Path.{refl}
 use Rattle.text_fields.proofs.LayLaws.{never-refused, laid-small, laid-within, laid-part, justified}
 use Rattle.text_fields.proofs.number.field.Goals as goal
 
-pub overflow_sub-field : goal.overflow_sub-field
-overflow_sub-field c = laid-small _ _ _ _ c.in-Ok.ensures.writes
+pub overflow_sub-size : goal.overflow_sub-size
+overflow_sub-size c = laid-small _ _ _ _ c.in-Ok.ensures.writes
+
+pub slice_bounds-lay-end-in-Ok : goal.slice_bounds-lay-end-in-Ok
+slice_bounds-lay-end-in-Ok c = laid-part _ _ _ _ c.in-Ok.ensures.writes
 
 pub slice_bounds-text-end : goal.slice_bounds-text-end
 slice_bounds-text-end c = laid-within _ _ _ _ c.in-Ok.ensures.writes
 
-pub slice_bounds-copy_from_slice-end : goal.slice_bounds-copy_from_slice-end
-slice_bounds-copy_from_slice-end c = laid-part _ _ _ _ c.in-Ok.ensures.writes
-
 pub returns-in-Ok : goal.returns-in-Ok
-returns-in-Ok c = justified _ _ _ _ c.in-Ok.ensures.writes _ _ refl c.copy_from_slice.ensures.after
+returns-in-Ok c = justified _ _ _ _ c.in-Ok.ensures.writes _ _ _ refl refl c.lay.ensures.after
 
 pub returns-in_default : goal.returns-in_default
 returns-in_default c = never-refused _ _ _ _ c.in_default.ensures.writes
