@@ -1,3 +1,2 @@
 pub mod HoldingLaws
 pub mod Rules
-pub mod CopyLaws

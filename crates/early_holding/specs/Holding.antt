@@ -1,5 +1,5 @@
 -- What the receiver that keeps early messages holds in its slots, and what one message does to it.
-use Rattle.std.specs.Prelude.{ℕ, zero, suc, ◌+◌, ◌-◌, ◌*◌, ◌%◌, min, List, [], ◌∷◌, Bool, false, not, length, get_or, take, drop, set, ltb, leb, eqb, if◌then◌else◌}
+use Rattle.std.specs.Prelude.{ℕ, zero, suc, ◌+◌, ◌-◌, ◌*◌, ◌%◌, min, List, [], ◌∷◌, Bool, false, not, length, take, drop, ltb, leb, eqb, if◌then◌else◌}
 use Rattle.wire.specs.Bounds.{largest_number, count_size}
 use Rattle.wire.specs.Bytes.{number, bytes}
 use Rattle.wire.specs.Output.{put}
@@ -123,20 +123,3 @@ move_by (suc c) f n held =
 -- from n to just below end
 unfoldable pub move_to : ℕ → ℕ → ℕ → Moved
 move_to n held end = move_by (end - n) n n held
-
--- ---- for private helpers alone; no public promise uses it
-
--- eight bytes set one after the other from a place on
-abbrev pub eight_at : List ℕ → ℕ → ℕ → ℕ → ℕ → ℕ → ℕ → ℕ → ℕ → ℕ → List ℕ
-eight_at l at a b c d e f g h =
-    set (set (set (set (set (set (set (set l at a) (at + 1) b) (at + 2) c) (at + 3) d) (at + 4) e) (at + 5) f) (at + 6) g)
-    (at + 7)
-    h
-
--- those of a source from i on
-abbrev pub eight_of : List ℕ → ℕ → List ℕ → ℕ → List ℕ
-eight_of l at s i =
-    eight_at l at (get_or s i 0) (get_or s (i + 1) 0) (get_or s (i + 2) 0) (get_or s (i + 3) 0) (get_or s (i + 4) 0)
-    (get_or s (i + 5) 0)
-    (get_or s (i + 6) 0)
-    (get_or s (i + 7) 0)

@@ -1,11 +1,9 @@
 // A message kept in its slot, and how far the expected number moves.
 #![tactic(auto, using(crate::proofs::Rules::moves, crate::proofs::Rules::places, crate::proofs::Rules::stores))]
 
-ghost use Rattle.std.specs.Prelude.{◌≡◌, true, ◌+◌, ◌-◌, ◌<◌, ◌≤◌, min, length, take};
-ghost use Rattle.wire.specs.Output.{put};
+ghost use Rattle.std.specs.Prelude.{◌≡◌, true, ◌+◌, ◌-◌, ◌<◌, min, length};
 ghost use Rattle.wire.specs.Bounds.{largest_count};
-ghost use Rattle.early_holding.specs.Holding.{slot_of, lent, early, is_held, keeps, keep, keep_one, move_to, eight_at};
-ghost use Rattle.early_holding.specs.Holding.{eight_of};
+ghost use Rattle.early_holding.specs.Holding.{slot_of, lent, early, is_held, keeps, keep, keep_one, move_to};
 
 use early_word::Held;
 use receiver::receiver::Receiver;
@@ -59,73 +57,6 @@ pub fn slot_of(number: SequenceNumber) -> usize
     (number.0 % 64) as usize
 }
 
-// Eight bytes laid at a place that has room for them.
-#[tactic(auto, using(crate::proofs::Rules::eights))]
-fn lay_eight(out: &mut [u8], at: usize, a: u8, b: u8, c: u8, d: u8, e: u8, f: u8, g: u8, h: u8)
-    requires { at + 8 ≤ length out.old }
-    ensures { out.new ≡ eight_at out.old at a b c d e f g h }
-{
-    out[at] = a;
-    out[at + 1] = b;
-    out[at + 2] = c;
-    out[at + 3] = d;
-    out[at + 4] = e;
-    out[at + 5] = f;
-    out[at + 6] = g;
-    out[at + 7] = h;
-}
-
-// Eight bytes of a source laid as far behind a place as they stand in it. All are read before one is laid, which the
-// compiler makes one move of a word: it doesn't know that slots and datagram are apart.
-#[tactic(auto, using(crate::proofs::Rules::eights))]
-fn copy_eight(out: &mut [u8], at: usize, src: &[u8], i: usize)
-    requires { (at + i + 8 ≤ length out.old) × (i + 8 ≤ length src.now) }
-    ensures { out.new ≡ eight_of out.old (at + i) src.now i }
-{
-    lay_eight(
-        out,
-        at + i,
-        src[i],
-        src[i + 1],
-        src[i + 2],
-        src[i + 3],
-        src[i + 4],
-        src[i + 5],
-        src[i + 6],
-        src[i + 7],
-    );
-}
-
-// Bytes laid at a place that has room for them, as many as eights make; how many were laid.
-#[tactic(auto, using(crate::proofs::Rules::eights))]
-fn copy_by_eight(out: &mut [u8], at: usize, src: &[u8]) -> usize
-    requires { at + length src.now ≤ length out.old }
-    ensures { (result ≤ length src.now)
-        × (out.new ≡ put out.old at (take result src.now)) }
-{
-    let mut i: usize = 0;
-    while 8 <= src.len() - i {
-        copy_eight(out, at, src, i);
-        i += 8;
-    }
-    i
-}
-
-// Bytes laid at a place, where there is room.
-#[tactic(auto, using(crate::proofs::Rules::copies))]
-fn copy(out: &mut [u8], at: usize, src: &[u8])
-    ensures { out.new ≡ put out.old at src.now }
-{
-    if out.len() < at {
-        return;
-    }
-    if out.len() - at < src.len() {
-        return;
-    }
-    let laid = copy_by_eight(out, at, src);
-    output::lay(out, ByteOffset(at + laid), &src[laid..]);
-}
-
 impl EarlyReceiver {
     // How far a number above the expected one lies from the one after that: its place in the word.
     fn place_of(self, number: SequenceNumber) -> MessagePlace
@@ -171,7 +102,7 @@ impl EarlyReceiver {
             ≡ keep (lent self lengths.old slots.old) number.0 message.now }
     {
         let slot = slot_of(number);
-        copy(slots, slot * SLOT_SIZE, message);
+        output::lay(slots, ByteOffset(slot * SLOT_SIZE), message);
         output::lay16(lengths, ByteOffset(slot * COUNT_SIZE), message.len() as u16);
         self.held.marked(self.place_of(number))
     }

@@ -4,7 +4,7 @@ use Rattle.wire.proofs.Numbers.{byte_past, read_past, read-2, read-8, read-front
 use Rattle.wire.proofs.PartLaws.{part_none, part-rest, part-all, too_few, first-chunk}
 use Rattle.wire.proofs.Rooms.{no_room, number-room, count_room}
 use Rattle.wire.proofs.Outputs.{output-laws, no-room-there, room-there, room-so, room-short, room-ok, room-short-so, put-none, writes-refused, lay-over, lay_done, laid-bytes, laid-16, laid-64}
-use Rattle.wire.proofs.Copy.{copied-start, copied-step, copied-end, copied-kept}
+use Rattle.wire.proofs.Copy.{copied-start, copied-step, copied-more, copied-end, copied-kept}
 use Rattle.wire.proofs.Refusing.{refusals}
 use Rattle.wire.proofs.Same.{same-beyond, same-cut, same-there, rest-room, eight-so, two-so, begins-unlike, begins-like, name-unlike, name-whole}
 
@@ -16,6 +16,6 @@ pub ruleset parts = (part_none, part-rest, part-all, too_few, first-chunk, rules
 
 pub ruleset outputs = (no-room-there, room-there, room-so, room-short, room-ok, room-short-so, put-none, writes-refused, lay-over, lay_done, laid-bytes, laid-16, laid-64, output-laws, refusals, rules)
 
-pub ruleset copies = (copied-start, copied-step, copied-end, copied-kept, outputs)
+pub ruleset copies = (copied-start, copied-step, copied-more, copied-end, copied-kept, outputs)
 
 pub ruleset names = (same-beyond, same-cut, same-there, rest-room, eight-so, two-so, begins-unlike, begins-like, name-unlike, name-whole, rules)

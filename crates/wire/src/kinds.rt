@@ -1,6 +1,6 @@
 // Kinds of number that must never be mixed: each is a type of its own, with an order of its own. Numbers, counts and
-// places of messages do their own arithmetic. Every operation is total; where a result would pass its kind's largest, it
-// is the largest.
+// places of messages do their own arithmetic. Every operation is total; where a result would pass its kind's largest,
+// it is the largest.
 #![tactic(auto, using(crate::proofs::Rules::rooms))]
 
 ghost use Rattle.std.specs.Prelude.{◌≡◌, ◌+◌, ◌-◌, min, leb, eqb};

@@ -2,5 +2,5 @@
 use Rattle.wire.proofs.Rules.{outputs}
 use Rattle.wire.proofs.output.lay64.Goals as goal
 
-pub returns-clause-after : goal.returns-clause-after
-returns-clause-after c = search outputs
+pub returns-then-is_ok-clause-after : goal.returns-then-is_ok-clause-after
+returns-then-is_ok-clause-after c = search outputs
