@@ -1,8 +1,8 @@
 -- A whole run: its grounds as the code tests them, and what holds where there is none.
-use Prim.Native.Nat.{ℕ, ◌+◌, ◌-◌, ◌≤◌, ◌<◌}
+use Prim.Native.Nat.{ℕ, ◌+◌, ◌-◌, ◌≤◌, ◌<◌, max}
 use mathlib.Core.List.{List, []}
 use mathlib.Core.Bool.{Bool, true, false, not}
-use mathlib.Core.Path.{◌≡◌}
+use mathlib.Core.Path.{◌≡◌, refl}
 use native.Mathlib.Omega.{arith}
 use native.Mathlib.Numerals.{add-one}
 use lib.ListN.{length, get_or, drop, drop_of_length-le}
@@ -12,6 +12,7 @@ use mir.Val.{Fits}
 use mir.Syntax.{w64}
 use borrow.Author.Tests.{ltb-false, lt-ltb, le-ltb, le-leb, lt-leb, ne_eqb, eqb-true, eqb-false, not-false}
 use Rattle.std.specs.Prelude.{if◌then◌else◌}
+use Rattle.wire.proofs.Cases.{below_or_not}
 use Rattle.moldudp64.specs.Downstream.{run_out}
 use Rattle.moldudp64.proofs.DownstreamLaws.{past-ground}
 use Rattle.moldudp64_writer.specs.Writer.{total, add_up}
@@ -39,6 +40,32 @@ module _ (room : ℕ) (ks : List ℕ) (i : ℕ) (v : Bool) (e : each_fits room (
   pub each-end : length ks ≤ i → true ≡ v
   unfolding each_fits
   each-end h = let d : drop i ks ≡ [] = drop_of_length-le ks {i = i} h in rw d at e
+
+pub each_none : (room : ℕ) (ks : List ℕ) → length ks ≡ 0 → true ≡ each_fits room ks
+each_none room ks z = each-end room ks 0 (each_fits room ks) refl (omega arith)
+
+-- n is the length of the longest of the first i
+pub record Longest (room : ℕ) (ks : List ℕ) (i n : ℕ) : Type 0 where
+  pub fits : n + 2 ≤ room → each_fits room (drop i ks) ≡ each_fits room ks
+  pub passes : 2 ≤ room → room < n + 2 → false ≡ each_fits room ks
+
+pub longest_none : (room : ℕ) (ks : List ℕ) → Longest room ks 0 0
+longest_none room ks = record { fits = λ h. refl; passes = λ h g. absurd (omega arith) }
+
+module _ {room : ℕ} {ks : List ℕ} {i n : ℕ} (l : Longest room ks i n) where
+  pub longest_next : (m : ℕ) → i < length ks → m ≡ max n (get_or ks i 0) → Longest room ks (i + 1) m
+  longest_next m h e =
+      record {
+        fits = λ f. each_next room ks i (each_fits room ks) (l.fits (omega arith)) h (omega arith);
+        passes = λ t f. below_or_not _ room (n + 2) (l.passes t) (λ g. each-stop room ks i (each_fits room ks) (l.fits g) h (omega arith));
+      }
+
+  pub longest-fits : length ks ≤ i → n + 2 ≤ room → true ≡ each_fits room ks
+  longest-fits h f = each-end room ks i (each_fits room ks) (l.fits f) h
+
+  pub longest-passes : (length ks ≡ 0 → ⊥) → room < n + 2 → false ≡ each_fits room ks
+  longest-passes z f =
+      below_or_not _ room 2 (λ g. each-stop room ks 0 (each_fits room ks) refl (omega arith) (omega arith)) (λ g. l.passes g f)
 
 -- ---- the ladder: g is the size's ground, b whether the lengths add up, z whether the number is 0, f whether each fits
 

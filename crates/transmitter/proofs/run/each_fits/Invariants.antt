@@ -1,8 +1,6 @@
--- The messages from here on decide.
-use mathlib.Core.Path.{◌≡◌}
-use lib.ListN.{drop}
-use Rattle.packing.specs.Fit.{each_fits}
+-- The longest of the messages before this place decides of them.
+use Rattle.transmitter.proofs.RunLaws.{Longest}
 use Rattle.transmitter.proofs.run.each_fits.Given as goal
 
 abbrev pub invariant-loop-length : goal.invariant-loop-length
-invariant-loop-length l = each_fits l.room (drop l.length-index l.lengths) ≡ each_fits l.room l.lengths
+invariant-loop-length l = Longest l.room l.lengths l.length-index l.longest
