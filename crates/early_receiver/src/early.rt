@@ -518,8 +518,9 @@ fn keep_to(
     let mut cursor = Cursor::first(first.gap(end));
     while number < end {
         let message = cursor.message(datagram);
-        held = EarlyReceiver { base, held }.keep(lengths, slots, number, message);
+        // before anything is kept, so that the block's length is read once
         cursor = cursor.next(datagram);
+        held = EarlyReceiver { base, held }.keep(lengths, slots, number, message);
         number = number.plus(MessageCount(1));
     }
     EarlyReceiver { base, held }
