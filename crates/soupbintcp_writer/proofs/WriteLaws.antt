@@ -15,7 +15,7 @@ use Rattle.std.specs.Prelude.{Result, Ok, Err, ⊤, if◌then◌else◌}
 use lib.Dec.{leb, eqb}
 use Rattle.wire.specs.Output.{put, Writes}
 use Rattle.wire.proofs.Numbers.{length-bytes}
-use Rattle.wire.proofs.Outputs.{writes-ground, writes-done, put-put, lay-over, room-there}
+use Rattle.wire.proofs.Outputs.{writes-ground, writes-done, writes_short, put-put, no-room-there, room-there}
 use Rattle.decimal.proofs.SpellLaws.{length_digits}
 use Rattle.decimal.specs.Decimal.{digits}
 use Rattle.text_fields.specs.Letters.{space}
@@ -32,10 +32,12 @@ module _ (l bs : List ℕ) (g : ℕ) where
   not_written : (n : ℕ) → g ≡ n → (n ≡ 0 → ⊥) → Writes (Err (record { number = n })) l l g 0 bs
   not_written n e z = rw e (writes-ground l 0 bs n z)
 
-  -- s is what the check of the room for them answered, w what the writer hands up of it
-  no_room : (k : ℕ) (s : Result ⊤ Refusal) (w : Written) (x : Refusal) → g ≡ 0 → length bs ≡ k → s ≡ refused_by (if leb (0 + k) (length l) then 0 else output_short)
+  -- s is what the check of the room for them, or for a part of them, answered, w what the writer hands up of it
+  no_room : (k : ℕ) (s : Result ⊤ Refusal) (w : Written) (x : Refusal) → g ≡ 0 → k ≤ length bs → s ≡ refused_by (if leb (0 + k) (length l) then 0 else output_short)
       → s ≡ Err x → w ≡ Err x → Writes w l l g 0 bs
-  no_room k s w x e f h i j = rw e (lay-over l 0 bs s w x (rw f h) i j)
+  no_room k s w x e f h i j =
+      let q = no-room-there (length l) 0 k s x h i in
+      rw (e, j, q.1) (writes_short l 0 bs (omega (arith, q.0)))
 
   written : (k : ℕ) (m : List ℕ) → g ≡ 0 → length bs ≡ k → k ≤ length l → m ≡ put l 0 bs → Writes (Ok k) l m g 0 bs
   written k m e f h p = rw (e, ← f) (writes-done l 0 bs m (omega arith) p)
@@ -82,10 +84,10 @@ payload-good p h = simp (le-ltb _ _ h)
 pub payload-refused : (l bs p : List ℕ) → most_payload < length p → Writes (Err (record { number = 22 })) l l (payload_ground p) 0 bs
 payload-refused l bs p h = not_written l bs (payload_ground p) 22 (payload-22 p h) (omega arith)
 
-pub payload-short : (l p : List ℕ) (c : ℕ) (s : Result ⊤ Refusal) (w : Written) (x : Refusal) → length p ≤ most_payload
-    → s ≡ refused_by (if leb (0 + (3 + length p)) (length l) then 0 else output_short) → s ≡ Err x → w ≡ Err x
+pub payload-short : (l p : List ℕ) (c k : ℕ) (s : Result ⊤ Refusal) (w : Written) (x : Refusal) → length p ≤ most_payload → k ≤ 3 + length p
+    → s ≡ refused_by (if leb (0 + k) (length l) then 0 else output_short) → s ≡ Err x → w ≡ Err x
     → Writes w l l (payload_ground p) 0 (encoded c p)
-payload-short l p c s w x h = no_room l (encoded c p) (payload_ground p) (3 + length p) s w x (payload-good p h) (omega (arith, length-packet c p))
+payload-short l p c k s w x h i = no_room l (encoded c p) (payload_ground p) k s w x (payload-good p h) (omega (arith, length-packet c p))
 
 pub payload-done : (l l₁ l₂ p : List ℕ) (c : ℕ) → length p ≤ most_payload → 3 + length p ≤ length l → l₁ ≡ put l 0 (head_bytes c (length p)) → l₂ ≡ put l₁ 3 p
     → Writes (Ok (3 + length p)) l l₂ (payload_ground p) 0 (encoded c p)
@@ -141,7 +143,7 @@ length-A s n ten = omega (arith, length-packet 65 (accepted_payload s n), length
 pub accepted-short : (l t : List ℕ) (n : ℕ) (s : Result ⊤ Refusal) (w : Written) (x : Refusal) → length t ≡ 10 → accepted_ground t n ≡ 0
     → s ≡ refused_by (if leb (0 + 33) (length l) then 0 else output_short) → s ≡ Err x → w ≡ Err x
     → Writes w l l (accepted_ground t n) 0 (encoded 65 (accepted_payload t n))
-accepted-short l t n s w x ten g = no_room l (encoded 65 (accepted_payload t n)) (accepted_ground t n) 33 s w x g (length-A t n ten)
+accepted-short l t n s w x ten g = no_room l (encoded 65 (accepted_payload t n)) (accepted_ground t n) 33 s w x g (omega (arith, length-A t n ten))
 
 accepted-put : (l l₁ l₂ l₃ s : List ℕ) (n : ℕ) → length s ≡ 10 → 33 ≤ length l → l₁ ≡ put l 0 (head_bytes 65 30) → l₂ ≡ put l₁ 3 s
     → l₃ ≡ put l₂ 13 (number_field n) → l₃ ≡ put l 0 (encoded 65 (accepted_payload s n))
@@ -221,7 +223,7 @@ pub login-short : (l u w s : List ℕ) (n : ℕ) (t : Result ⊤ Refusal) (a : W
     → login_ground u w s ≡ 0 → t ≡ refused_by (if leb (0 + 49) (length l) then 0 else output_short) → t ≡ Err x → a ≡ Err x
     → Writes a l l (login_ground u w s) 0 (encoded 76 (login_payload u w s n))
 login-short l u w s n t a x six ten ten' g =
-    no_room l (encoded 76 (login_payload u w s n)) (login_ground u w s) 49 t a x g (length-L u w s n six ten ten')
+    no_room l (encoded 76 (login_payload u w s n)) (login_ground u w s) 49 t a x g (omega (arith, length-L u w s n six ten ten'))
 
 -- the three names laid behind the head
 pub names-put : (l l₁ l₂ l₃ u w s : List ℕ) → length u ≡ 6 → length w ≡ 10 → length s ≡ 10 → 29 ≤ length l
