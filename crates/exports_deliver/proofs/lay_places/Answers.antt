@@ -4,6 +4,9 @@ use borrow.Author.Rules.{rules}
 use Rattle.exports_deliver.proofs.LayLaws.{laying-here, laying-place, laying-behind, laying-step, laying-end}
 use Rattle.exports_deliver.proofs.lay_places.Goals as goal
 
+pub returns-then-places-word : goal.returns-then-places-word
+returns-then-places-word c = let h = c.loop-index-test.true in let r = c.loop-index.invariant.room in absurd (omega arith)
+
 pub length_at-requires : goal.length_at-requires
 length_at-requires c = laying-here _ _ _ _ _ _ _ _ c.loop-index.invariant (let h = c.loop-index-test.true in omega arith)
 
