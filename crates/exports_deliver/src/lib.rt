@@ -75,9 +75,9 @@ fn behind_blocks(datagram: &[u8], blocks: u16) -> usize
     at
 }
 
-// Lays the places of so many blocks from a place on, which are there. There is room for the places, so the test of it
-// ends nothing. With a second way out the compiler lays one place a turn, and not two and then one or none, which no
-// processor foresees: a datagram then takes a third longer.
+// Lays the places of so many blocks from a place on, which are there. There is room for the places, so that the test
+// of it never ends the loop: with this second way out the compiler lays one place a turn, and not two and then one or
+// none, whose end a processor may foresee badly (a datagram then took a third longer).
 fn lay_places(datagram: &[u8], from: usize, count: u16, places: &mut [u64])
     requires { (all_fit count (drop from datagram.now) ≡ true) × (2 * count ≤ length places.old) }
     ensures { places.new
